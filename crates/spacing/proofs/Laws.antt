@@ -1,0 +1,163 @@
+-- One law for each way through `spacing`, from what the arms of a `match` on a byte know, as rules for `search`: the goal shows the index,
+-- the count and the answer r. At a known byte the definition computes, so an arm of one number wants `drop-key` alone. Assumes nothing.
+use Prim.Native.Nat.{ℕ, zero, suc, _+_, _-_, _≤_, _<_}
+use mathlib.Core.Path.{_≡_, refl, sym, _∙_}
+use mathlib.Core.List.{List, [], _∷_}
+use mathlib.Core.Bool.{Bool, true, false, not}
+use mathlib.Core.Logic.{_⊎_, inl, inr, ⊎-elim}
+use native.Mathlib.Omega.{arith}
+use lib.ListN.{length, getD, drop, drop-of-length-le}
+use borrow.Author.Tests.{eq-eqb, ne-eqb, not-true, not-false}
+use types.Run.{OneOf}
+use Rattle.scan.specs.declared.Class.the-variants.{LineByte}
+use Rattle.scan.specs.Scan.{isEol, isAt, inClass, Runs}
+use Rattle.scan.proofs.Bytes.{drop-at, drop-key, ends, eol-yes, eol-no, at-true, at-here, le-or-lt}
+use Rattle.spacing.specs.Spacing.{isBlank, gap, slash, line, comment, spacing, spacingAt}
+use Rattle.spacing.specs.declared.Spaced.{Spaced}
+use Rattle.spacing.specs.declared.Spaced.the-variants.{To, LineEnd, OpenComment}
+
+abbrev blanks : List ℕ
+blanks = 9 ∷ 32 ∷ []
+
+module _ (x : ℕ) where
+  blank-no : (OneOf blanks x → ⊥) → isBlank x ≡ false
+  unfolding isBlank
+  blank-no f = rw (ne-eqb x 9 (λ e. f (inl e)), ne-eqb x 32 (λ e. f (inr e)))
+
+  end-no-blank : OneOf ends x → isBlank x ≡ false
+  unfolding isBlank
+  end-no-blank o = ⊎-elim (λ e. rw e) (λ e. rw e) o
+
+module _ (ok : Bool) (s : List ℕ) (i n : ℕ) (r : Spaced) where
+  module _ (inv : spacingAt ok gap s i n ≡ r) where
+    pub a-end : length s ≤ i → To i n ≡ r
+    unfolding spacing spacingAt
+    a-end h = rw (drop-of-length-le s h) at inv
+
+    module _ (h : i < length s) where
+      pub a-blank : OneOf blanks (getD s i 0) → spacingAt ok gap s (i + 1) n ≡ r
+      unfolding spacing spacingAt isBlank
+      a-blank o = ⊎-elim (λ e. rw (drop-key s i 9 h e) at inv) (λ e. rw (drop-key s i 32 h e) at inv) o
+
+      pub a-refused : OneOf ends (getD s i 0) → not ok ≡ true → LineEnd i ≡ r
+      unfolding spacing spacingAt
+      a-refused o f = rw (drop-at s i h, end-no-blank _ o, eol-yes _ o, f, spacing) at inv
+
+      pub a-eol : OneOf ends (getD s i 0) → not ok ≡ false → spacingAt ok gap s (i + 1) (n + 1) ≡ r
+      unfolding spacing spacingAt
+      a-eol o f = rw (drop-at s i h, end-no-blank _ o, eol-yes _ o, f, spacing) at inv
+
+      pub a-other : (OneOf blanks (getD s i 0) → ⊥) → (OneOf ends (getD s i 0) → ⊥) → (getD s i 0 ≡ 47 → ⊥) → To i n ≡ r
+      unfolding spacing spacingAt
+      a-other a b f = rw (drop-at s i h, blank-no _ a, eol-no _ b, ne-eqb _ _ f, spacing) at inv
+
+      module _ (e : getD s i 0 ≡ 47) where
+        pub a-slash-end : length s ≤ i + 1 → To i n ≡ r
+        unfolding spacing spacingAt isBlank isEol
+        a-slash-end k = rw (drop-key s i 47 h e, drop-of-length-le s k) at inv
+
+        pub a-slash-other : i + 1 < length s → (getD s (i + 1) 0 ≡ 47 → ⊥) → (getD s (i + 1) 0 ≡ 42 → ⊥) → To i n ≡ r
+        unfolding spacing spacingAt isBlank isEol
+        a-slash-other k f g = rw (drop-key s i 47 h e, drop-at s (i + 1) k, ne-eqb _ _ f, ne-eqb _ _ g, spacing) at inv
+
+        -- the second `/` is a byte of the comment's line too
+        a-line : i + 1 < length s → getD s (i + 1) 0 ≡ 47 → spacingAt ok line s (i + 1) n ≡ r
+        unfolding spacing spacingAt isBlank isEol
+        a-line k f = let d = drop-key s (i + 1) 47 k f in rw d (rw (drop-key s i 47 h e, d) at inv)
+
+        pub a-comment : i + 1 < length s → getD s (i + 1) 0 ≡ 42 → spacingAt ok (comment i false) s (i + 1 + 1) n ≡ r
+        unfolding spacing spacingAt isBlank isEol
+        a-comment k f = rw (drop-key s i 47 h e, drop-key s (i + 1) 42 k f) at inv
+
+  -- in a comment that runs through its line end
+  l-end : spacingAt ok line s i n ≡ r → length s ≤ i → spacingAt ok gap s i n ≡ r
+  unfolding spacing spacingAt
+  l-end inv h = let e = drop-of-length-le s h in rw e (rw e at inv)
+
+  l-byte : spacingAt ok line s i n ≡ r → i < length s → isEol (getD s i 0) ≡ true → spacingAt ok gap s (i + 1) (n + 1) ≡ r
+  unfolding spacing spacingAt
+  l-byte inv h t = rw (drop-at s i h, t, spacing) at inv
+
+  l-on : spacingAt ok line s i n ≡ r → i < length s → isEol (getD s i 0) ≡ false → spacingAt ok line s (i + 1) n ≡ r
+  unfolding spacing spacingAt
+  l-on inv h t = rw (drop-at s i h, t, spacing) at inv
+
+-- a line's bytes are passed one by one
+line-byte : (c : ℕ) (b : Bool) → inClass LineByte c ≡ not b → isEol c ≡ b
+unfolding inClass
+line-byte c true e = not-false (isEol c) e
+line-byte c false e = not-true (isEol c) e
+
+module _ (ok : Bool) (s : List ℕ) (n : ℕ) (r : Spaced) where
+  along : (m i : ℕ) → i + m ≤ length s → ((k : ℕ) → i ≤ k → k < i + m → inClass LineByte (getD s k 0) ≡ true) → spacingAt ok line s i n ≡ r → spacingAt ok line s (i + m) n ≡ r
+  along zero i h each inv = let e : i + 0 ≡ i = omega arith in rw e inv
+  along (suc m) i h each inv =
+      let e : i + suc m ≡ i + 1 + m = omega arith in
+      rw e
+      (along m (i + 1) (omega arith) (λ k a b. each k (omega arith) (omega arith))
+      (l-on ok s i n r inv (omega arith) (line-byte _ false (each i (omega arith) (omega arith)))))
+
+  module _ (i e : ℕ) (inv : spacingAt ok gap s i n ≡ r) (h : i < length s) (c : getD s i 0 ≡ 47) (k : i + 1 < length s) (d : getD s (i + 1) 0 ≡ 47) (x : Runs (inClass LineByte) s (i + 1) e) where
+    to-end : spacingAt ok line s e n ≡ r
+    to-end =
+        let u = x .onward in
+        let v = x .inside in
+        let z : i + 1 + (e - (i + 1)) ≡ e = omega arith in
+        rw z at (along (e - (i + 1)) (i + 1) (omega arith) (λ j a b. x .each j a (omega arith)) (a-line ok s i n r inv h c k d))
+
+    pub a-line-last : length s ≤ e → spacingAt ok gap s e n ≡ r
+    a-line-last l = l-end ok s e n r to-end l
+
+    pub a-line-counted : e < length s → spacingAt ok gap s (e + 1) (n + 1) ≡ r
+    a-line-counted l = l-byte ok s e n r to-end l (line-byte _ true (x .stops l))
+
+module _ (ok : Bool) (s : List ℕ) (b k n : ℕ) (r : Spaced) where
+  module _ (f : Bool) (inv : spacingAt ok (comment b true) s k n ≡ r) (q : f ≡ isAt 47 s k) where
+    behind-close : f ≡ true → spacingAt ok gap s (k + 1) n ≡ r
+    unfolding spacing spacingAt
+    behind-close t =
+        let a = at-true s k 47 (sym q ∙ t) in
+        rw (drop-at s k (a .0), eq-eqb _ _ (a .1), spacing) at inv
+
+    behind-on : f ≡ false → spacingAt ok (comment b false) s k n ≡ r
+    unfolding spacing spacingAt
+    behind-on t =
+        ⊎-elim
+        (λ h. let e = drop-of-length-le s h in rw e (rw e at inv))
+        (λ h. rw (drop-at s k h) (rw (drop-at s k h, at-here s k 47 h ∙ sym q ∙ t, spacing) at inv))
+        (le-or-lt (length s) k)
+
+module _ (ok : Bool) (s : List ℕ) (b k n : ℕ) (r : Spaced) (inv : spacingAt ok (comment b false) s k n ≡ r) where
+  pub c-end : length s ≤ k → OpenComment b ≡ r
+  unfolding spacing spacingAt
+  c-end h = rw (drop-of-length-le s h) at inv
+
+  module _ (h : k < length s) where
+    pub c-refused : OneOf ends (getD s k 0) → not ok ≡ true → LineEnd b ≡ r
+    unfolding spacing spacingAt
+    c-refused o f = rw (drop-at s k h, eol-yes _ o, f, spacing) at inv
+
+    pub c-on : (OneOf ends (getD s k 0) → ⊥) → (getD s k 0 ≡ 42 → ⊥) → spacingAt ok (comment b false) s (k + 1) n ≡ r
+    unfolding spacing spacingAt
+    c-on a f = rw (drop-at s k h, eol-no _ a, ne-eqb _ _ f, spacing) at inv
+
+    c-eol : OneOf ends (getD s k 0) → not ok ≡ false → spacingAt ok (comment b true) s (k + 1) (n + 1) ≡ r
+    unfolding spacing spacingAt
+    c-eol o f = rw (drop-at s k h, eol-yes _ o, f, spacing) at inv
+
+    c-star : getD s k 0 ≡ 42 → spacingAt ok (comment b true) s (k + 1) n ≡ r
+    unfolding spacing spacingAt isEol
+    c-star e = rw (drop-key s k 42 h e) at inv
+
+    module _ (f : Bool) (q : f ≡ isAt 47 s (k + 1)) where
+      pub c-eol-on : OneOf ends (getD s k 0) → not ok ≡ false → f ≡ false → spacingAt ok (comment b false) s (k + 1) (n + 1) ≡ r
+      c-eol-on o g t = behind-on ok s b (k + 1) (n + 1) r f (c-eol o g) q t
+
+      pub c-eol-close : OneOf ends (getD s k 0) → not ok ≡ false → f ≡ true → spacingAt ok gap s (k + 1 + 1) (n + 1) ≡ r
+      c-eol-close o g t = behind-close ok s b (k + 1) (n + 1) r f (c-eol o g) q t
+
+      pub c-star-on : getD s k 0 ≡ 42 → f ≡ false → spacingAt ok (comment b false) s (k + 1) n ≡ r
+      c-star-on e t = behind-on ok s b (k + 1) n r f (c-star e) q t
+
+      pub c-star-close : getD s k 0 ≡ 42 → f ≡ true → spacingAt ok gap s (k + 1 + 1) n ≡ r
+      c-star-close e t = behind-close ok s b (k + 1) n r f (c-star e) q t

@@ -1,0 +1,4 @@
+pub mod Line
+pub mod Colon
+pub mod Action
+pub mod Cases

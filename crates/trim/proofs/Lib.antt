@@ -1,0 +1,4 @@
+pub mod Laws
+pub mod Inside
+pub mod Theorem
+pub mod Unique

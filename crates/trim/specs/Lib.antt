@@ -1,0 +1,3 @@
+pub mod Trim
+pub mod Trims
+pub mod Cases
