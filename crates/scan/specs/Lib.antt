@@ -1,3 +1,4 @@
 pub mod Scan
 pub mod Loop
 pub mod Table
+pub mod Cases
