@@ -1,3 +1,4 @@
 pub mod Bytes
 pub mod Loop
 pub mod Runs
+pub mod Table

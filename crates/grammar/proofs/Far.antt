@@ -1,0 +1,177 @@
+-- Soundness so far under each change that a step makes, one law for each; and at the end of a reading it is soundness. Assumes nothing.
+use Prim.Native.Nat.{ℕ, zero, suc, _+_, _*_, _≤_, _<_}
+use mathlib.Core.Path.{_≡_, refl, sym, ap, _∙_}
+use mathlib.Core.List.{List, [], _∷_}
+use mathlib.Core.Bool.{Bool, true, false}
+use mathlib.Core.Logic.{_⊎_, inl, inr}
+use native.Mathlib.Omega.{arith}
+use native.Mathlib.Numerals.{add-one}
+use native.Mathlib.Decide.{ℕ-discrete}
+use lib.ListN.{length, getD, set, replicate, length-set}
+use lib.Seq.{getD-set-same, getD-set-other}
+use Rattle.tables.specs.Table.{put, zeroed}
+use Rattle.tables.specs.Rows.{Clean, rowAt, Rows, endBefore, Chained}
+use Rattle.tables.specs.Layout.{productions, symbols, rules, symbolsFrom, symbolsTo, width}
+use Rattle.tables.proofs.Rows.{rows-zeroed, rows-add, rows-map, rows-as, chain-add}
+use Rattle.grammar.specs.declared.Part.{Part}
+use Rattle.grammar.specs.declared.Singles.{Singles}
+use Rattle.grammar.specs.declared.State.{State}
+use Rattle.grammar.specs.State.{Passed, count, withAt, withLevel, withCount, withSingles, withActiontype, fresh}
+use Rattle.grammar.specs.Sound.{Tables, listOf, tab, setTab, zeroAll, View, each, pairs, Table, Lies, Lie, soundView, Sound, view, Far, TokenRow, PrecRow, ProductionRow}
+
+-- table k alone is changed
+set-list : (T : Tables) (k : ℕ) (x : List ℕ) → listOf (setTab T k x) ≡ set (listOf T) k x
+set-list T zero x = refl
+set-list T (suc zero) x = refl
+set-list T (suc (suc zero)) x = refl
+set-list T (suc (suc (suc zero))) x = refl
+set-list T (suc (suc (suc (suc zero)))) x = refl
+set-list T (suc (suc (suc (suc (suc zero))))) x = refl
+set-list T (suc (suc (suc (suc (suc (suc zero)))))) x = refl
+set-list T (suc (suc (suc (suc (suc (suc (suc zero))))))) x = refl
+set-list T (suc (suc (suc (suc (suc (suc (suc (suc zero)))))))) x = refl
+set-list T (suc (suc (suc (suc (suc (suc (suc (suc (suc zero))))))))) x = refl
+set-list T (suc (suc (suc (suc (suc (suc (suc (suc (suc (suc k)))))))))) x = refl
+
+pub tab-same : (T : Tables) (k : ℕ) (x : List ℕ) → k < 10 → tab (setTab T k x) k ≡ x
+tab-same T k x b = ap (λ (l : List (List ℕ)). getD l k []) (set-list T k x) ∙ getD-set-same (listOf T) k x [] b
+
+pub tab-other : (T : Tables) (k j : ℕ) (x : List ℕ) → (j ≡ k → ⊥) → tab (setTab T k x) j ≡ tab T j
+tab-other T k j x d = ap (λ (l : List (List ℕ)). getD l j []) (set-list T k x) ∙ getD-set-other (listOf T) k j x [] d
+
+-- a table put back changes nothing
+pub set-tab : (T : Tables) (k : ℕ) → setTab T k (tab T k) ≡ T
+set-tab T zero = refl
+set-tab T (suc zero) = refl
+set-tab T (suc (suc zero)) = refl
+set-tab T (suc (suc (suc zero))) = refl
+set-tab T (suc (suc (suc (suc zero)))) = refl
+set-tab T (suc (suc (suc (suc (suc zero))))) = refl
+set-tab T (suc (suc (suc (suc (suc (suc zero)))))) = refl
+set-tab T (suc (suc (suc (suc (suc (suc (suc zero))))))) = refl
+set-tab T (suc (suc (suc (suc (suc (suc (suc (suc zero)))))))) = refl
+set-tab T (suc (suc (suc (suc (suc (suc (suc (suc (suc zero))))))))) = refl
+set-tab T (suc (suc (suc (suc (suc (suc (suc (suc (suc (suc k)))))))))) = refl
+
+-- a view that allows at least as much
+pub record Up (v w : View) : Type 0 where
+  pub low : (n : ℕ) → v .low n → w .low n
+  pub rules : v .rules ≤ w .rules
+  pub symbols : v .symbols ≤ w .symbols
+
+-- what holds of a row goes on holding while level and counts grow
+each-up : (src : List ℕ) {v w : View} → Up v w → (k : ℕ) (x : List ℕ) → each src v k x → each src w k x
+each-up src u zero x p = p
+each-up src u (suc zero) x p = record { name = p .name; earlier = u .low _ (p .earlier); least = p .least; most = p .most }
+each-up src u (suc (suc zero)) x p = p
+each-up src u (suc (suc (suc zero))) x p = p
+each-up src u (suc (suc (suc (suc zero)))) x p = p
+each-up src u (suc (suc (suc (suc (suc zero))))) x p = p
+each-up src u (suc (suc (suc (suc (suc (suc zero)))))) x p = p
+each-up src u (suc (suc (suc (suc (suc (suc (suc zero))))))) x p = record { rule = let e = p .rule in let l = u .rules in omega arith; span = p .span; precedence = p .precedence; body = p .body }
+each-up src u (suc (suc (suc (suc (suc (suc (suc (suc k)))))))) x p = p
+
+module _ {src : List ℕ} {done : ℕ} {s : State} {T : Tables} (f : Far src done s T) where
+  -- the reading moves on,
+  pub far-at : (i : ℕ) → s .at ≤ i → i ≤ length src → Far src done (withAt s i) T
+  far-at i g h = record { here = h; short = f .short; ten = f .ten; risen = let r = f .risen in omega arith; tables = f .tables; ranges = f .ranges; since = f .since; singles = f .singles; actiontype = f .actiontype }
+
+  -- a single is given,
+  pub far-singles : (g : Singles) → Lie src g → Far src done (withSingles s g) T
+  far-singles g h = record { here = f .here; short = f .short; ten = f .ten; risen = f .risen; tables = f .tables; ranges = f .ranges; since = f .since; singles = h; actiontype = f .actiontype }
+
+  pub far-actiontype : (p : Part) → Lies src p → Far src done (withActiontype s p) T
+  far-actiontype p h = record { here = f .here; short = f .short; ten = f .ten; risen = f .risen; tables = f .tables; ranges = f .ranges; since = f .since; singles = f .singles; actiontype = h }
+
+  -- the level rises,
+  pub far-level : (n : ℕ) → s .level ≤ n → n ≤ s .at → Far src done (withLevel s n) T
+  far-level n g h =
+      record { here = f .here; short = f .short; ten = f .ten; risen = h; tables = λ k. rows-map (each-up src (record { low = λ m l. omega arith; rules = omega arith; symbols = omega arith }) k) (f .tables k); ranges = f .ranges; since = f .since; singles = f .singles; actiontype = f .actiontype }
+
+  module _ (k : ℕ) (b : k < 10) (n : ℕ) (g : count s k ≤ n) (x : List ℕ) where
+    same : count (withCount s k n) k ≡ n
+    same = getD-set-same (s .counts .n) k n 0 (rw (f .ten) b)
+
+    other : (j : ℕ) → (j ≡ k → ⊥) → count (withCount s k n) j ≡ count s j
+    other j d = getD-set-other (s .counts .n) k j n 0 d
+
+    grow : (j : ℕ) → Dec (j ≡ k) → count s j ≤ count (withCount s k n) j
+    grow j (yes e) = rw (e, same) g
+    grow j (no e) = rw (other j e) (omega arith)
+
+    up : Up (view s) (view (withCount s k n))
+    up = record { low = λ m l. l; rules = grow rules (ℕ-discrete rules k); symbols = grow symbols (ℕ-discrete symbols k) }
+
+    others : Table src (view s) k n x → (j : ℕ) → Dec (j ≡ k) → Table src (view s) j (count (withCount s k n) j) (tab (setTab T k x) j)
+    others R j (yes e) = rw e (rows-as (sym same) (sym (tab-same T k x b)) R)
+    others R j (no e) = rows-as (sym (other j e)) (sym (tab-other T k j x e)) (f .tables j)
+
+    -- count and cells of table k are replaced, those of the other tables stay
+    replaced : (last : ℕ) → last ≤ count (withCount s k n) symbols → Chained (width productions) symbolsFrom symbolsTo (count (withCount s k n) productions) (tab (setTab T k x) productions) last → Table src (view s) k n x → Far src last (withCount s k n) (setTab T k x)
+    replaced last l c R =
+        record { here = f .here; short = f .short; ten = length-set (s .counts .n) k n ∙ f .ten; risen = f .risen; tables = λ j. rows-map (each-up src up j) (others R j (ℕ-discrete j k)); ranges = c; since = l; singles = f .singles; actiontype = f .actiontype }
+
+    -- in a table that is not table 8,
+    pub far-table : (k ≡ productions → ⊥) → Table src (view s) k n x → Far src done (withCount s k n) (setTab T k x)
+    far-table d R =
+        let l = f .since in
+        let m = grow symbols (ℕ-discrete symbols k) in
+        replaced done (omega arith) (rw (other productions (λ e. d (sym e)), tab-other T k productions x (λ e. d (sym e))) (f .ranges)) R
+
+  -- a row is added to a table that is not table 8,
+  pub far-add : (k : ℕ) → k < 10 → (k ≡ productions → ⊥) → (row : List ℕ) → length row ≡ width k → count s k * width k + width k ≤ length (tab T k)
+      → each src (view s) k row → ((r : ℕ) → r < count s k → pairs src k (rowAt (width k) (tab T k) r) row)
+      → Far src done (withCount s k (count s k + 1)) (setTab T k (put (tab T k) (count s k * width k) row))
+  far-add k b d row wide room p q = far-table k b (count s k + 1) (omega arith) _ d (rows-add (width k) (count s k) row (tab T k) wide room (f .tables k) p q)
+
+  -- and to table 8, where the range of the new row takes the symbols behind those before.
+  pub far-production : (row : List ℕ) → length row ≡ width productions → count s productions * width productions + width productions ≤ length (tab T productions)
+      → each src (view s) productions row → getD row symbolsFrom 0 ≡ done → getD row symbolsTo 0 ≡ count s symbols
+      → Far src (count s symbols) (withCount s productions (count s productions + 1)) (setTab T productions (put (tab T productions) (count s productions * width productions) row))
+  far-production row wide room p a z =
+      replaced productions (omega arith) (count s productions + 1) (omega arith) _ (count s symbols) (rw (other productions (omega arith) (count s productions + 1) (omega arith) [] symbols (λ e. omega arith)) (omega arith))
+      (rw (same productions (omega arith) (count s productions + 1) (omega arith) [], add-one (count s productions))
+      (rw z at (chain-add (width productions) (count s productions) row (tab T productions) wide room symbolsFrom symbolsTo done (f .ranges) a (let l = f .since in omega arith))))
+      (rows-add (width productions) (count s productions) row (tab T productions) wide room (f .tables productions) p (λ r l. tt))
+
+-- A reading begins sound so far, on tables of zeros;
+pub fresh-far : (src : List ℕ) (T : Tables) → length src ≤ 65536 → Far src 0 fresh (zeroAll T)
+unfolding endBefore
+fresh-far src T h =
+    record {
+      here = omega arith;
+      short = h;
+      ten = refl;
+      risen = omega arith;
+      tables = none;
+      ranges = record { begins = λ r l. absurd (omega arith); onward = λ r l. absurd (omega arith); last = refl };
+      since = omega arith;
+      singles = record { start = tt; expect = tt; expect-rr = tt; param = tt; generics = tt; programs = tt };
+      actiontype = tt;
+    }
+  where
+    none : (k : ℕ) → Table src (view fresh) k (count fresh k) (tab (zeroAll T) k)
+    none zero = rows-zeroed _ (T .t1)
+    none (suc zero) = rows-zeroed _ (T .t2)
+    none (suc (suc zero)) = rows-zeroed _ (T .t3)
+    none (suc (suc (suc zero))) = rows-zeroed _ (T .t4)
+    none (suc (suc (suc (suc zero)))) = rows-zeroed _ (T .t5)
+    none (suc (suc (suc (suc (suc zero))))) = rows-zeroed _ (T .t6)
+    none (suc (suc (suc (suc (suc (suc zero)))))) = rows-zeroed _ (T .t7)
+    none (suc (suc (suc (suc (suc (suc (suc zero))))))) = rows-zeroed _ (T .t8)
+    none (suc (suc (suc (suc (suc (suc (suc (suc zero)))))))) = rows-zeroed _ (T .t9)
+    none (suc (suc (suc (suc (suc (suc (suc (suc (suc zero))))))))) = rows-zeroed _ (T .t10)
+    none (suc (suc (suc (suc (suc (suc (suc (suc (suc (suc k)))))))))) = rows-zeroed _ []
+
+-- and where no symbol is left behind the last range, it is sound.
+pub far-sound : (src : List ℕ) (s : State) (T : Tables) → Far src (count s symbols) s T → Sound src (s .counts) (s .singles) T
+far-sound src s T f =
+    record {
+      short = f .short;
+      fits = λ k b. f .tables k .fits;
+      clean = λ k b. f .tables k .clean;
+      rows = λ k r b l. each-up src (record { low = λ n h. tt; rules = omega arith; symbols = omega arith }) k _ (f .tables k .each r l);
+      singles = f .singles;
+      ranges = f .ranges;
+      names = λ k q r b l h. f .tables k .pairs q r l h;
+    }

@@ -1,0 +1,34 @@
+-- The rows of tables 1 to 7, 9 and 10: which cell is which. Those of table 8 are in `productions`.
+use Prim.Native.Nat.{ℕ}
+use mathlib.Core.List.{List, [], _∷_}
+use Rattle.grammar.specs.declared.Part.{Part}
+use Rattle.grammar.specs.declared.Part.the-variants.{Absent, At}
+
+-- "1 tokens (place, declared by `%token` or not)"
+abbrev pub tokenCells : ℕ → ℕ → ℕ → List ℕ
+tokenCells from to declared = from ∷ to ∷ declared ∷ []
+
+-- "2 precedences (place, level, association)"; "1 left, 2 right, 3 nonassoc"
+abbrev pub precedenceCells : ℕ → ℕ → ℕ → ℕ → List ℕ
+precedenceCells from to level association = from ∷ to ∷ level ∷ association ∷ []
+
+-- "3 avoid, 4 implicit"
+abbrev pub nameCells : ℕ → ℕ → List ℕ
+nameCells from to = from ∷ to ∷ []
+
+-- "5 `%epp` (key place as spelled, key name, value with its quotes)"
+abbrev pub eppCells : ℕ → ℕ → ℕ → ℕ → ℕ → ℕ → List ℕ
+eppCells keyFrom keyTo nameFrom nameTo valueFrom valueTo = keyFrom ∷ keyTo ∷ nameFrom ∷ nameTo ∷ valueFrom ∷ valueTo ∷ []
+
+-- "6 expected unused (kind, place)", "9 symbols (kind, place)"; "1 rule, 2 token"
+abbrev pub kindCells : ℕ → ℕ → ℕ → List ℕ
+kindCells kind from to = kind ∷ from ∷ to ∷ []
+
+-- "7 rules (name, action type or none)"; "0 undeclared or absent (its cells zero), else 1"
+abbrev pub ruleCells : ℕ → ℕ → Part → List ℕ
+ruleCells from to Absent = from ∷ to ∷ 0 ∷ 0 ∷ 0 ∷ []
+ruleCells from to (At a b) = from ∷ to ∷ 1 ∷ a ∷ b ∷ []
+
+-- "10 repeats (number, first place, repeated place)"
+abbrev pub repeatCells : ℕ → ℕ → ℕ → ℕ → ℕ → List ℕ
+repeatCells number a b c d = number ∷ a ∷ b ∷ c ∷ d ∷ []

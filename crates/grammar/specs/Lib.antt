@@ -1,0 +1,4 @@
+pub mod Refusals
+pub mod State
+pub mod Sound
+pub mod Cells

@@ -1,0 +1,78 @@
+-- Document 01, "Numbers given back": the number, place and table of each refusal.
+use Prim.Native.Nat.{ℕ}
+use Rattle.grammar.specs.declared.Cause.{Cause}
+use Rattle.grammar.specs.declared.Cause.the-variants.{IntegerEmpty, IntegerTooLarge, IllegalName, IllegalString, IncompleteRule, IncompleteComment, IncompleteAction, MissingColon, MissingRightArrow, NonEmptyProduction, PrematureEnd, NotTerminated, UnknownDeclaration, ReachedEol, ReachedEnd, StringNotOpened, StringLineEnd, StringEscape, StringNotClosed, UnknownSymbol, NotUtf8}
+use Rattle.grammar.specs.declared.Refusal.{Refusal}
+use Rattle.grammar.specs.declared.Refusal.the-variants.{Fault, Repeated, NoRoom, TooLong, BadKind}
+use Rattle.grammar.specs.declared.Repeat.{Repeat}
+use Rattle.grammar.specs.declared.Repeat.the-variants.{RepeatedPrecedence, RepeatedAvoidInsert, RepeatedImplicitTokens, RepeatedExpect, RepeatedExpectRr, RepeatedStart, RepeatedActiontype, RepeatedEpp}
+use Rattle.grammar.specs.declared.Told.{Told}
+
+-- "1 IllegalInteger, 2 IllegalName, 3 IllegalString", and so on: several causes may share a number
+abbrev pub numberOfCause : Cause → ℕ
+numberOfCause IntegerEmpty = 1
+numberOfCause IntegerTooLarge = 1
+numberOfCause IllegalName = 2
+numberOfCause IllegalString = 3
+numberOfCause IncompleteRule = 4
+numberOfCause IncompleteComment = 5
+numberOfCause IncompleteAction = 6
+numberOfCause MissingColon = 7
+numberOfCause MissingRightArrow = 8
+numberOfCause NonEmptyProduction = 9
+numberOfCause PrematureEnd = 10
+numberOfCause NotTerminated = 11
+numberOfCause UnknownDeclaration = 12
+numberOfCause ReachedEol = 13
+numberOfCause ReachedEnd = 13
+numberOfCause StringNotOpened = 14
+numberOfCause StringLineEnd = 14
+numberOfCause StringEscape = 14
+numberOfCause StringNotClosed = 14
+numberOfCause UnknownSymbol = 15
+numberOfCause NotUtf8 = 40
+
+-- "20 Precedence, 21 AvoidInsert, 22 ImplicitTokens, 23 Expect, 24 ExpectRR, 25 Start, 26 Actiontype, 27 EPP repeated"
+abbrev pub numberOfRepeat : Repeat → ℕ
+numberOfRepeat RepeatedPrecedence = 20
+numberOfRepeat RepeatedAvoidInsert = 21
+numberOfRepeat RepeatedImplicitTokens = 22
+numberOfRepeat RepeatedExpect = 23
+numberOfRepeat RepeatedExpectRr = 24
+numberOfRepeat RepeatedStart = 25
+numberOfRepeat RepeatedActiontype = 26
+numberOfRepeat RepeatedEpp = 27
+
+-- "41 too long", "42 no room", "43 bad kind"
+abbrev pub numberOf : Refusal → ℕ
+numberOf (Fault c i) = numberOfCause c
+numberOf (Repeated n a b) = n
+numberOf (NoRoom t a b) = 42
+numberOf TooLong = 41
+numberOf BadKind = 43
+
+-- where the place begins, and where it ends: "a single offset stands twice"; "41 too long, 43 bad kind: 0..0"
+abbrev pub fromOf : Refusal → ℕ
+fromOf (Fault c i) = i
+fromOf (Repeated n a b) = a
+fromOf (NoRoom t a b) = a
+fromOf TooLong = 0
+fromOf BadKind = 0
+
+abbrev pub toOf : Refusal → ℕ
+toOf (Fault c i) = i
+toOf (Repeated n a b) = b
+toOf (NoRoom t a b) = b
+toOf TooLong = 0
+toOf BadKind = 0
+
+-- "table number (0 unless 42)"
+abbrev pub tableOf : Refusal → ℕ
+tableOf (Fault c i) = 0
+tableOf (Repeated n a b) = 0
+tableOf (NoRoom t a b) = t
+tableOf TooLong = 0
+tableOf BadKind = 0
+
+abbrev pub told : Refusal → Told
+told f = record { number = numberOf f; from = fromOf f; to = toOf f; table = tableOf f }

@@ -1,0 +1,182 @@
+-- Document 01, "Tables are sound when", as a record of named parts; and the same of a reading under way.
+use Prim.Native.Nat.{ℕ, zero, suc, _+_, _*_, _≤_, _<_}
+use mathlib.Core.Path.{_≡_}
+use mathlib.Core.List.{List, [], _∷_}
+use mathlib.Core.Bool.{Bool, true, false}
+use mathlib.Core.Logic.{_⊎_}
+use lib.ListN.{length, getD, set, replicate}
+use Rattle.tables.specs.Table.{samePart, zeroed}
+use Rattle.tables.specs.Rows.{Clean, rowAt, Rows, Chained}
+use Rattle.tables.specs.Layout.{precedences, rules, productions, symbols, declared, level, association, keyName, value, typed, ruleRow, place, symbolsFrom, symbolsTo, prec, action, kindName, width}
+use Rattle.grammar.specs.declared.Part.{Part}
+use Rattle.grammar.specs.declared.Part.the-variants.{Absent, At}
+use Rattle.grammar.specs.declared.Expect.{Expect}
+use Rattle.grammar.specs.declared.Expect.the-variants.{NotExpected, Expected}
+use Rattle.grammar.specs.declared.Param.{Param}
+use Rattle.grammar.specs.declared.Param.the-variants.{NoParam, ParamAt}
+use Rattle.grammar.specs.declared.Counts.{Counts}
+use Rattle.grammar.specs.declared.Singles.{Singles}
+use Rattle.grammar.specs.declared.State.{State}
+use Rattle.grammar.specs.State.{Passed, count}
+
+-- the ten tables, by number, and with one of them replaced
+pub record Tables : Type 0 where
+  pub t1 : List ℕ
+  pub t2 : List ℕ
+  pub t3 : List ℕ
+  pub t4 : List ℕ
+  pub t5 : List ℕ
+  pub t6 : List ℕ
+  pub t7 : List ℕ
+  pub t8 : List ℕ
+  pub t9 : List ℕ
+  pub t10 : List ℕ
+
+abbrev pub listOf : Tables → List (List ℕ)
+listOf T = T .t1 ∷ T .t2 ∷ T .t3 ∷ T .t4 ∷ T .t5 ∷ T .t6 ∷ T .t7 ∷ T .t8 ∷ T .t9 ∷ T .t10 ∷ []
+
+abbrev pub ofList : List (List ℕ) → Tables
+ofList l = record { t1 = getD l 0 []; t2 = getD l 1 []; t3 = getD l 2 []; t4 = getD l 3 []; t5 = getD l 4 []; t6 = getD l 5 []; t7 = getD l 6 []; t8 = getD l 7 []; t9 = getD l 8 []; t10 = getD l 9 [] }
+
+abbrev pub tab : Tables → ℕ → List ℕ
+tab T k = getD (listOf T) k []
+
+abbrev pub setTab : Tables → ℕ → List ℕ → Tables
+setTab T k x = ofList (set (listOf T) k x)
+
+abbrev pub zeroAll : Tables → Tables
+zeroAll T = record { t1 = zeroed (T .t1); t2 = zeroed (T .t2); t3 = zeroed (T .t3); t4 = zeroed (T .t4); t5 = zeroed (T .t5); t6 = zeroed (T .t6); t7 = zeroed (T .t7); t8 = zeroed (T .t8); t9 = zeroed (T .t9); t10 = zeroed (T .t10) }
+
+-- "0 undeclared or absent (its cells zero), else 1": a flag and a place
+abbrev pub Given : List ℕ → ℕ → ℕ → ℕ → Type 0
+Given src f a b = ((f ≡ 0) × (a ≡ 0) × (b ≡ 0)) ⊎ ((f ≡ 1) × Passed src a b)
+
+-- an action: a flag, the place of its trimmed text and the crate's span
+abbrev pub GivenAction : List ℕ → ℕ → ℕ → ℕ → ℕ → ℕ → Type 0
+GivenAction src f a b c d = ((f ≡ 0) × (a ≡ 0) × (b ≡ 0) × (c ≡ 0) × (d ≡ 0)) ⊎ ((f ≡ 1) × Passed src a b × Passed src c d)
+
+-- What a row says of other tables, and of levels: the rows of tables 7 and 9, and what a level may be.
+pub record View : Type 1 where
+  pub low : ℕ → Type 0
+  pub rules : ℕ
+  pub symbols : ℕ
+
+-- A row of each table: "each place [..] has from ≤ to ≤ source length, kinds and flags are listed values, row numbers lie inside counts".
+pub record TokenRow (src x : List ℕ) : Type 0 where
+  pub name : Passed src (getD x 0 0) (getD x 1 0)
+  pub flag : getD x declared 0 ≤ 1
+
+pub record PrecRow (src : List ℕ) (v : View) (x : List ℕ) : Type 0 where
+  pub name : Passed src (getD x 0 0) (getD x 1 0)
+  pub earlier : v .low (getD x level 0)
+  pub least : 1 ≤ getD x association 0
+  pub most : getD x association 0 ≤ 3
+
+pub record NameRow (src x : List ℕ) : Type 0 where
+  pub name : Passed src (getD x 0 0) (getD x 1 0)
+
+pub record EppRow (src x : List ℕ) : Type 0 where
+  pub key : Passed src (getD x 0 0) (getD x 1 0)
+  pub name : Passed src (getD x keyName 0) (getD x (keyName + 1) 0)
+  pub text : Passed src (getD x value 0) (getD x (value + 1) 0)
+
+pub record KindRow (src x : List ℕ) : Type 0 where
+  pub least : 1 ≤ getD x 0 0
+  pub most : getD x 0 0 ≤ 2
+  pub name : Passed src (getD x kindName 0) (getD x (kindName + 1) 0)
+
+pub record RuleRow (src x : List ℕ) : Type 0 where
+  pub name : Passed src (getD x 0 0) (getD x 1 0)
+  pub type : Given src (getD x typed 0) (getD x (typed + 1) 0) (getD x (typed + 2) 0)
+
+pub record ProductionRow (src : List ℕ) (v : View) (x : List ℕ) : Type 0 where
+  pub rule : getD x ruleRow 0 < v .rules
+  pub span : Passed src (getD x place 0) (getD x (place + 1) 0)
+  pub precedence : Given src (getD x prec 0) (getD x (prec + 1) 0) (getD x (prec + 2) 0)
+  pub body : GivenAction src (getD x action 0) (getD x (action + 1) 0) (getD x (action + 2) 0) (getD x (action + 3) 0) (getD x (action + 4) 0)
+
+pub record RepeatRow (src x : List ℕ) : Type 0 where
+  pub least : 20 ≤ getD x 0 0
+  pub most : getD x 0 0 ≤ 27
+  pub first : Passed src (getD x 1 0) (getD x 2 0)
+  pub again : Passed src (getD x 3 0) (getD x 4 0)
+
+-- "names in 1 and in 7 are pairwise different"
+pub record Differ (src x y : List ℕ) : Type 0 where
+  pub differ : samePart src (getD x 0 0) (getD x 1 0) (getD y 0 0) (getD y 1 0) ≡ false
+
+abbrev any : List ℕ → Type 0
+any x = Unit
+
+abbrev any₂ : List ℕ → List ℕ → Type 0
+any₂ x y = Unit
+
+-- the rows of each table in number order, and what two rows of one are to each other
+abbrev pub each : List ℕ → View → ℕ → List ℕ → Type 0
+each src v k =
+    getD (TokenRow src ∷ PrecRow src v ∷ NameRow src ∷ NameRow src ∷ EppRow src ∷ KindRow src ∷ RuleRow src ∷ ProductionRow src v ∷ KindRow src ∷ RepeatRow src ∷ []) k any
+
+abbrev pub pairs : List ℕ → ℕ → List ℕ → List ℕ → Type 0
+pairs src k = getD (Differ src ∷ any₂ ∷ any₂ ∷ any₂ ∷ any₂ ∷ any₂ ∷ Differ src ∷ []) k any₂
+
+abbrev pub Table : List ℕ → View → ℕ → ℕ → List ℕ → Type 0
+Table src v k n t = Rows (each src v k) (pairs src k) (width k) n t
+
+-- "each place, singles' too"
+abbrev pub Lies : List ℕ → Part → Type 0
+Lies src Absent = Unit {0}
+Lies src (At a b) = Passed src a b
+
+abbrev pub LiesExpected : List ℕ → Expect → Type 0
+LiesExpected src NotExpected = Unit {0}
+LiesExpected src (Expected v a b) = Passed src a b
+
+abbrev pub LiesParam : List ℕ → Param → Type 0
+LiesParam src NoParam = Unit {0}
+LiesParam src (ParamAt a b c d) = Passed src a b × Passed src c d
+
+pub record Lie (src : List ℕ) (g : Singles) : Type 0 where
+  pub start : Lies src (g .start)
+  pub expect : LiesExpected src (g .expect)
+  pub expect-rr : LiesExpected src (g .«expect_rr»)
+  pub param : LiesParam src (g .param)
+  pub generics : Lies src (g .generics)
+  pub programs : Lies src (g .programs)
+
+-- levels are free
+abbrev pub soundView : Counts → View
+soundView c = record { low = λ n. Unit; rules = getD (c .n) rules 0; symbols = getD (c .n) symbols 0 }
+
+-- "Tables are sound when"
+pub record Sound (src : List ℕ) (c : Counts) (g : Singles) (T : Tables) : Type 0 where
+  -- "the source has at most 65,536 bytes"
+  pub short : length src ≤ 65536
+  -- "counts fit"
+  pub fits : (k : ℕ) → k < 10 → getD (c .n) k 0 * width k ≤ length (tab T k)
+  -- "cells past them are zero"
+  pub clean : (k : ℕ) → k < 10 → Clean (width k) (getD (c .n) k 0) (tab T k)
+  -- "each place [..] has from ≤ to ≤ source length, kinds and flags are listed values, row numbers lie inside counts"
+  pub rows : (k r : ℕ) → k < 10 → r < getD (c .n) k 0 → each src (soundView c) k (rowAt (width k) (tab T k) r)
+  -- "each place, singles' too"
+  pub singles : Lie src g
+  -- "symbol ranges follow one another in production order and fill table 9"
+  pub ranges : Chained (width productions) symbolsFrom symbolsTo (getD (c .n) productions 0) (T .t8) (getD (c .n) symbols 0)
+  -- "names in 1 and in 7 are pairwise different"
+  pub names : (k q r : ℕ) → k < 10 → q < r → r < getD (c .n) k 0 → pairs src k (rowAt (width k) (tab T k) q) (rowAt (width k) (tab T k) r)
+
+-- levels that were given are below the next one
+abbrev pub view : State → View
+view s = record { low = λ n. n < s .level; rules = count s rules; symbols = count s symbols }
+
+-- Sound so far: what holds between any two steps of a reading, whatever their answers. The productions' ranges end at `done`; the symbols behind it are
+-- those of the production that is being read.
+pub record Far (src : List ℕ) (done : ℕ) (s : State) (T : Tables) : Type 0 where
+  pub here : s .at ≤ length src
+  pub short : length src ≤ 65536
+  pub ten : length (s .counts .n) ≡ 10
+  pub risen : s .level ≤ s .at
+  pub tables : (k : ℕ) → Table src (view s) k (count s k) (tab T k)
+  pub ranges : Chained (width productions) symbolsFrom symbolsTo (count s productions) (tab T productions) done
+  pub since : done ≤ count s symbols
+  pub singles : Lie src (s .singles)
+  pub actiontype : Lies src (s .actiontype)

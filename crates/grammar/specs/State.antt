@@ -1,0 +1,136 @@
+-- The state that a reading step takes and gives, and the steps that add a row.
+use Prim.Native.Nat.{ℕ, _+_, _≤_}
+use mathlib.Core.List.{List, [], _∷_}
+use mathlib.Core.Bool.{Bool, true, false}
+use lib.ListN.{length, getD, set, replicate}
+use lib.Dec.{ltb}
+use Rattle.scan.specs.Scan.{Edge}
+use Rattle.spacing.specs.declared.Spaced.{Spaced}
+use Rattle.spacing.specs.declared.Spaced.the-variants.{To, LineEnd, OpenComment}
+use Rattle.spacing.specs.Spacing.{spacesAt}
+use Rattle.tables.specs.declared.Entered.{Entered}
+use Rattle.tables.specs.declared.Entered.the-variants.{Rows, Full}
+use Rattle.tables.specs.Table.{Added, addRow, Inserted, enterToken}
+use Rattle.grammar.specs.declared.Counts.{Counts}
+use Rattle.grammar.specs.declared.Singles.{Singles}
+use Rattle.grammar.specs.declared.State.{State}
+use Rattle.grammar.specs.declared.Part.{Part}
+use Rattle.grammar.specs.declared.Part.the-variants.{Absent}
+use Rattle.grammar.specs.declared.Expect.the-variants.{NotExpected}
+use Rattle.grammar.specs.declared.Param.the-variants.{NoParam}
+use Rattle.grammar.specs.declared.Cause.the-variants.{ReachedEol, IncompleteComment}
+use Rattle.grammar.specs.declared.Refusal.{Refusal}
+use Rattle.grammar.specs.declared.Refusal.the-variants.{Fault, NoRoom}
+use Rattle.grammar.specs.declared.Answer.{Answer}
+use Rattle.grammar.specs.declared.Answer.the-variants.{Going, Refused}
+use Rattle.grammar.specs.declared.Repeat.{Repeat}
+use Rattle.grammar.specs.declared.Gap.{Gap}
+use Rattle.grammar.specs.declared.Gap.the-variants.{GapTo, GapRefused}
+use Rattle.tables.specs.Layout.{tokens, repeats}
+use Rattle.grammar.specs.Refusals.{numberOfRepeat}
+use Rattle.grammar.specs.Cells.{repeatCells}
+
+-- what a step on no table, on one, on two and on three gives
+pub record Out0 : Type 0 where
+  pub answer : Answer
+  pub state : State
+
+pub record Out1 : Type 0 where
+  pub answer : Answer
+  pub state : State
+  pub a : List ℕ
+
+pub record Out2 : Type 0 where
+  pub answer : Answer
+  pub state : State
+  pub a : List ℕ
+  pub b : List ℕ
+
+pub record Out3 : Type 0 where
+  pub answer : Answer
+  pub state : State
+  pub a : List ℕ
+  pub b : List ℕ
+  pub c : List ℕ
+
+-- the state with one part changed
+abbrev pub withAt : State → ℕ → State
+withAt s i = record { at = i; level = s .level; counts = s .counts; singles = s .singles; actiontype = s .actiontype }
+
+abbrev pub withLevel : State → ℕ → State
+withLevel s n = record { at = s .at; level = n; counts = s .counts; singles = s .singles; actiontype = s .actiontype }
+
+abbrev pub withCounts : State → Counts → State
+withCounts s c = record { at = s .at; level = s .level; counts = c; singles = s .singles; actiontype = s .actiontype }
+
+abbrev pub withSingles : State → Singles → State
+withSingles s g = record { at = s .at; level = s .level; counts = s .counts; singles = g; actiontype = s .actiontype }
+
+abbrev pub withActiontype : State → Part → State
+withActiontype s p = record { at = s .at; level = s .level; counts = s .counts; singles = s .singles; actiontype = p }
+
+-- the count of table k + 1, and the state with another
+abbrev pub count : State → ℕ → ℕ
+count s k = getD (s .counts .n) k 0
+
+abbrev pub withCount : State → ℕ → ℕ → State
+withCount s k n = withCounts s (record { n = set (s .counts .n) k n })
+
+-- a position of a source that is not too long: all that a reading step requires
+pub record Here (src : List ℕ) (at : ℕ) : Type 0 where
+  pub within : at ≤ length src
+  pub short : length src ≤ 65536
+
+-- a position behind another one, in the source
+pub record Passed (src : List ℕ) (from to : ℕ) : Type 0 where
+  pub onward : from ≤ to
+  pub inside : to ≤ length src
+
+-- spacing, with the refusal that it gives: "13 ReachedEOL", "5 IncompleteComment"
+unfoldable pub gapOf : Spaced → Gap
+gapOf (To i n) = GapTo i n
+gapOf (LineEnd i) = GapRefused (Fault ReachedEol i)
+gapOf (OpenComment i) = GapRefused (Fault IncompleteComment i)
+
+unfoldable pub gapAt : Bool → List ℕ → ℕ → Gap
+gapAt ok src at = gapOf (spacesAt ok src at)
+
+abbrev pub Gapped : List ℕ → ℕ → Gap → Type 0
+Gapped src from (GapTo i n) = (from + n ≤ i) × (i ≤ length src) × Edge src from i
+Gapped src from (GapRefused f) = Unit {0}
+
+-- "42 no room: first place of the row that didn't fit, for 10 its repeated one, and table number"
+abbrev pub pushed : Bool → State → ℕ → ℕ → ℕ → List ℕ → Out1
+pushed true s k a b t = record { answer = Going; state = withCount s k (count s k + 1); a = t }
+pushed false s k a b t = record { answer = Refused (NoRoom (k + 1) a b); state = s; a = t }
+
+-- a row is added to table k + 1, whose place is a to b
+unfoldable pub pushRow : State → ℕ → List ℕ → ℕ → ℕ → List ℕ → Out1
+pushRow s k row a b t = pushed (addRow (count s k) row t .ok) s k a b (addRow (count s k) row t .cells)
+
+-- "10 repeats (number, first place, repeated place)"
+unfoldable pub listRepeat : State → Repeat → ℕ → ℕ → ℕ → ℕ → List ℕ → Out1
+listRepeat s what a b c d t = pushRow s repeats (repeatCells (numberOfRepeat what) a b c d) c d t
+
+abbrev pub entered : Entered → State → ℕ → ℕ → List ℕ → Out1
+entered (Rows m) s a b t = record { answer = Going; state = withCount s tokens m; a = t }
+entered Full s a b t = record { answer = Refused (NoRoom (tokens + 1) a b); state = s; a = t }
+
+-- a token joins table 1, declared by `%token` or not
+unfoldable pub enterStep : List ℕ → State → ℕ → ℕ → Bool → List ℕ → Out1
+enterStep src s a b d t =
+    entered (enterToken src (count s tokens) a b d t .entered) s a b (enterToken src (count s tokens) a b d t .cells)
+
+-- "Levels start at 0", one a line; they stop where 32 bits do, which no reading comes near
+unfoldable pub nextLevel : ℕ → ℕ
+nextLevel n = elim (ltb n 4294967295) [ true ↦ n + 1 | false ↦ n ]
+
+-- where a reading begins: nothing counted, the singles absent
+abbrev pub noSingles : Singles
+noSingles = record { start = Absent; expect = NotExpected; «expect_rr» = NotExpected; param = NoParam; generics = Absent; programs = Absent }
+
+abbrev pub noCounts : Counts
+noCounts = record { n = replicate 10 0 }
+
+abbrev pub fresh : State
+fresh = record { at = 0; level = 0; counts = noCounts; singles = noSingles; actiontype = Absent }

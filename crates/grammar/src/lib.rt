@@ -1,0 +1,296 @@
+// What every reading step shares: counts, singles, the state that goes through all steps, refusals by their cause, and the steps that add a row.
+use spacing::Spaced;
+use tables::Entered;
+ghost use mathlib.Core.Path.{_≡_};
+ghost use mathlib.Core.List.{List, [], _∷_};
+ghost use lib.ListN.{length};
+ghost use Rattle.grammar.specs.Refusals.{numberOfCause, numberOfRepeat, told};
+ghost use Rattle.grammar.specs.State.{count, withCount, Out1, Here, gapAt, Gapped, pushRow, listRepeat, enterStep, nextLevel};
+
+// The rows of tables 1 to 10.
+pub struct Counts {
+    pub n: [u32; 10],
+}
+
+// A place that is given or not: the start, the generics, the programs, the action type of kind 1.
+pub enum Part {
+    Absent,
+    At(u32, u32),
+}
+
+// `%expect` and `%expect-rr`: the value, and its place.
+pub enum Expect {
+    NotExpected,
+    Expected(u64, u32, u32),
+}
+
+// `%parse-param`: the name's place and the type's.
+pub enum Param {
+    NoParam,
+    ParamAt(u32, u32, u32, u32),
+}
+
+pub struct Singles {
+    pub start: Part,
+    pub expect: Expect,
+    pub expect_rr: Expect,
+    pub param: Param,
+    pub generics: Part,
+    pub programs: Part,
+}
+
+// A reading under way: where it stands, the next precedence level, what was read so far, and kind 1's action type.
+pub struct State {
+    pub at: usize,
+    pub level: u32,
+    pub counts: Counts,
+    pub singles: Singles,
+    pub actiontype: Part,
+}
+
+// Why a read is refused at an offset.
+pub enum Cause {
+    IntegerEmpty,
+    IntegerTooLarge,
+    IllegalName,
+    IllegalString,
+    IncompleteRule,
+    IncompleteComment,
+    IncompleteAction,
+    MissingColon,
+    MissingRightArrow,
+    NonEmptyProduction,
+    PrematureEnd,
+    NotTerminated,
+    UnknownDeclaration,
+    // A line end where none may stand.
+    ReachedEol,
+    // No single colon follows.
+    ReachedEnd,
+    StringNotOpened,
+    StringLineEnd,
+    StringEscape,
+    StringNotClosed,
+    UnknownSymbol,
+    NotUtf8,
+}
+
+pub enum Refusal {
+    Fault(Cause, u32),
+    // The first repeat's number and first place.
+    Repeated(u32, u32, u32),
+    // The table without room, and the row's place.
+    NoRoom(u32, u32, u32),
+    TooLong,
+    BadKind,
+}
+
+// A refusal in document 01's numbers.
+pub struct Told {
+    pub number: u32,
+    pub from: u32,
+    pub to: u32,
+    pub table: u32,
+}
+
+// What a step came to.
+pub enum Answer {
+    Going,
+    Done,
+    Refused(Refusal),
+}
+
+pub struct Step {
+    pub answer: Answer,
+    pub state: State,
+}
+
+// What may be repeated only under a refusal.
+pub enum Repeat {
+    RepeatedPrecedence,
+    RepeatedAvoidInsert,
+    RepeatedImplicitTokens,
+    RepeatedExpect,
+    RepeatedExpectRr,
+    RepeatedStart,
+    RepeatedActiontype,
+    RepeatedEpp,
+}
+
+// Spacing: its end and its line ends, or why there is none.
+pub enum Gap {
+    GapTo(usize, usize),
+    GapRefused(Refusal),
+}
+
+pub fn cause_number(c: Cause) -> u32
+    ensures { λ r. ⌜ r ≡ numberOfCause c ⌝ }
+{
+    match c {
+        Cause::IntegerEmpty => 1,
+        Cause::IntegerTooLarge => 1,
+        Cause::IllegalName => 2,
+        Cause::IllegalString => 3,
+        Cause::IncompleteRule => 4,
+        Cause::IncompleteComment => 5,
+        Cause::IncompleteAction => 6,
+        Cause::MissingColon => 7,
+        Cause::MissingRightArrow => 8,
+        Cause::NonEmptyProduction => 9,
+        Cause::PrematureEnd => 10,
+        Cause::NotTerminated => 11,
+        Cause::UnknownDeclaration => 12,
+        Cause::ReachedEol => 13,
+        Cause::ReachedEnd => 13,
+        Cause::StringNotOpened => 14,
+        Cause::StringLineEnd => 14,
+        Cause::StringEscape => 14,
+        Cause::StringNotClosed => 14,
+        Cause::UnknownSymbol => 15,
+        Cause::NotUtf8 => 40,
+    }
+}
+
+pub fn tell(f: Refusal) -> Told
+    ensures { λ r. ⌜ r ≡ told f ⌝ }
+{
+    match f {
+        Refusal::Fault(c, i) => Told {
+            number: cause_number(c),
+            from: i,
+            to: i,
+            table: 0,
+        },
+        Refusal::Repeated(number, from, to) => Told {
+            number,
+            from,
+            to,
+            table: 0,
+        },
+        Refusal::NoRoom(table, from, to) => Told {
+            number: 42,
+            from,
+            to,
+            table,
+        },
+        Refusal::TooLong => Told {
+            number: 41,
+            from: 0,
+            to: 0,
+            table: 0,
+        },
+        Refusal::BadKind => Told {
+            number: 43,
+            from: 0,
+            to: 0,
+            table: 0,
+        },
+    }
+}
+
+pub fn repeat_number(what: Repeat) -> u32
+    ensures { λ r. ⌜ r ≡ numberOfRepeat what ⌝ }
+{
+    match what {
+        Repeat::RepeatedPrecedence => 20,
+        Repeat::RepeatedAvoidInsert => 21,
+        Repeat::RepeatedImplicitTokens => 22,
+        Repeat::RepeatedExpect => 23,
+        Repeat::RepeatedExpectRr => 24,
+        Repeat::RepeatedStart => 25,
+        Repeat::RepeatedActiontype => 26,
+        Repeat::RepeatedEpp => 27,
+    }
+}
+
+// Spacing from `at` on.
+pub fn pass_gap(src: &[u8], at: usize, ends_allowed: bool) -> Gap
+    requires { ⌜ Here (now src) at ⌝ }
+    ensures is { λ r. ⌜ r ≡ gapAt «ends_allowed» (now (src .entry)) at ⌝ }
+    ensures moved { λ r. ⌜ Gapped (now (src .entry)) at r ⌝ }
+{
+    match spacing::parse_ws(src, at, ends_allowed) {
+        Spaced::To(i, n) => Gap::GapTo(i, n),
+        Spaced::LineEnd(i) => Gap::GapRefused(Refusal::Fault(Cause::ReachedEol, i as u32)),
+        Spaced::OpenComment(i) => Gap::GapRefused(Refusal::Fault(
+            Cause::IncompleteComment,
+            i as u32,
+        )),
+    }
+}
+
+// The count of table `k + 1`.
+pub fn count_of(s: State, k: u8) -> u32
+    ensures { λ r. ⌜ r ≡ count s k ⌝ }
+{
+    let c = s.counts;
+    let i = k as usize;
+    if i < 10 { c.n[i] } else { 0 }
+}
+
+pub fn with_count(s: State, k: u8, n: u32) -> State
+    ensures { λ r. ⌜ r ≡ withCount s k n ⌝ }
+{
+    let i = k as usize;
+    if i < 10 {
+        let mut c = s.counts;
+        c.n[i] = n;
+        let mut next = s;
+        next.counts = c;
+        return next;
+    }
+    s
+}
+
+// A row is added to table `k + 1`, or 42 with the row's place.
+pub fn push(s: State, k: u8, row: &[u32], from: u32, to: u32, t: &mut [u32]) -> Step
+    ensures is { λ r. ⌜ _≡_ {A = Out1} (record { answer = r .answer; state = r .state; a = now (t .exit) }) (pushRow s k (now (row .entry)) from to (now (t .entry))) ⌝ }
+    ensures kept { λ r. ⌜ r .state .at ≡ s .at ⌝ }
+{
+    let n = count_of(s, k);
+    if tables::add_row(t, n, row) {
+        Step {
+            answer: Answer::Going,
+            state: with_count(s, k, n + 1),
+        }
+    } else {
+        Step {
+            answer: Answer::Refused(Refusal::NoRoom(k as u32 + 1, from, to)),
+            state: s,
+        }
+    }
+}
+
+// A repeat of what was first at `a` to `b`, at `c` to `d`: a row of table 10.
+pub fn list_repeat(s: State, what: Repeat, a: u32, b: u32, c: u32, d: u32, t: &mut [u32]) -> Step
+    ensures is { λ r. ⌜ _≡_ {A = Out1} (record { answer = r .answer; state = r .state; a = now (t .exit) }) (listRepeat s what a b c d (now (t .entry))) ⌝ }
+    ensures kept { λ r. ⌜ r .state .at ≡ s .at ⌝ }
+{
+    let row = [repeat_number(what), a, b, c, d];
+    push(s, tables::REPEATS, &row, c, d, t)
+}
+
+// A token is entered into table 1.
+pub fn enter(src: &[u8], s: State, from: u32, to: u32, declared: bool, t: &mut [u32]) -> Step
+    ensures is { λ r. ⌜ _≡_ {A = Out1} (record { answer = r .answer; state = r .state; a = now (t .exit) }) (enterStep (now (src .entry)) s from to declared (now (t .entry))) ⌝ }
+    ensures kept { λ r. ⌜ r .state .at ≡ s .at ⌝ }
+{
+    let n = count_of(s, tables::TOKENS);
+    match tables::enter_token(src, t, n, from, to, declared) {
+        Entered::Rows(m) => Step {
+            answer: Answer::Going,
+            state: with_count(s, tables::TOKENS, m),
+        },
+        Entered::Full => Step {
+            answer: Answer::Refused(Refusal::NoRoom(tables::TOKENS as u32 + 1, from, to)),
+            state: s,
+        },
+    }
+}
+
+// The next precedence level.
+pub fn next_level(n: u32) -> u32
+    ensures { λ r. ⌜ r ≡ nextLevel n ⌝ }
+{
+    if n < 4294967295 { n + 1 } else { n }
+}

@@ -1,0 +1,87 @@
+-- Document 01: the tables' rows, their widths and which cell is which, named once. Tables are numbered from 0 here: index k is table k + 1.
+use Prim.Native.Nat.{ℕ}
+use mathlib.Core.List.{List, [], _∷_}
+use lib.ListN.{getD}
+
+-- "1 tokens (place, declared by `%token` or not)"
+abbrev pub tokens : ℕ
+tokens = 0
+
+abbrev pub declared : ℕ
+declared = 2
+
+-- "2 precedences (place, level, association)"
+abbrev pub precedences : ℕ
+precedences = 1
+
+abbrev pub level : ℕ
+level = 2
+
+abbrev pub association : ℕ
+association = 3
+
+-- "3 avoid, 4 implicit"
+abbrev pub avoided : ℕ
+avoided = 2
+
+abbrev pub implicit : ℕ
+implicit = 3
+
+-- "5 `%epp` (key place as spelled, key name, value with its quotes)"
+abbrev pub epps : ℕ
+epps = 4
+
+abbrev pub keyName : ℕ
+keyName = 2
+
+abbrev pub value : ℕ
+value = 4
+
+-- "6 expected unused (kind, place)"
+abbrev pub unused : ℕ
+unused = 5
+
+-- "7 rules (name, action type or none)"
+abbrev pub rules : ℕ
+rules = 6
+
+abbrev pub typed : ℕ
+typed = 2
+
+-- "8 productions (rule row, place, symbol range, `%prec`, action)"
+abbrev pub productions : ℕ
+productions = 7
+
+abbrev pub ruleRow : ℕ
+ruleRow = 0
+
+abbrev pub place : ℕ
+place = 1
+
+abbrev pub symbolsFrom : ℕ
+symbolsFrom = 3
+
+abbrev pub symbolsTo : ℕ
+symbolsTo = 4
+
+abbrev pub prec : ℕ
+prec = 5
+
+abbrev pub action : ℕ
+action = 8
+
+-- "9 symbols (kind, place)"
+abbrev pub symbols : ℕ
+symbols = 8
+
+-- "10 repeats (number, first place, repeated place)"
+abbrev pub repeats : ℕ
+repeats = 9
+
+-- in tables 6 and 9 a row's name stands behind its kind
+abbrev pub kindName : ℕ
+kindName = 1
+
+-- the widths in number order; no table is nowhere wide
+abbrev pub width : ℕ → ℕ
+width k = getD (3 ∷ 4 ∷ 2 ∷ 2 ∷ 6 ∷ 3 ∷ 5 ∷ 13 ∷ 3 ∷ 5 ∷ []) k 1
