@@ -2,24 +2,32 @@
 use Prim.Native.Nat.{ℕ, _+_, _≤_, _<_}
 use mathlib.Core.Path.{_≡_, refl, sym, _∙_, ap}
 use mathlib.Core.List.{List}
-use mathlib.Core.Bool.{Bool, true, false}
+use mathlib.Core.Bool.{Bool, true, false, _&&_, not}
+use lib.Dec.{eqb}
 use native.Mathlib.Omega.{arith}
+use mir.Syntax.{w32}
+use mir.Val.{Fits}
 use lib.ListN.{length, getD, set, List·getD-eq-default}
 use lib.Seq.{set-out}
 use borrow.Author.Tests.{lt-ltb, le-ltb}
 use Rattle.spacing.specs.declared.Spaced.{Spaced}
 use Rattle.spacing.specs.declared.Spaced.the-variants.{To, LineEnd, OpenComment}
 use Rattle.spacing.specs.Spacing.{spacesAt, Spaces}
-use Rattle.tables.specs.Table.{addRow, enterToken}
+use Rattle.tables.specs.Table.{addRow, enterToken, cell, findName}
+use Rattle.tables.specs.declared.Found.{Found}
+use Rattle.tables.specs.declared.Found.the-variants.{RowAt, NoRow}
 use Rattle.tables.specs.declared.Entered.{Entered}
 use Rattle.tables.specs.declared.Entered.the-variants.{Rows, Full}
 use Rattle.grammar.specs.declared.State.{State}
-use Rattle.grammar.specs.declared.Answer.the-variants.{Going, Refused}
+use Rattle.grammar.specs.declared.Answer.{Answer}
+use Rattle.grammar.specs.declared.Answer.the-variants.{Going, Done, Refused}
 use Rattle.grammar.specs.declared.Cause.the-variants.{ReachedEol, IncompleteComment}
+use Rattle.grammar.specs.declared.Refusal.{Refusal}
 use Rattle.grammar.specs.declared.Refusal.the-variants.{Fault, NoRoom}
+use Rattle.grammar.specs.declared.Repeat.{Repeat}
 use Rattle.grammar.specs.declared.Gap.{Gap}
 use Rattle.grammar.specs.declared.Gap.the-variants.{GapTo, GapRefused}
-use Rattle.grammar.specs.State.{count, withCount, Here, gapOf, gapAt, Gapped, pushRow, enterStep, nextLevel}
+use Rattle.grammar.specs.State.{count, withCount, Here, gapOf, gapAt, Gapped, pushRow, enterStep, nextLevel, withAt, Out0, Out1, pastGap, passOn, Onward, listRepeat, first2, second2, onceStep, Passed}
 
 -- past the tenth table there is nothing to count
 module _ (s : State) (k : ℕ) (ten : length (s .counts .n) ≡ 10) (h : 10 ≤ k) where
@@ -81,3 +89,90 @@ level-up n h = rw (lt-ltb _ _ h, nextLevel)
 pub level-last : (n : ℕ) → 4294967295 ≤ n → n ≡ nextLevel n
 unfolding nextLevel
 level-last n h = rw (le-ltb _ _ h, nextLevel)
+
+-- spacing behind a step
+module _ (src : List ℕ) (line : Bool) (j : ℕ) (s : State) (g : Gap) (q : g ≡ gapAt true src j) where
+  pub past-done : (i n : ℕ) → g ≡ GapTo i n → (line && not (eqb n 0)) ≡ true → record { answer = Done; state = withAt s i } ≡ pastGap src line j s
+  unfolding pastGap
+  past-done i n e t = rw (← q, e, t)
+
+  pub past-going : (i n : ℕ) → g ≡ GapTo i n → (line && not (eqb n 0)) ≡ false → record { answer = Going; state = withAt s i } ≡ pastGap src line j s
+  unfolding pastGap
+  past-going i n e t = rw (← q, e, t)
+
+  pub past-refused : (f : Refusal) → g ≡ GapRefused f → record { answer = Refused f; state = s } ≡ pastGap src line j s
+  unfolding pastGap
+  past-refused f e = rw (← q, e)
+
+-- where it comes to stand
+pub gap-onward : (src : List ℕ) (j before i n : ℕ) (a : Answer) (g : Gap) → Gapped src j g → g ≡ GapTo i n → Onward src j before a i
+gap-onward src j before i n a g x e =
+    let y = rw e at x in
+    let k = y .0 in
+    let l = y .1 in
+    record { forth = λ h. omega arith; inside = λ h. l; beyond = λ h. omega arith }
+
+pub stays : (src : List ℕ) (j at : ℕ) (a : Answer) → (a ≡ Going → ⊥) → Onward src j at a at
+stays src j at a d = record { forth = λ h. omega arith; inside = λ h. h; beyond = λ h. absurd (d h) }
+
+pub refused-stays : (src : List ℕ) (j at : ℕ) (f : Refusal) → Onward src j at (Refused f) at
+refused-stays src j at f = stays src j at (Refused f) (λ e. let z : _≡_ {A = ℕ} 0 1 = cc in omega arith)
+
+module _ (src : List ℕ) (line : Bool) (j : ℕ) (a : Answer) (s : State) where
+  pub on-going : (o : Out0) → a ≡ Going → o ≡ pastGap src line j s → o ≡ passOn src line j a s
+  on-going o e h = rw e h
+
+  pub on-done : a ≡ Done → record { answer = Done; state = s } ≡ passOn src line j a s
+  on-done e = rw e
+
+  pub on-refused : (f : Refusal) → a ≡ Refused f → record { answer = Refused f; state = s } ≡ passOn src line j a s
+  on-refused f e = rw e
+
+-- what may be given once to a name
+module _ (src : List ℕ) (s : State) (k w name from to : ℕ) (what : Repeat) (a b : ℕ) (row t t10 : List ℕ) (n : ℕ) (f : Found) (c : n ≡ count s k) (q : f ≡ findName src w name n t from to) where
+  pub once-repeat : (r x y : ℕ) (o : Out1) → f ≡ RowAt r → x ≡ cell w t r 0 → y ≡ cell w t r 1 → o ≡ listRepeat s what x y a b t10 → second2 t o ≡ onceStep src s k w name from to what a b row t t10
+  unfolding onceStep
+  once-repeat r x y o e g h d = let p = rw c at q in rw (← p, e) (ap (second2 t) (rw (g, h) at d))
+
+  pub once-new : (o : Out1) → f ≡ NoRow → o ≡ pushRow s k row a b t → first2 o t10 ≡ onceStep src s k w name from to what a b row t t10
+  unfolding onceStep
+  once-new o e d = let p = rw c at q in rw (← p, e) (ap (λ (x : Out1). first2 x t10) d)
+
+-- positions behind a position: where spacing ends, where a further part ends, where a step comes to stand
+module _ (src : List ℕ) (at : ℕ) where
+  pub gap-passed : (g : Gap) (i n : ℕ) → Gapped src at g → g ≡ GapTo i n → Passed src at i
+  gap-passed g i n x e =
+      let y = rw e at x in
+      let k = y .0 in
+      record { onward = omega arith; inside = y .1 }
+
+  pub passed-on : (i j : ℕ) → Passed src at i → Passed src i j → Passed src at j
+  passed-on i j p q =
+      let k = p .onward in
+      let l = q .onward in
+      record { onward = omega arith; inside = q .inside }
+
+  pub passed-here : (i : ℕ) → Here src at → Passed src at i → Here src i
+  passed-here i h p = record { within = p .inside; short = h .short }
+
+  -- which 32 bits hold
+  pub passed-fits : (i : ℕ) → Here src at → Passed src at i → Fits w32 i
+  passed-fits i h p =
+      let k = h .short in
+      let l = p .inside in
+      omega arith
+
+  pub onward-passed : (j before after : ℕ) (a : Answer) → Onward src j before a after → before ≡ at → Passed src at j → Passed src at after
+  onward-passed j before after a o e p =
+      let k = p .onward in
+      let l = p .inside in
+      let q = rw e at o in
+      record { onward = q .forth k; inside = q .inside (omega arith) }
+
+  pub onward-from : (j before after : ℕ) (a : Answer) → Onward src j before a after → Passed src at j → Onward src at before a after
+  onward-from j before after a o p =
+      let k = p .onward in
+      record { forth = λ h. o .forth (omega arith); inside = o .inside; beyond = λ e. let l = o .beyond e in omega arith }
+
+  pub still : Here src at → Passed src at at
+  still h = record { onward = omega arith; inside = h .within }

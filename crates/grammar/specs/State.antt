@@ -1,16 +1,20 @@
 -- The state that a reading step takes and gives, and the steps that add a row.
-use Prim.Native.Nat.{ℕ, _+_, _≤_}
+use Prim.Native.Nat.{ℕ, _+_, _≤_, _<_}
+use mathlib.Core.Path.{_≡_}
 use mathlib.Core.List.{List, [], _∷_}
-use mathlib.Core.Bool.{Bool, true, false}
+use mathlib.Core.Bool.{Bool, true, false, _&&_, not}
 use lib.ListN.{length, getD, set, replicate}
-use lib.Dec.{ltb}
+use lib.Dec.{ltb, eqb}
 use Rattle.scan.specs.Scan.{Edge}
+use Rattle.scan.specs.Loop.{Turn, more, stop}
 use Rattle.spacing.specs.declared.Spaced.{Spaced}
 use Rattle.spacing.specs.declared.Spaced.the-variants.{To, LineEnd, OpenComment}
 use Rattle.spacing.specs.Spacing.{spacesAt}
 use Rattle.tables.specs.declared.Entered.{Entered}
 use Rattle.tables.specs.declared.Entered.the-variants.{Rows, Full}
-use Rattle.tables.specs.Table.{Added, addRow, Inserted, enterToken}
+use Rattle.tables.specs.declared.Found.{Found}
+use Rattle.tables.specs.declared.Found.the-variants.{RowAt, NoRow}
+use Rattle.tables.specs.Table.{Added, addRow, Inserted, enterToken, cell, findName}
 use Rattle.grammar.specs.declared.Counts.{Counts}
 use Rattle.grammar.specs.declared.Singles.{Singles}
 use Rattle.grammar.specs.declared.State.{State}
@@ -22,7 +26,7 @@ use Rattle.grammar.specs.declared.Cause.the-variants.{ReachedEol, Incomp
 use Rattle.grammar.specs.declared.Refusal.{Refusal}
 use Rattle.grammar.specs.declared.Refusal.the-variants.{Fault, NoRoom}
 use Rattle.grammar.specs.declared.Answer.{Answer}
-use Rattle.grammar.specs.declared.Answer.the-variants.{Going, Refused}
+use Rattle.grammar.specs.declared.Answer.the-variants.{Going, Done, Refused}
 use Rattle.grammar.specs.declared.Repeat.{Repeat}
 use Rattle.grammar.specs.declared.Gap.{Gap}
 use Rattle.grammar.specs.declared.Gap.the-variants.{GapTo, GapRefused}
@@ -134,3 +138,72 @@ noCounts = record { n = replicate 10 0 }
 
 abbrev pub fresh : State
 fresh = record { at = 0; level = 0; counts = noCounts; singles = noSingles; actiontype = Absent }
+
+-- what spacing makes of a state; a list that ends with its line is done "until a line end was counted"
+abbrev pub past : Bool → Gap → State → Out0
+past line (GapTo i n) s = record { answer = elim (line && not (eqb n 0)) [ true ↦ Done | false ↦ Going ]; state = withAt s i }
+past line (GapRefused f) s = record { answer = Refused f; state = s }
+
+-- spacing from index j on, where line ends are allowed
+unfoldable pub pastGap : List ℕ → Bool → ℕ → State → Out0
+pastGap src line j s = past line (gapAt true src j) s
+
+-- the same behind a step, if it goes on
+abbrev pub passOn : List ℕ → Bool → ℕ → Answer → State → Out0
+passOn src line j Going s = pastGap src line j s
+passOn src line j Done s = record { answer = Done; state = s }
+passOn src line j (Refused f) s = record { answer = Refused f; state = s }
+
+-- where such a step comes to stand: not before where it stood, in the source, and behind j if the reading goes on
+pub record Onward (src : List ℕ) (j before : ℕ) (answer : Answer) (after : ℕ) : Type 0 where
+  pub forth : before ≤ j → before ≤ after
+  pub inside : before ≤ length src → after ≤ length src
+  pub beyond : answer ≡ Going → j ≤ after
+
+-- an outcome with the tables it left
+abbrev pub tied1 : Out0 → List ℕ → Out1
+tied1 o a = record { answer = o .answer; state = o .state; a = a }
+
+abbrev pub tied2 : Out0 → List ℕ → List ℕ → Out2
+tied2 o a b = record { answer = o .answer; state = o .state; a = a; b = b }
+
+abbrev pub tied3 : Out0 → List ℕ → List ℕ → List ℕ → Out3
+tied3 o a b c = record { answer = o .answer; state = o .state; a = a; b = b; c = c }
+
+-- behind a step on tables, spacing
+abbrev pub behind1 : List ℕ → Bool → ℕ → Out1 → Out1
+behind1 src line j o = tied1 (passOn src line j (o .answer) (o .state)) (o .a)
+
+abbrev pub behind2 : List ℕ → Bool → ℕ → Out2 → Out2
+behind2 src line j o = tied2 (passOn src line j (o .answer) (o .state)) (o .a) (o .b)
+
+-- a refusal leaves state and tables as they were
+abbrev pub refused : Refusal → State → Out0
+refused f s = record { answer = Refused f; state = s }
+
+-- the outcome of a step on the first of two tables, and on the second
+abbrev pub first2 : Out1 → List ℕ → Out2
+first2 o b = record { answer = o .answer; state = o .state; a = o .a; b = b }
+
+abbrev pub second2 : List ℕ → Out1 → Out2
+second2 a o = record { answer = o .answer; state = o .state; a = a; b = o .a }
+
+abbrev pub onceFound : Found → State → ℕ → ℕ → Repeat → ℕ → ℕ → List ℕ → List ℕ → List ℕ → Out2
+onceFound (RowAt r) s k w what a b row t t10 = second2 t (listRepeat s what (cell w t r 0) (cell w t r 1) a b t10)
+onceFound NoRow s k w what a b row t t10 = first2 (pushRow s k row a b t) t10
+
+-- What may be given once to a name: a row more, or a repeat with "first place, repeated place".
+unfoldable pub onceStep : List ℕ → State → ℕ → ℕ → ℕ → ℕ → ℕ → Repeat → ℕ → ℕ → List ℕ → List ℕ → List ℕ → Out2
+onceStep src s k w name from to what a b row t t10 = onceFound (findName src w name (count s k) t from to) s k w what a b row t t10
+
+-- a loop goes on behind a step that goes on
+abbrev pub onward : {X : Type 0} → Answer → X → Turn X
+onward Going x = more x
+onward Done x = stop x
+onward (Refused f) x = stop x
+
+-- where an item of a list comes to stand: not before where it stood, in the source, and further on if the reading goes on
+pub record Moves (src : List ℕ) (at : ℕ) (answer : Answer) (after : ℕ) : Type 0 where
+  pub onward : at ≤ after
+  pub inside : after ≤ length src
+  pub beyond : answer ≡ Going → at < after

@@ -1,11 +1,12 @@
 // What every reading step shares: counts, singles, the state that goes through all steps, refusals by their cause, and the steps that add a row.
 use spacing::Spaced;
 use tables::Entered;
+use tables::Found;
 ghost use mathlib.Core.Path.{_≡_};
 ghost use mathlib.Core.List.{List, [], _∷_};
 ghost use lib.ListN.{length};
 ghost use Rattle.grammar.specs.Refusals.{numberOfCause, numberOfRepeat, told};
-ghost use Rattle.grammar.specs.State.{count, withCount, Out1, Here, gapAt, Gapped, pushRow, listRepeat, enterStep, nextLevel};
+ghost use Rattle.grammar.specs.State.{count, withCount, Out1, Here, gapAt, Gapped, pushRow, listRepeat, enterStep, nextLevel, Out0, Out2, Onward, pastGap, passOn, onceStep};
 
 // The rows of tables 1 to 10.
 pub struct Counts {
@@ -293,4 +294,84 @@ pub fn next_level(n: u32) -> u32
     ensures { λ r. ⌜ r ≡ nextLevel n ⌝ }
 {
     if n < 4294967295 { n + 1 } else { n }
+}
+
+// Spacing from `j` on, where line ends are allowed; in a list that ends with its line, done where a line end was counted.
+pub fn past_gap(src: &[u8], s: State, j: usize, line: bool) -> Step
+    requires { ⌜ Here (now src) j ⌝ }
+    ensures is { λ q. ⌜ _≡_ {A = Out0} (record { answer = q .answer; state = q .state }) (pastGap (now (src .entry)) line j s) ⌝ }
+    ensures moved { λ q. ⌜ Onward (now (src .entry)) j (s .at) (q .answer) (q .state .at) ⌝ }
+{
+    match pass_gap(src, j, true) {
+        Gap::GapTo(i, n) => {
+            let mut next = s;
+            next.at = i;
+            if line & (n != 0) {
+                return Step {
+                    answer: Answer::Done,
+                    state: next,
+                };
+            }
+            Step {
+                answer: Answer::Going,
+                state: next,
+            }
+        }
+        Gap::GapRefused(f) => Step {
+            answer: Answer::Refused(f),
+            state: s,
+        },
+    }
+}
+
+// The same behind a step, if it goes on.
+pub fn pass_on(src: &[u8], r: Step, j: usize, line: bool) -> Step
+    requires { ⌜ Here (now src) j ⌝ }
+    ensures is { λ q. ⌜ _≡_ {A = Out0} (record { answer = q .answer; state = q .state }) (passOn (now (src .entry)) line j (r .answer) (r .state)) ⌝ }
+    ensures moved { λ q. ⌜ Onward (now (src .entry)) j (r .state .at) (q .answer) (q .state .at) ⌝ }
+{
+    let a = r.answer;
+    let s = r.state;
+    match a {
+        Answer::Going => past_gap(src, s, j, line),
+        Answer::Done => Step {
+            answer: Answer::Done,
+            state: s,
+        },
+        Answer::Refused(f) => Step {
+            answer: Answer::Refused(f),
+            state: s,
+        },
+    }
+}
+
+// What may be given once to a name: a row of table `k + 1`, `w` wide, whose name is at `name`; or a repeat of the row that has the name from `from` to `to`.
+// Rows and repeats have the place from `a` to `b`.
+pub fn once(
+    src: &[u8],
+    s: State,
+    k: u8,
+    w: u32,
+    name: u8,
+    from: u32,
+    to: u32,
+    what: Repeat,
+    a: u32,
+    b: u32,
+    row: &[u32],
+    t: &mut [u32],
+    t10: &mut [u32],
+) -> Step
+    ensures is { λ r. ⌜ _≡_ {A = Out2} (record { answer = r .answer; state = r .state; a = now (t .exit); b = now (t10 .exit) }) (onceStep (now (src .entry)) s k w name from to what a b (now (row .entry)) (now (t .entry)) (now (t10 .entry))) ⌝ }
+    ensures kept { λ r. ⌜ r .state .at ≡ s .at ⌝ }
+{
+    let n = count_of(s, k);
+    match tables::find(src, t, w, name, n, from, to) {
+        Found::RowAt(r) => {
+            let c = tables::cell(t, w, r, 0);
+            let d = tables::cell(t, w, r, 1);
+            list_repeat(s, what, c, d, a, b, t10)
+        }
+        Found::NoRow => push(s, k, row, a, b, t),
+    }
 }

@@ -1,0 +1,2 @@
+pub mod Keywords
+pub mod Cases

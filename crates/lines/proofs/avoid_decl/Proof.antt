@@ -1,0 +1,46 @@
+-- `lines::avoid_decl` meets its contract. Assumes nothing.
+use native.Mathlib.Omega.{arith}
+use borrow.Author.Needs.{needs}
+use Rattle.scan.proofs.Bytes.{told}
+use Rattle.grammar.specs.State.{Gapped}
+use Rattle.lines.proofs.Laws.{gap-passed, avoid-end, avoid-line, avoid-gap}
+use Rattle.lines.proofs.avoid_decl.Statement.{statement}
+use Rattle.lines.proofs.avoid_decl.Tie as tie
+
+ended : tie.Need-returns
+ended c = (avoid-end _ _ _ _ _ _ _ (c .if1 .taken), record { onward = omega arith; inside = c .before .before .before .before .before .pre .within })
+
+here : tie.Need-avoid-list-requires
+here c κs =
+    let k = c .before .before .before .before in
+    let g = k .before .before in
+    let h = told (Gapped _ _) (k .i .given .1) (g .pass-gap .ensures .1) in
+    record { within = h .1; short = g .before .before .before .before .before .before .pre .short }
+
+line : tie.Need-returns-2
+line c =
+    let p = c .before .before .before .before .before .before in
+    let k = p .before .before .before .before .before in
+    let g = k .before .before in
+    let e = k .i .given .1 in
+    (avoid-line _ _ _ _ _ _ _ (g .before .if1 .left) _ (g .pass-gap .ensures .0) _ _ _ e (p .avoid-list .ensures .0), gap-passed _ _ _ _ _ _ (g .pass-gap .ensures .1) e (p .avoid-list .ensures .1))
+
+refused : tie.Need-returns-3
+refused c =
+    let g = c .before .before .before in
+    (avoid-gap _ _ _ _ _ _ _ (g .before .if1 .left) _ (g .pass-gap .ensures .0) _ (c .before .f .given .1), record { onward = omega arith; inside = g .before .before .before .before .before .before .pre .within })
+
+pub avoid-decl-spec : {M : Type 1} → statement M
+avoid-decl-spec =
+    tie.close
+    (tie.spec
+    ended
+    (λ c κs. search needs)
+    (λ c. search needs)
+    here
+    (λ c. search needs)
+    (λ c. search needs)
+    (λ c. search needs)
+    (λ c. search needs)
+    line
+    refused)

@@ -1,0 +1,67 @@
+-- `lines::avoid_item` meets its contract. Assumes nothing.
+use mathlib.Core.Path.{refl}
+use native.Mathlib.Omega.{arith}
+use borrow.Author.Needs.{needs}
+use Rattle.scan.proofs.Bytes.{told}
+use Rattle.words.specs.Words.{Tokened}
+use Rattle.lines.proofs.Laws.{item-moves, item-stays, avoid-found, avoid-none}
+use Rattle.lines.proofs.avoid_item.Statement.{statement}
+use Rattle.lines.proofs.avoid_item.Tie as tie
+
+cast-from : tie.Need-cast-avoid-named
+cast-from c =
+    let p = c .before .before .before .before in
+    let h = told (Tokened _ _) (c .before .before .p .given .1) (p .parse-token .ensures .1) in
+    omega (arith, h .1, h .2, h .3, p .before .before .before .before .before .pre .short)
+
+cast-to : tie.Need-cast-avoid-named-2
+cast-to c =
+    let p = c .before .before .before .before .before in
+    let h = told (Tokened _ _) (c .before .before .before .p .given .1) (p .parse-token .ensures .1) in
+    omega (arith, h .2, h .3, p .before .before .before .before .before .pre .short)
+
+here : tie.Need-avoid-named-requires
+here c κs =
+    let k = c .before .before .before .before .before .before in
+    let p = k .before .before in
+    let h = told (Tokened _ _) (k .p .given .1) (p .parse-token .ensures .1) in
+    record { within = h .3; short = p .before .before .before .before .before .pre .short }
+
+cast-none : tie.Need-cast-t23
+cast-none c =
+    let p = c .before .before .before in
+    let h = told (Tokened _ _) (c .before .i .given .1) (p .parse-token .ensures .1) in
+    let q = p .before .before .before .before .before in
+    omega (arith, h, q .pre .short, q .pre .within)
+
+found : tie.Need-returns
+found c =
+    let n = c .before .before .before .before .before .before in
+    let k = n .before .before .before .before .before .before .before in
+    let p = k .before .before in
+    let e = k .p .given .1 in (
+      avoid-found _ _ _ _ _ _ _ _ (p .parse-token .ensures .0) _ _ _ _ e (n .avoid-named .ensures .0),
+      item-moves _ _ _ _ _ _ _ _ _ (p .before .before .before .before .before .pre .within) (p .parse-token .ensures .1) e refl (n .avoid-named .ensures .1),
+    )
+
+none : tie.Need-returns-2
+none c =
+    let p = c .before .before .before in
+    (avoid-none _ _ _ _ _ _ _ _ (p .parse-token .ensures .0) _ (c .before .i .given .1), item-stays _ _ _ (p .before .before .before .before .before .pre .within))
+
+pub avoid-item-spec : {M : Type 1} → statement M
+avoid-item-spec =
+    tie.close
+    (tie.spec
+    (λ c κs. search needs)
+    (λ c. search needs)
+    cast-from
+    cast-to
+    here
+    (λ c. search needs)
+    cast-none
+    (λ c. search needs)
+    (λ c. search needs)
+    (λ c. search needs)
+    found
+    none)

@@ -1,0 +1,42 @@
+-- `lines::prec_decl` meets its contract. Assumes nothing.
+use native.Mathlib.Omega.{arith}
+use borrow.Author.Needs.{needs}
+use Rattle.scan.proofs.Bytes.{told}
+use Rattle.grammar.specs.State.{Gapped}
+use Rattle.lines.proofs.Laws.{gap-passed, prec-line, prec-gap}
+use Rattle.lines.proofs.prec_decl.Statement.{statement}
+use Rattle.lines.proofs.prec_decl.Tie as tie
+
+here : tie.Need-prec-list-requires
+here c κs =
+    let k = c .before .before .before .before in
+    let g = k .before .before in
+    let h = told (Gapped _ _) (k .i .given .1) (g .pass-gap .ensures .1) in
+    record { within = h .1; short = g .before .before .before .before .pre .short }
+
+line : tie.Need-returns
+line c =
+    let p = c .before .before .before .before in
+    let n = p .before .before .before in
+    let g = n .before .before .before .before in
+    let e = n .before .before .i .given .1 in
+    (prec-line _ _ _ _ _ _ (g .pass-gap .ensures .0) _ _ _ _ e (n .next-level .ensures) (p .prec-list .ensures .0), gap-passed _ _ _ _ _ _ (g .pass-gap .ensures .1) e (p .prec-list .ensures .1))
+
+refused : tie.Need-returns-2
+refused c =
+    let g = c .before .before .before in
+    (prec-gap _ _ _ _ _ _ (g .pass-gap .ensures .0) _ (c .before .f .given .1), record { onward = omega arith; inside = g .before .before .before .before .pre .within })
+
+pub prec-decl-spec : {M : Type 1} → statement M
+prec-decl-spec =
+    tie.close
+    (tie.spec
+    (λ c κs. search needs)
+    (λ c. search needs)
+    (λ c κs. search needs)
+    here
+    (λ c. search needs)
+    (λ c. search needs)
+    (λ c. search needs)
+    line
+    refused)

@@ -1,0 +1,2 @@
+pub mod Precedences
+pub mod Avoided

@@ -1,0 +1,267 @@
+// Lists that run to their line's end: precedences, `%avoid_insert` and `%implicit_tokens`. Each declaration is handed the state behind its keyword.
+use grammar::Answer;
+use grammar::Cause;
+use grammar::Gap;
+use grammar::Refusal;
+use grammar::Repeat;
+use grammar::State;
+use grammar::Step;
+use words::Token;
+ghost use mathlib.Core.Path.{_≡_};
+ghost use Rattle.grammar.specs.State.{Out2, Out3, Here, Passed, Moves, Onward};
+ghost use Rattle.lines.specs.Precedences.{precItem, precList, precDecl};
+ghost use Rattle.lines.specs.Avoided.{avoidNamed, avoidItem, avoidList, avoidDecl};
+
+// One token of a precedence line, and the spacing behind it: done where that counted a line end.
+pub fn prec_item(
+    src: &[u8],
+    s: State,
+    level: u32,
+    assoc: u32,
+    t2: &mut [u32],
+    t10: &mut [u32],
+) -> Step
+    requires { ⌜ Here (now src) (s .at) ⌝ }
+    ensures is { λ r. ⌜ _≡_ {A = Out2} (record { answer = r .answer; state = r .state; a = now (t2 .exit); b = now (t10 .exit) }) (precItem (now (src .entry)) s level assoc (now (t2 .entry)) (now (t10 .entry))) ⌝ }
+    ensures moved { λ r. ⌜ Moves (now (src .entry)) (s .at) (r .answer) (r .state .at) ⌝ }
+{
+    let at = s.at;
+    match words::parse_token(src, at) {
+        Token::Found(p, end, _) => {
+            let from = p.from as u32;
+            let to = p.to as u32;
+            let row = [from, to, level, assoc];
+            let r = grammar::once(
+                src,
+                s,
+                tables::PRECEDENCES,
+                tables::PRECEDENCE_WIDTH,
+                tables::NAME,
+                from,
+                to,
+                Repeat::RepeatedPrecedence,
+                from,
+                to,
+                &row,
+                t2,
+                t10,
+            );
+            grammar::pass_on(src, r, end, true)
+        }
+        Token::NoToken(k) => Step {
+            answer: Answer::Refused(Refusal::Fault(Cause::IllegalString, k as u32)),
+            state: s,
+        },
+    }
+}
+
+// The tokens up to the line's end, or to the source's end.
+pub fn prec_list(
+    src: &[u8],
+    s: State,
+    level: u32,
+    assoc: u32,
+    t2: &mut [u32],
+    t10: &mut [u32],
+) -> Step
+    requires { ⌜ Here (now src) (s .at) ⌝ }
+    ensures is { λ r. ⌜ _≡_ {A = Out2} (record { answer = r .answer; state = r .state; a = now (t2 .exit); b = now (t10 .exit) }) (precList (now (src .entry)) s level assoc (now (t2 .entry)) (now (t10 .entry))) ⌝ }
+    ensures moved { λ r. ⌜ Passed (now (src .entry)) (s .at) (r .state .at) ⌝ }
+{
+    let mut st = s;
+    loop {
+        let at = st.at;
+        if src.len() <= at {
+            return Step {
+                answer: Answer::Going,
+                state: st,
+            };
+        }
+        let r = prec_item(src, st, level, assoc, t2, t10);
+        let a = r.answer;
+        let next = r.state;
+        match a {
+            Answer::Going => {
+                st = next;
+            }
+            Answer::Done => {
+                return Step {
+                    answer: Answer::Going,
+                    state: next,
+                };
+            }
+            Answer::Refused(_) => {
+                return r;
+            }
+        }
+    }
+}
+
+// A line of `%left`, `%right` or `%nonassoc`: it takes a level.
+pub fn prec_decl(src: &[u8], s: State, assoc: u32, t2: &mut [u32], t10: &mut [u32]) -> Step
+    requires { ⌜ Here (now src) (s .at) ⌝ }
+    ensures is { λ r. ⌜ _≡_ {A = Out2} (record { answer = r .answer; state = r .state; a = now (t2 .exit); b = now (t10 .exit) }) (precDecl (now (src .entry)) s assoc (now (t2 .entry)) (now (t10 .entry))) ⌝ }
+    ensures moved { λ r. ⌜ Passed (now (src .entry)) (s .at) (r .state .at) ⌝ }
+{
+    let at = s.at;
+    match grammar::pass_gap(src, at, false) {
+        Gap::GapTo(i, _) => {
+            let level = s.level;
+            let mut next = s;
+            next.at = i;
+            next.level = grammar::next_level(level);
+            prec_list(src, next, level, assoc, t2, t10)
+        }
+        Gap::GapRefused(f) => Step {
+            answer: Answer::Refused(f),
+            state: s,
+        },
+    }
+}
+
+// A token is entered, undeclared, and given to table `k + 1` once; its word ends at `end`.
+pub fn avoid_named(
+    src: &[u8],
+    s: State,
+    k: u8,
+    what: Repeat,
+    from: u32,
+    to: u32,
+    end: usize,
+    t1: &mut [u32],
+    t: &mut [u32],
+    t10: &mut [u32],
+) -> Step
+    requires { ⌜ Here (now src) end ⌝ }
+    ensures is { λ r. ⌜ _≡_ {A = Out3} (record { answer = r .answer; state = r .state; a = now (t1 .exit); b = now (t .exit); c = now (t10 .exit) }) (avoidNamed (now (src .entry)) s k what from to end (now (t1 .entry)) (now (t .entry)) (now (t10 .entry))) ⌝ }
+    ensures moved { λ r. ⌜ Onward (now (src .entry)) end (s .at) (r .answer) (r .state .at) ⌝ }
+{
+    let e = grammar::enter(src, s, from, to, false, t1);
+    let a = e.answer;
+    let next = e.state;
+    match a {
+        Answer::Going => {
+            let row = [from, to];
+            let r = grammar::once(
+                src,
+                next,
+                k,
+                tables::NAME_WIDTH,
+                tables::NAME,
+                from,
+                to,
+                what,
+                from,
+                to,
+                &row,
+                t,
+                t10,
+            );
+            grammar::pass_on(src, r, end, true)
+        }
+        Answer::Done => Step {
+            answer: Answer::Done,
+            state: next,
+        },
+        Answer::Refused(f) => Step {
+            answer: Answer::Refused(f),
+            state: next,
+        },
+    }
+}
+
+// One token of an avoid or implicit list, and the spacing behind it: done where that counted a line end.
+pub fn avoid_item(
+    src: &[u8],
+    s: State,
+    k: u8,
+    what: Repeat,
+    t1: &mut [u32],
+    t: &mut [u32],
+    t10: &mut [u32],
+) -> Step
+    requires { ⌜ Here (now src) (s .at) ⌝ }
+    ensures is { λ r. ⌜ _≡_ {A = Out3} (record { answer = r .answer; state = r .state; a = now (t1 .exit); b = now (t .exit); c = now (t10 .exit) }) (avoidItem (now (src .entry)) s k what (now (t1 .entry)) (now (t .entry)) (now (t10 .entry))) ⌝ }
+    ensures moved { λ r. ⌜ Moves (now (src .entry)) (s .at) (r .answer) (r .state .at) ⌝ }
+{
+    let at = s.at;
+    match words::parse_token(src, at) {
+        Token::Found(p, end, _) => {
+            avoid_named(src, s, k, what, p.from as u32, p.to as u32, end, t1, t, t10)
+        }
+        Token::NoToken(i) => Step {
+            answer: Answer::Refused(Refusal::Fault(Cause::IllegalString, i as u32)),
+            state: s,
+        },
+    }
+}
+
+// The tokens up to the line's end; the list goes on at the source's end, and is refused there.
+pub fn avoid_list(
+    src: &[u8],
+    s: State,
+    k: u8,
+    what: Repeat,
+    t1: &mut [u32],
+    t: &mut [u32],
+    t10: &mut [u32],
+) -> Step
+    requires { ⌜ Here (now src) (s .at) ⌝ }
+    ensures is { λ r. ⌜ _≡_ {A = Out3} (record { answer = r .answer; state = r .state; a = now (t1 .exit); b = now (t .exit); c = now (t10 .exit) }) (avoidList (now (src .entry)) s k what (now (t1 .entry)) (now (t .entry)) (now (t10 .entry))) ⌝ }
+    ensures moved { λ r. ⌜ Passed (now (src .entry)) (s .at) (r .state .at) ⌝ }
+{
+    let mut st = s;
+    loop {
+        let r = avoid_item(src, st, k, what, t1, t, t10);
+        let a = r.answer;
+        let next = r.state;
+        match a {
+            Answer::Going => {
+                st = next;
+            }
+            Answer::Done => {
+                return Step {
+                    answer: Answer::Going,
+                    state: next,
+                };
+            }
+            Answer::Refused(_) => {
+                return r;
+            }
+        }
+    }
+}
+
+// `%avoid_insert` for table 3, `%implicit_tokens` for table 4. Where the keyword is the source's end there is no list.
+pub fn avoid_decl(
+    src: &[u8],
+    s: State,
+    k: u8,
+    what: Repeat,
+    t1: &mut [u32],
+    t: &mut [u32],
+    t10: &mut [u32],
+) -> Step
+    requires { ⌜ Here (now src) (s .at) ⌝ }
+    ensures is { λ r. ⌜ _≡_ {A = Out3} (record { answer = r .answer; state = r .state; a = now (t1 .exit); b = now (t .exit); c = now (t10 .exit) }) (avoidDecl (now (src .entry)) s k what (now (t1 .entry)) (now (t .entry)) (now (t10 .entry))) ⌝ }
+    ensures moved { λ r. ⌜ Passed (now (src .entry)) (s .at) (r .state .at) ⌝ }
+{
+    let at = s.at;
+    if src.len() <= at {
+        return Step {
+            answer: Answer::Going,
+            state: s,
+        };
+    }
+    match grammar::pass_gap(src, at, false) {
+        Gap::GapTo(i, _) => {
+            let mut next = s;
+            next.at = i;
+            avoid_list(src, next, k, what, t1, t, t10)
+        }
+        Gap::GapRefused(f) => Step {
+            answer: Answer::Refused(f),
+            state: s,
+        },
+    }
+}

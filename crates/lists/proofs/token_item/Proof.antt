@@ -1,0 +1,63 @@
+-- `lists::token_item` meets its contract: the token is entered as declared, and the spacing behind it passed. Assumes nothing.
+use native.Mathlib.Omega.{arith}
+use borrow.Author.Needs.{needs}
+use Rattle.scan.proofs.Bytes.{told}
+use Rattle.words.specs.Words.{Tokened}
+use Rattle.lists.proofs.Laws.{behind, moves, stays-put, token-found, token-none}
+use Rattle.lists.proofs.token_item.Statement.{statement}
+use Rattle.lists.proofs.token_item.Tie as tie
+
+cast-from : tie.Need-cast-enter
+cast-from c =
+    let p = c .before .before .before .before in
+    let h = told (Tokened _ _) (c .before .before .p .given .1) (p .parse-token .ensures .1) in
+    omega (arith, p .before .before .before .pre .short)
+
+cast-to : tie.Need-cast-enter-2
+cast-to c =
+    let p = c .before .before .before .before .before in
+    let h = told (Tokened _ _) (c .before .before .before .p .given .1) (p .parse-token .ensures .1) in
+    omega (arith, p .before .before .before .pre .short)
+
+behind-it : tie.Need-pass-on-requires
+behind-it c κs =
+    let w = c .before .before .before .before .before .before .before in
+    let p = w .before .before in
+    record { within = told (Tokened _ _) (w .p .given .1) (p .parse-token .ensures .1) .3; short = p .before .before .before .pre .short }
+
+cast-sought : tie.Need-cast-t16
+cast-sought c =
+    let p = c .before .before .before in
+    let h = told (Tokened _ _) (c .before .k .given .1) (p .parse-token .ensures .1) in
+    omega (arith, p .before .before .before .pre .within, p .before .before .before .pre .short)
+
+found : tie.Need-returns
+found c =
+    let e = c .before .before .before in
+    let w = e .before .before .before .before .before in
+    let p = w .before .before in
+    let h = told (Tokened _ _) (w .p .given .1) (p .parse-token .ensures .1) in (
+      token-found _ _ _ _ (p .parse-token .ensures .0) _ _ _ _ (w .p .given .1) (behind _ _ _ _ _ _ _ _ (e .enter .ensures .0) (c .pass-on .ensures .0)),
+      moves _ _ _ _ _ _ (e .enter .ensures .1) (omega arith) (h .3) (c .pass-on .ensures .1),
+    )
+
+none : tie.Need-returns-2
+none c =
+    let p = c .before .before .before in
+    (token-none _ _ _ _ (p .parse-token .ensures .0) _ (c .before .k .given .1), stays-put _ _ _ (p .before .before .before .pre .within))
+
+pub token-item-spec : {M : Type 1} → statement M
+token-item-spec =
+    tie.close
+    (tie.spec
+    (λ c κs. search needs)
+    (λ c. search needs)
+    cast-from
+    cast-to
+    (λ c κs. search needs)
+    behind-it
+    (λ c. search needs)
+    cast-sought
+    (λ c. search needs)
+    found
+    none)

@@ -1,0 +1,3 @@
+pub mod Singles
+pub mod Settings
+pub mod Cases
