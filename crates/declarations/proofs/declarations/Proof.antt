@@ -1,0 +1,71 @@
+-- `declarations::declarations` meets its contract: spacing, then the declarations. Assumes nothing.
+use Rattle.grammar.proofs.Steps.{gap-passed, passed-here, passed-on, still}
+use Rattle.declarations.proofs.Laws.{all-from, all-refused}
+use borrow.Author.Needs.{needs}
+use Rattle.declarations.proofs.declarations.Statement.{statement}
+use Rattle.declarations.proofs.declarations.Tie as tie
+
+pass-gap-requires : tie.Need-pass-gap-requires
+pass-gap-requires c κs = search needs
+
+enum-known-i : tie.Need-enum-known-i
+enum-known-i c = search needs
+
+declaration-run-requires : tie.Need-declaration-run-requires
+declaration-run-requires c κs =
+    let g = c .before .before .before .before .before .before .before .before .before .before in
+    passed-here _ _ _ (g .before .before .before .before .before .before .before .before .before .pre) (gap-passed _ _ _ _ _ (g .pass-gap .ensures .1) (c .before .before .before .before .before .before .before .before .i .given .1))
+
+enum-known-f : tie.Need-enum-known-f
+enum-known-f c = search needs
+
+same-length : tie.Need-same-length
+same-length c = search needs
+
+same-length-2 : tie.Need-same-length-2
+same-length-2 c = search needs
+
+same-length-3 : tie.Need-same-length-3
+same-length-3 c = search needs
+
+same-length-4 : tie.Need-same-length-4
+same-length-4 c = search needs
+
+same-length-5 : tie.Need-same-length-5
+same-length-5 c = search needs
+
+same-length-6 : tie.Need-same-length-6
+same-length-6 c = search needs
+
+same-length-7 : tie.Need-same-length-7
+same-length-7 c = search needs
+
+returns : tie.Need-returns
+returns c =
+    let o = c .before .before .before .before .before .before .before .before .before .before .before .before .before .before in
+    let g = o .before .before .before .before .before .before .before .before .before .before .before in
+    let e = o .before .before .before .before .before .before .before .before .before .i .given .1 in
+    (all-from _ _ _ _ _ (g .pass-gap .ensures .0) _ _ _ e (o .declaration-run .ensures .0), passed-on _ _ _ _ (gap-passed _ _ _ _ _ (g .pass-gap .ensures .1) e) (o .declaration-run .ensures .1))
+
+returns-2 : tie.Need-returns-2
+returns-2 c =
+    let g = c .before .before .before in
+    (all-refused _ _ _ _ _ (g .pass-gap .ensures .0) _ (c .before .f .given .1), still _ _ (g .before .before .before .before .before .before .before .before .before .pre))
+
+pub declarations-spec : {M : Type 1} → statement M
+declarations-spec =
+    tie.close
+    (tie.spec
+    pass-gap-requires
+    enum-known-i
+    declaration-run-requires
+    enum-known-f
+    same-length
+    same-length-2
+    same-length-3
+    same-length-4
+    same-length-5
+    same-length-6
+    same-length-7
+    returns
+    returns-2)
