@@ -1,6 +1,6 @@
 -- One declaration: what the keyword's arm gives is what the step gives, and the reading moves on. Assumes nothing.
-use Prim.Native.Nat.{ℕ, _+_, _≤_, _<_}
-use mathlib.Core.Path.{_≡_, refl, sym, _∙_, ap}
+use Prim.Native.Nat.{ℕ, _≤_, _<_}
+use mathlib.Core.Path.{_≡_, sym, _∙_, ap}
 use mathlib.Core.List.{List}
 use mathlib.Core.Bool.{true}
 use native.Mathlib.Omega.{arith}
@@ -19,7 +19,7 @@ use Rattle.grammar.specs.declared.Gap.{Gap}
 use Rattle.grammar.specs.declared.Gap.the-variants.{GapTo, GapRefused}
 use Rattle.scan.specs.Loop.{more, stop}
 use borrow.Author.Tests.{le-leb, lt-leb}
-use Rattle.grammar.specs.State.{withAt, gapAt, Here, Passed, Moves}
+use Rattle.grammar.specs.State.{withAt, gapAt, Passed, Moves}
 use Rattle.declarations.specs.Declarations.{Declared, Out, byKeyword, bySeen, declStep, declTurn, declRun, declAll}
 
 module _ (src : List ℕ) (kind : ℕ) (s : State) (D : Declared) (r : Seen) (q : r ≡ seenAt kind src (s .at)) where
@@ -33,10 +33,6 @@ further src at r w a after x e d p =
     let h = x .beyond (λ z. d (sym e ∙ z)) in
     let k = p .onward in
     record { onward = omega arith; inside = p .inside; beyond = λ g. omega arith }
-
--- an arm that stays does not go on
-pub stays-put : (src : List ℕ) (at : ℕ) (a : Answer) → Here src at → (a ≡ Going → ⊥) → Moves src at a at
-stays-put src at a h d = record { onward = omega arith; inside = h .within; beyond = λ g. absurd (d g) }
 
 -- a turn of the section: it ends with the source, which is 10, else there is a declaration
 module _ (src : List ℕ) (kind : ℕ) (s : State) (D : Declared) where

@@ -1,9 +1,8 @@
 -- What each step of `%epp` is under each answer of the words and of the spacing, and where it comes to stand. Assumes nothing.
-use Prim.Native.Nat.{ℕ, _≤_}
-use mathlib.Core.Path.{_≡_, ap}
+use Prim.Native.Nat.{ℕ}
+use mathlib.Core.Path.{_≡_}
 use mathlib.Core.List.{List}
 use mathlib.Core.Bool.{Bool, false}
-use native.Mathlib.Omega.{arith}
 use Rattle.scan.specs.declared.Place.{Place}
 use Rattle.words.specs.declared.Token.{Token}
 use Rattle.words.specs.declared.Token.the-variants.{Found, NoToken}
@@ -12,28 +11,13 @@ use Rattle.words.specs.declared.Quote.the-variants.{Closed, NotOpened, LineInsi
 use Rattle.words.specs.Words.{tokenAt}
 use Rattle.words.specs.Strings.{stringAt}
 use Rattle.grammar.specs.declared.State.{State}
-use Rattle.grammar.specs.declared.Answer.{Answer}
-use Rattle.grammar.specs.declared.Answer.the-variants.{Refused}
 use Rattle.grammar.specs.declared.Cause.the-variants.{IllegalString, StringNotOpened, StringLineEnd, StringEscape, StringNotClosed}
 use Rattle.grammar.specs.declared.Refusal.{Refusal}
 use Rattle.grammar.specs.declared.Refusal.the-variants.{Fault}
 use Rattle.grammar.specs.declared.Gap.{Gap}
 use Rattle.grammar.specs.declared.Gap.the-variants.{GapTo, GapRefused}
-use Rattle.grammar.specs.State.{Out0, Out2, gapAt, passOn, behind2, tied2, refused, Onward}
-use Rattle.grammar.proofs.Steps.{stays}
+use Rattle.grammar.specs.State.{Out2, gapAt, tied2, refused}
 use Rattle.epps.specs.Epps.{eppGiven, eppText, eppValue, eppDecl}
-
--- spacing behind a step on two tables
-pub behind : (src : List ℕ) (line : Bool) (j : ℕ) (x : Answer) (s : State) (t u : List ℕ) (o : Out2) (q : Out0) → record { answer = x; state = s; a = t; b = u } ≡ o → q ≡ passOn src line j x s → tied2 q t u ≡ behind2 src line j o
-behind src line j x s t u o q e h = rw (← e) (ap (λ (y : Out0). tied2 y t u) h)
-
--- a step that comes to stand behind an index does so behind an earlier one; a refused one stays
-pub nearer : (src : List ℕ) (i j before after : ℕ) (x : Answer) → i ≤ j → Onward src j before x after → Onward src i before x after
-nearer src i j before after x h o =
-    record { forth = λ l. o .forth (omega arith); inside = o .inside; beyond = λ g. let b = o .beyond g in omega arith }
-
-pub halts : (src : List ℕ) (j at : ℕ) (f : Refusal) → Onward src j at (Refused f) at
-halts src j at f = stays src j at (Refused f) (λ e. let z : _≡_ {A = ℕ} 0 1 = cc in omega arith)
 
 -- the text
 module _ (src : List ℕ) (s : State) (i j from to v : ℕ) (t5 t10 : List ℕ) (r : Quote) (q : r ≡ stringAt src v) where

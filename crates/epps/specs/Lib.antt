@@ -1,1 +1,2 @@
 pub mod Epps
+pub mod Given

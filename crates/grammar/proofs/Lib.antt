@@ -1,3 +1,4 @@
 pub mod Steps
 pub mod Far
 pub mod Kept
+pub mod Touch

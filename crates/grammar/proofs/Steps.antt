@@ -1,13 +1,13 @@
 -- The small steps: counts, spacing with its refusal, a row more. One law for each answer. Assumes nothing.
 use Prim.Native.Nat.{ℕ, _+_, _≤_, _<_}
-use mathlib.Core.Path.{_≡_, refl, sym, _∙_, ap}
+use mathlib.Core.Path.{_≡_, sym, ap}
 use mathlib.Core.List.{List}
 use mathlib.Core.Bool.{Bool, true, false, _&&_, not}
 use lib.Dec.{eqb}
 use native.Mathlib.Omega.{arith}
 use mir.Syntax.{w32}
 use mir.Val.{Fits}
-use lib.ListN.{length, getD, set, List·getD-eq-default}
+use lib.ListN.{length, List·getD-eq-default}
 use lib.Seq.{set-out}
 use borrow.Author.Tests.{lt-ltb, le-ltb}
 use Rattle.spacing.specs.declared.Spaced.{Spaced}
@@ -27,7 +27,7 @@ use Rattle.grammar.specs.declared.Refusal.the-variants.{Fault, NoRoom}
 use Rattle.grammar.specs.declared.Repeat.{Repeat}
 use Rattle.grammar.specs.declared.Gap.{Gap}
 use Rattle.grammar.specs.declared.Gap.the-variants.{GapTo, GapRefused}
-use Rattle.grammar.specs.State.{count, withCount, Here, gapOf, gapAt, Gapped, pushRow, enterStep, nextLevel, withAt, Out0, Out1, pastGap, passOn, Onward, listRepeat, first2, second2, onceStep, Passed}
+use Rattle.grammar.specs.State.{count, withCount, Here, gapOf, gapAt, Gapped, pushRow, enterStep, nextLevel, withAt, Out0, Out1, Out2, pastGap, passOn, tied1, tied2, behind1, behind2, Onward, Moves, listRepeat, first2, second2, onceStep, Passed}
 
 -- past the tenth table there is nothing to count
 module _ (s : State) (k : ℕ) (ten : length (s .counts .n) ≡ 10) (h : 10 ≤ k) where
@@ -118,6 +118,23 @@ stays src j at a d = record { forth = λ h. omega arith; inside = λ h. h; beyon
 pub refused-stays : (src : List ℕ) (j at : ℕ) (f : Refusal) → Onward src j at (Refused f) at
 refused-stays src j at f = stays src j at (Refused f) (λ e. let z : _≡_ {A = ℕ} 0 1 = cc in omega arith)
 
+-- a step that comes to stand behind an index does so behind an earlier one
+pub nearer : (src : List ℕ) (i j before after : ℕ) (a : Answer) → i ≤ j → Onward src j before a after → Onward src i before a after
+nearer src i j before after a h o = record { forth = λ l. o .forth (omega arith); inside = o .inside; beyond = λ e. let b = o .beyond e in omega arith }
+
+-- an item moves on where the spacing behind it does, and stays where it is refused
+pub moves : (src : List ℕ) (at j before after : ℕ) (a : Answer) → before ≡ at → at < j → j ≤ length src → Onward src j before a after → Moves src at a after
+moves src at j before after a e h l o =
+    let f = o .forth (omega arith) in
+    let i = o .inside (omega arith) in
+    record { onward = omega arith; inside = i; beyond = λ g. let b = o .beyond g in omega arith }
+
+pub stays-put : (src : List ℕ) (at : ℕ) (a : Answer) → at ≤ length src → (a ≡ Going → ⊥) → Moves src at a at
+stays-put src at a h d = record { onward = omega arith; inside = h; beyond = λ e. absurd (d e) }
+
+pub refused-put : (src : List ℕ) (at : ℕ) (f : Refusal) → at ≤ length src → Moves src at (Refused f) at
+refused-put src at f h = stays-put src at (Refused f) h (λ e. let z : _≡_ {A = ℕ} 0 1 = cc in omega arith)
+
 module _ (src : List ℕ) (line : Bool) (j : ℕ) (a : Answer) (s : State) where
   pub on-going : (o : Out0) → a ≡ Going → o ≡ pastGap src line j s → o ≡ passOn src line j a s
   on-going o e h = rw e h
@@ -127,6 +144,14 @@ module _ (src : List ℕ) (line : Bool) (j : ℕ) (a : Answer) (s : State) where
 
   pub on-refused : (f : Refusal) → a ≡ Refused f → record { answer = Refused f; state = s } ≡ passOn src line j a s
   on-refused f e = rw e
+
+  -- behind a step on one table, and on two
+  module _ (q : Out0) (h : q ≡ passOn src line j a s) where
+    pub behind-one : (t : List ℕ) (o : Out1) → record { answer = a; state = s; a = t } ≡ o → tied1 q t ≡ behind1 src line j o
+    behind-one t o e = rw (← e) (ap (λ (y : Out0). tied1 y t) h)
+
+    pub behind-two : (t u : List ℕ) (o : Out2) → record { answer = a; state = s; a = t; b = u } ≡ o → tied2 q t u ≡ behind2 src line j o
+    behind-two t u o e = rw (← e) (ap (λ (y : Out0). tied2 y t u) h)
 
 -- what may be given once to a name
 module _ (src : List ℕ) (s : State) (k w name from to : ℕ) (what : Repeat) (a b : ℕ) (row t t10 : List ℕ) (n : ℕ) (f : Found) (c : n ≡ count s k) (q : f ≡ findName src w name n t from to) where
@@ -170,9 +195,7 @@ module _ (src : List ℕ) (at : ℕ) where
       record { onward = q .forth k; inside = q .inside (omega arith) }
 
   pub onward-from : (j before after : ℕ) (a : Answer) → Onward src j before a after → Passed src at j → Onward src at before a after
-  onward-from j before after a o p =
-      let k = p .onward in
-      record { forth = λ h. o .forth (omega arith); inside = o .inside; beyond = λ e. let l = o .beyond e in omega arith }
+  onward-from j before after a o p = nearer src at j before after a (p .onward) o
 
   pub still : Here src at → Passed src at at
   still h = record { onward = omega arith; inside = h .within }

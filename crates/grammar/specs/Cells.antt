@@ -2,7 +2,7 @@
 use Prim.Native.Nat.{ℕ}
 use mathlib.Core.List.{List, [], _∷_}
 use Rattle.grammar.specs.declared.Part.{Part}
-use Rattle.grammar.specs.declared.Part.the-variants.{Absent, At}
+use Rattle.grammar.specs.Numbers.{partNumbers}
 
 -- "1 tokens (place, declared by `%token` or not)"
 abbrev pub tokenCells : ℕ → ℕ → ℕ → List ℕ
@@ -24,10 +24,9 @@ eppCells keyFrom keyTo nameFrom nameTo valueFrom valueTo = keyFrom ∷ keyTo ∷
 abbrev pub kindCells : ℕ → ℕ → ℕ → List ℕ
 kindCells kind from to = kind ∷ from ∷ to ∷ []
 
--- "7 rules (name, action type or none)"; "0 undeclared or absent (its cells zero), else 1"
+-- "7 rules (name, action type or none)"
 abbrev pub ruleCells : ℕ → ℕ → Part → List ℕ
-ruleCells from to Absent = from ∷ to ∷ 0 ∷ 0 ∷ 0 ∷ []
-ruleCells from to (At a b) = from ∷ to ∷ 1 ∷ a ∷ b ∷ []
+ruleCells from to type = from ∷ to ∷ partNumbers type
 
 -- "10 repeats (number, first place, repeated place)"
 abbrev pub repeatCells : ℕ → ℕ → ℕ → ℕ → ℕ → List ℕ

@@ -1,4 +1,5 @@
 pub mod Refusals
+pub mod Numbers
 pub mod State
 pub mod Sound
 pub mod Cells

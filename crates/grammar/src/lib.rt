@@ -6,6 +6,7 @@ ghost use mathlib.Core.Path.{_≡_};
 ghost use mathlib.Core.List.{List, [], _∷_};
 ghost use lib.ListN.{length};
 ghost use Rattle.grammar.specs.Refusals.{numberOfCause, numberOfRepeat, told};
+ghost use Rattle.grammar.specs.Numbers.{partNumbers};
 ghost use Rattle.grammar.specs.State.{count, withCount, Out1, Here, gapAt, Gapped, pushRow, listRepeat, enterStep, nextLevel, Out0, Out2, Onward, pastGap, passOn, onceStep};
 
 // The rows of tables 1 to 10.
@@ -201,6 +202,16 @@ pub fn repeat_number(what: Repeat) -> u32
         Repeat::RepeatedStart => 25,
         Repeat::RepeatedActiontype => 26,
         Repeat::RepeatedEpp => 27,
+    }
+}
+
+// A flag and a place, as document 01 numbers them.
+pub fn part_cells(p: Part) -> [u32; 3]
+    ensures { λ r. ⌜ r ≡ partNumbers p ⌝ }
+{
+    match p {
+        Part::Absent => [0, 0, 0],
+        Part::At(a, b) => [1, a, b],
     }
 }
 

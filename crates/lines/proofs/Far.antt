@@ -1,13 +1,11 @@
 -- Lists that run to their line's end keep soundness so far, whatever their answer. Assumes nothing.
-use Prim.Native.Nat.{ℕ, suc, _+_, _≤_, _<_}
-use mathlib.Core.Path.{_≡_, refl, sym}
+use Prim.Native.Nat.{ℕ, suc, _≤_, _<_}
+use mathlib.Core.Path.{refl}
 use mathlib.Core.List.{List}
 use mathlib.Core.Bool.{Bool, true, false}
 use native.Mathlib.Omega.{arith}
-use lib.Dec.{leb, ltb}
+use lib.Dec.{leb}
 use lib.ListN.{length}
-use borrow.Author.Tests.{lt-ltb}
-use Rattle.scan.specs.Loop.{Turn, more, stop, turns}
 use Rattle.scan.proofs.Bytes.{on-test}
 use Rattle.scan.proofs.Loop.{Either, turns-keep}
 use Rattle.words.specs.declared.Token.{Token}
@@ -25,20 +23,16 @@ use Rattle.grammar.specs.declared.Repeat.the-variants.{RepeatedPrecedence}
 use Rattle.grammar.specs.declared.Gap.{Gap}
 use Rattle.grammar.specs.declared.Gap.the-variants.{GapTo, GapRefused}
 use Rattle.grammar.specs.Cells.{precedenceCells, nameCells}
-use Rattle.grammar.specs.State.{Out1, Out2, Out3, Passed, count, withAt, withLevel, nextLevel, gapAt, Gapped, enterStep, onceStep, passOn, behind2}
+use Rattle.grammar.specs.State.{Out1, Out2, Out3, Passed, count, withAt, nextLevel, gapAt, Gapped, enterStep, onceStep, behind2}
 use Rattle.grammar.specs.Sound.{Tables, tab, setTab, Far}
+use Rattle.grammar.proofs.Steps.{level-up}
 use Rattle.grammar.proofs.Far.{far-at, far-level}
-use Rattle.grammar.proofs.Kept.{gapped, Far2, Far3, Held, Held2, enter-held, once-held, behind2-far, pass-far, pass-level}
+use Rattle.grammar.proofs.Kept.{gapped, Far2, Far3, Held, Held2, enter-held, once-held, behind2-far, pass-level}
 use Rattle.lines.specs.Precedences.{precFound, precItem, lineEnd, afterEnd, precTurn, precList, precFrom, precDecl}
-use Rattle.lines.specs.Avoided.{avoidEntered, avoidNamed, avoidFound, avoidItem, avoidEnd, avoidNext, avoidTurn, avoidList, avoidFrom, avoidDecl}
-
--- a level that is taken stays below the next one, since the position is further on
-pub next-above : (n : ℕ) → n < 4294967295 → nextLevel n ≡ n + 1
-unfolding nextLevel
-next-above n h = rw (lt-ltb _ _ h, nextLevel)
+use Rattle.lines.specs.Avoided.{avoidEntered, avoidNamed, avoidFound, avoidItem, avoidEnd, avoidTurn, avoidList, avoidFrom, avoidDecl}
 
 -- a precedence line under way: sound so far, and the line's level is below the next one
-pub record Line (src : List ℕ) (done : ℕ) (T : Tables) (lev : ℕ) (o : Out2) : Type 0 where
+pub record LineFar (src : List ℕ) (done : ℕ) (T : Tables) (lev : ℕ) (o : Out2) : Type 0 where
   pub far : Far2 src done T precedences repeats o
   pub low : lev < o .state .level
 
@@ -46,14 +40,14 @@ module _ {src : List ℕ} {done : ℕ} {s : State} {T : Tables} (f : Far src don
   first : (r : ℕ) → r < count s precedences → Passed src (cell (width precedences) (T .t2) r 0) (cell (width precedences) (T .t2) r 1)
   first r l = rw (← row-cell (width precedences) (T .t2) r 0 (omega arith), ← row-cell (width precedences) (T .t2) r 1 (omega arith)) (f .tables precedences .each r l .name)
 
-  item-far : Line src done T lev (precItem src s lev assoc (T .t2) (T .t10))
+  item-far : LineFar src done T lev (precItem src s lev assoc (T .t2) (T .t10))
   unfolding precItem
   item-far = go (tokenAt src (s .at)) (token-placed src (s .at) (tokenAt src (s .at)) refl .1)
     where
-      behind : (end : ℕ) (o : Out2) → s .at ≤ end → end ≤ length src → Held2 src done T precedences repeats s o → Line src done T lev (behind2 src true end o)
+      behind : (end : ℕ) (o : Out2) → s .at ≤ end → end ≤ length src → Held2 src done T precedences repeats s o → LineFar src done T lev (behind2 src true end o)
       behind end o h k x = let e = x .level in let g = pass-level src true end (o .answer) (o .state) in record { far = behind2-far true end o h k x; low = omega arith }
 
-      go : (t : Token) → Tokened src (s .at) t → Line src done T lev (precFound t src s lev assoc (T .t2) (T .t10))
+      go : (t : Token) → Tokened src (s .at) t → LineFar src done T lev (precFound t src s lev assoc (T .t2) (T .t10))
       go (Found p end q) x =
           let c = x .0 in
           let d = x .1 in
@@ -65,16 +59,16 @@ module _ {src : List ℕ} {done : ℕ} {s : State} {T : Tables} (f : Far src don
       go (NoToken k) x = record { far = f; low = low }
 
 module _ (src : List ℕ) (done : ℕ) (T : Tables) (lev assoc : ℕ) (a : 1 ≤ assoc) (b : assoc ≤ 3) where
-  turn-far : (o : Out2) → Line src done T lev o → Either (Line src done T lev) (Line src done T lev) (precTurn src lev assoc o)
+  turn-far : (o : Out2) → LineFar src done T lev o → Either (LineFar src done T lev) (LineFar src done T lev) (precTurn src lev assoc o)
   unfolding precTurn
   turn-far o x = go (leb (length src) (o .state .at))
     where
-      next : (y : Answer) (p : Out2) → Line src done T lev p → Either (Line src done T lev) (Line src done T lev) (lineEnd y p)
+      next : (y : Answer) (p : Out2) → LineFar src done T lev p → Either (LineFar src done T lev) (LineFar src done T lev) (lineEnd y p)
       next Going p z = z
       next Done p z = record { far = z .far; low = z .low }
       next (Refused f) p z = z
 
-      go : (q : Bool) → Either (Line src done T lev) (Line src done T lev) (afterEnd q o (precItem src (o .state) lev assoc (o .a) (o .b)))
+      go : (q : Bool) → Either (LineFar src done T lev) (LineFar src done T lev) (afterEnd q o (precItem src (o .state) lev assoc (o .a) (o .b)))
       go true = x
       go false = next (precItem src (o .state) lev assoc (o .a) (o .b) .answer) (precItem src (o .state) lev assoc (o .a) (o .b)) (let z = item-far (x .far) lev assoc (x .low) a b in record { far = z .far; low = z .low })
 
@@ -83,17 +77,14 @@ pub prec-far : {src : List ℕ} {done : ℕ} {s : State} {T : Tables} (assoc : �
 unfolding precDecl precList
 prec-far {src} {done} {s} {T} assoc a b up f = go (gapAt false src (s .at)) (gapped false src (s .at) (f .here))
   where
-    raised : s .level < 65536 → nextLevel (s .level) ≡ s .level + 1
-    raised h = next-above (s .level) (omega arith)
-
     go : (g : Gap) → Gapped src (s .at) g → Far2 src done T precedences repeats (precFrom g src s assoc (T .t2) (T .t10))
     go (GapTo i n) x =
         let c = x .0 in
         let d = f .here in
         let e = f .short in
-        let r = raised (omega arith) in
+        let r = level-up (s .level) (omega arith) in
         let g = far-level (far-at f i (omega arith) (x .1)) (nextLevel (s .level)) (omega arith) (omega arith) in
-        turns-keep (Line src done T (s .level)) (precTurn src (s .level) assoc) (turn-far src done T (s .level) assoc a b) (suc (length src)) _ (record { far = g; low = omega arith }) .far
+        turns-keep (LineFar src done T (s .level)) (precTurn src (s .level) assoc) (turn-far src done T (s .level) assoc a b) (suc (length src)) _ (record { far = g; low = omega arith }) .far
     go (GapRefused e) x = f
 
 -- a name table: table 3 or table 4

@@ -21,27 +21,16 @@ use Rattle.grammar.specs.declared.Repeat.{Repeat}
 use Rattle.grammar.specs.declared.Repeat.the-variants.{RepeatedPrecedence}
 use Rattle.grammar.specs.declared.Gap.{Gap}
 use Rattle.grammar.specs.declared.Gap.the-variants.{GapTo, GapRefused}
-use Rattle.grammar.specs.State.{Out0, Out1, Out2, Out3, withAt, withLevel, nextLevel, gapAt, onceStep, enterStep, passOn, tied2, tied3, refused, Gapped, Passed, Onward, Moves}
+use Rattle.grammar.specs.State.{Out0, Out1, Out2, Out3, withAt, withLevel, nextLevel, gapAt, onceStep, enterStep, passOn, tied2, tied3, refused, Onward, Moves}
+use Rattle.grammar.proofs.Steps.{moves}
 use Rattle.lines.specs.Precedences.{precItem, precTurn, precList, precFrom, precDecl}
 use Rattle.lines.specs.Avoided.{avoidNamed, avoidItem, avoidTurn, avoidList, avoidDecl}
 
--- where an item comes to stand: behind its token if the list goes on,
-pub item-moves : (src : List ℕ) (at before end after : ℕ) (p : Place) (b : Bool) (a : Answer) (r : Token) → at ≤ length src → Tokened src at r → r ≡ Found p end b → before ≡ at → Onward src end before a after → Moves src at a after
-item-moves src at before end after p b a r h x e k o =
+-- an item comes to stand behind its token if the list goes on
+pub item-moves : (src : List ℕ) (at before end after : ℕ) (p : Place) (b : Bool) (a : Answer) (r : Token) → Tokened src at r → r ≡ Found p end b → before ≡ at → Onward src end before a after → Moves src at a after
+item-moves src at before end after p b a r x e k o =
     let y = rw e at x in
-    let f = y .0 in
-    let g = y .1 in
-    let i = y .2 in
-    let j = y .3 in
-    record { onward = let l = o .forth (omega arith) in omega arith; inside = o .inside (omega arith); beyond = λ w. let l = o .beyond w in omega arith }
-
--- and where it was if there is no token
-pub item-stays : (src : List ℕ) (at : ℕ) (f : Refusal) → at ≤ length src → Moves src at (Refused f) at
-item-stays src at f h = record { onward = omega arith; inside = h; beyond = λ e. let z : _≡_ {A = ℕ} 0 1 = cc in omega arith }
-
--- a step that was taken from the same position
-pub onward-from : {src : List ℕ} {j from at after : ℕ} {a : Answer} → from ≡ at → Onward src j from a after → Onward src j at a after
-onward-from e o = rw e at o
+    moves src at end before after a k (omega (arith, y .0, y .1, y .2)) (y .3) o
 
 -- a token of a precedence line
 module _ (src : List ℕ) (s : State) (level assoc : ℕ) (t2 t10 : List ℕ) (r : Token) (q : r ≡ tokenAt src (s .at)) where
@@ -74,13 +63,6 @@ module _ (src : List ℕ) (level assoc : ℕ) (s : State) (t2 t10 : List ℕ) wh
     pub prec-refused : (f : Refusal) → x ≡ Refused f → precTurn src level assoc (record { answer = Going; state = s; a = t2; b = t10 }) ≡ stop (record { answer = x; state = next; a = u2; b = u10 })
     unfolding precTurn
     prec-refused f g = rw (lt-leb _ _ h, ← e, g)
-
--- a list behind spacing ends behind both
-pub gap-passed : (src : List ℕ) (at i n to : ℕ) (g : Gap) → Gapped src at g → g ≡ GapTo i n → Passed src i to → Passed src at to
-gap-passed src at i n to g x e p =
-    let y = rw e at x in
-    let f = y .0 in
-    record { onward = omega (arith, p .onward); inside = p .inside }
 
 -- a precedence line, from behind its keyword on
 module _ (src : List ℕ) (s : State) (assoc : ℕ) (t2 t10 : List ℕ) (r : Gap) (q : r ≡ gapAt false src (s .at)) where

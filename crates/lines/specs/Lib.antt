@@ -1,2 +1,3 @@
 pub mod Precedences
 pub mod Avoided
+pub mod Line

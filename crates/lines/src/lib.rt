@@ -103,8 +103,8 @@ pub fn prec_decl(src: &[u8], s: State, assoc: u32, t2: &mut [u32], t10: &mut [u3
     ensures is { λ r. ⌜ _≡_ {A = Out2} (record { answer = r .answer; state = r .state; a = now (t2 .exit); b = now (t10 .exit) }) (precDecl (now (src .entry)) s assoc (now (t2 .entry)) (now (t10 .entry))) ⌝ }
     ensures moved { λ r. ⌜ Passed (now (src .entry)) (s .at) (r .state .at) ⌝ }
 {
-    let at = s.at;
-    match grammar::pass_gap(src, at, false) {
+    let behind = s.at;
+    match grammar::pass_gap(src, behind, false) {
         Gap::GapTo(i, _) => {
             let level = s.level;
             let mut next = s;

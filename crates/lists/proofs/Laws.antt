@@ -24,20 +24,6 @@ use Rattle.grammar.specs.declared.Gap.the-variants.{GapTo, GapRefused}
 use Rattle.grammar.specs.State.{Out0, Out1, withAt, gapAt, enterStep, passOn, behind1, tied1, Onward, Moves}
 use Rattle.lists.specs.Lists.{tokenItem, unusedRow, unusedItem, listItem, ends, listTurn, percentList, listDecl}
 
--- spacing behind a step on one table
-pub behind : (src : List ℕ) (line : Bool) (j : ℕ) (x : Answer) (s : State) (t : List ℕ) (o : Out1) (q : Out0) → record { answer = x; state = s; a = t } ≡ o → q ≡ passOn src line j x s → tied1 q t ≡ behind1 src line j o
-behind src line j x s t o q e h = rw (← e) (ap (λ (y : Out0). tied1 y t) h)
-
--- an item moves on where spacing behind it does, and stays where it is refused
-pub moves : (src : List ℕ) (at j before after : ℕ) (x : Answer) → before ≡ at → at < j → j ≤ length src → Onward src j before x after → Moves src at x after
-moves src at j before after x e h l o =
-    let f = o .forth (omega arith) in
-    let i = o .inside (omega arith) in
-    record { onward = omega arith; inside = i; beyond = λ g. let b = o .beyond g in omega arith }
-
-pub stays-put : (src : List ℕ) (at : ℕ) (f : Refusal) → at ≤ length src → Moves src at (Refused f) at
-stays-put src at f h = record { onward = omega arith; inside = h; beyond = λ g. let z : _≡_ {A = ℕ} 0 1 = cc in omega arith }
-
 -- one token of a `%token` list
 module _ (src : List ℕ) (s : State) (t : List ℕ) (r : Token) (q : r ≡ tokenAt src (s .at)) where
   pub token-found : (p : Place) (end : ℕ) (b : Bool) (o : Out1) → r ≡ Found p end b → o ≡ behind1 src false end (enterStep src s (p .from) (p .to) true t) → o ≡ tokenItem src s t

@@ -1,2 +1,6 @@
 pub mod Laws
 pub mod Far
+pub mod Marks
+pub mod Items
+pub mod Meaning
+pub mod Goes

@@ -96,3 +96,12 @@ enterAt NoRow n a b d t = entered (addRow n (a ∷ b ∷ flag d ∷ []) t .ok) n
 -- "1 tokens (place, declared by `%token` or not)": the token's row, new or found; a found one is marked if it is declared now
 unfoldable pub enterToken : List ℕ → ℕ → ℕ → ℕ → Bool → List ℕ → Inserted
 enterToken src n a b d t = enterAt (findName src (width tokens) 0 n t a b) n a b d t
+
+-- document 01's number and values: 1 and the row that was found, or 0; how many rows there are now, or "42 no room"
+abbrev pub foundNumbers : Found → List ℕ
+foundNumbers (RowAt r) = 1 ∷ r ∷ []
+foundNumbers NoRow = 0 ∷ 0 ∷ []
+
+abbrev pub enteredNumbers : Entered → List ℕ
+enteredNumbers (Rows n) = 0 ∷ n ∷ []
+enteredNumbers Full = 42 ∷ 0 ∷ []

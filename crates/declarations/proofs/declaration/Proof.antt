@@ -4,8 +4,9 @@ use mathlib.Core.Path.{_≡_, refl, ap}
 use native.Mathlib.Omega.{arith}
 use denote.Ref.{now}
 use Rattle.keywords.specs.declared.Keyword.the-variants.{Percents, TokenWord, ActiontypeWord, StartWord, EppWord, ExpectRrWord, ExpectUnusedWord, ExpectWord, AvoidInsertWord, ParseParamWord, ParseGenericsWord, ImplicitTokensWord, LeftWord, RightWord, NonassocWord, NoKeyword}
+use Rattle.grammar.proofs.Steps.{stays-put}
 use Rattle.declarations.specs.Declarations.{Declared, in0, in1, in6, in10, in2-10, in5-10, in1-3-10, in1-4-10}
-use Rattle.declarations.proofs.Laws.{arm, further, stays-put}
+use Rattle.declarations.proofs.Laws.{arm, further}
 use borrow.Author.Needs.{needs}
 use Rattle.declarations.proofs.declaration.Statement.{statement}
 use Rattle.declarations.proofs.declaration.Tie as tie
@@ -118,7 +119,7 @@ returns : tie.Need-returns
 returns c =
     let l = c .before .before in
     let e = c .enum-told .given .1 in
-    (arm _ _ _ (tables l) _ (l .look .ensures .0) Percents _ e refl, stays-put _ _ _ (l .before .before .before .before .before .before .before .before .before .pre) (λ z. clash (cc)))
+    (arm _ _ _ (tables l) _ (l .look .ensures .0) Percents _ e refl, stays-put _ _ _ (l .before .before .before .before .before .before .before .before .before .pre .within) (λ z. clash (cc)))
 
 same-length : tie.Need-same-length
 same-length c = search needs
@@ -296,7 +297,7 @@ returns-16 : tie.Need-returns-16
 returns-16 c =
     let l = c .before .before in
     let e = c .enum-told16 .given .1 in
-    (arm _ _ _ (tables l) _ (l .look .ensures .0) NoKeyword _ e refl, stays-put _ _ _ (l .before .before .before .before .before .before .before .before .before .pre) (λ z. clash (cc)))
+    (arm _ _ _ (tables l) _ (l .look .ensures .0) NoKeyword _ e refl, stays-put _ _ _ (l .before .before .before .before .before .before .before .before .before .pre .within) (λ z. clash (cc)))
 
 pub declaration-spec : {M : Type 1} → statement M
 declaration-spec =

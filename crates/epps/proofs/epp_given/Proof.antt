@@ -2,7 +2,7 @@
 use native.Mathlib.Omega.{arith}
 use borrow.Author.Needs.{needs}
 use Rattle.epps.specs.Epps.{eppGiven}
-use Rattle.epps.proofs.Laws.{behind}
+use Rattle.grammar.proofs.Steps.{behind-two}
 use Rattle.epps.proofs.epp_given.Statement.{statement}
 use Rattle.epps.proofs.epp_given.Tie as tie
 
@@ -10,7 +10,7 @@ given : tie.Need-returns
 unfolding eppGiven
 given c =
     let p = c .before .before .before .before .before in
-    (behind _ _ _ _ _ _ _ _ _ (p .once .ensures .0) (c .pass-on .ensures .0), rw (p .once .ensures .1) at (c .pass-on .ensures .1))
+    (behind-two _ _ _ _ _ _ (c .pass-on .ensures .0) _ _ _ (p .once .ensures .0), rw (p .once .ensures .1) at (c .pass-on .ensures .1))
 
 pub epp-given-spec : {M : Type 1} → statement M
 epp-given-spec =

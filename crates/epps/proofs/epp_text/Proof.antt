@@ -3,7 +3,8 @@ use native.Mathlib.Omega.{arith}
 use borrow.Author.Needs.{needs}
 use Rattle.scan.proofs.Bytes.{told}
 use Rattle.words.specs.Strings.{Stringed}
-use Rattle.epps.proofs.Laws.{nearer, halts, text-closed, text-not-opened, text-line, text-escape, text-not-closed}
+use Rattle.grammar.proofs.Steps.{nearer, refused-stays}
+use Rattle.epps.proofs.Laws.{text-closed, text-not-opened, text-line, text-escape, text-not-closed}
 use Rattle.epps.proofs.epp_text.Statement.{statement}
 use Rattle.epps.proofs.epp_text.Tie as tie
 
@@ -63,7 +64,7 @@ epp-text-spec =
     (λ c. search needs)
     (λ c. search needs)
     closed
-    (λ c. (text-not-opened _ _ _ _ _ _ _ _ _ _ (c .before .before .before .parse-string .ensures .0) _ (c .before .k .given .1), halts _ _ _ _))
-    (λ c. (text-line _ _ _ _ _ _ _ _ _ _ (c .before .before .before .parse-string .ensures .0) _ (c .before .k2 .given .1), halts _ _ _ _))
-    (λ c. (text-escape _ _ _ _ _ _ _ _ _ _ (c .before .before .before .parse-string .ensures .0) _ (c .before .k3 .given .1), halts _ _ _ _))
-    (λ c. (text-not-closed _ _ _ _ _ _ _ _ _ _ (c .before .before .before .parse-string .ensures .0) _ (c .before .k4 .given .1), halts _ _ _ _)))
+    (λ c. (text-not-opened _ _ _ _ _ _ _ _ _ _ (c .before .before .before .parse-string .ensures .0) _ (c .before .k .given .1), refused-stays _ _ _ _))
+    (λ c. (text-line _ _ _ _ _ _ _ _ _ _ (c .before .before .before .parse-string .ensures .0) _ (c .before .k2 .given .1), refused-stays _ _ _ _))
+    (λ c. (text-escape _ _ _ _ _ _ _ _ _ _ (c .before .before .before .parse-string .ensures .0) _ (c .before .k3 .given .1), refused-stays _ _ _ _))
+    (λ c. (text-not-closed _ _ _ _ _ _ _ _ _ _ (c .before .before .before .parse-string .ensures .0) _ (c .before .k4 .given .1), refused-stays _ _ _ _)))

@@ -3,7 +3,8 @@ use native.Mathlib.Omega.{arith}
 use borrow.Author.Needs.{needs}
 use Rattle.scan.proofs.Bytes.{told}
 use Rattle.grammar.specs.State.{Gapped}
-use Rattle.epps.proofs.Laws.{nearer, halts, value-at, value-refused}
+use Rattle.grammar.proofs.Steps.{nearer, refused-stays}
+use Rattle.epps.proofs.Laws.{value-at, value-refused}
 use Rattle.epps.proofs.epp_value.Statement.{statement}
 use Rattle.epps.proofs.epp_value.Tie as tie
 
@@ -32,4 +33,4 @@ epp-value-spec =
     (λ c. search needs)
     (λ c. search needs)
     text
-    (λ c. (value-refused _ _ _ _ _ _ _ _ _ (c .before .before .before .pass-gap .ensures .0) _ (c .before .f .given .1), halts _ _ _ _)))
+    (λ c. (value-refused _ _ _ _ _ _ _ _ _ (c .before .before .before .pass-gap .ensures .0) _ (c .before .f .given .1), refused-stays _ _ _ _)))

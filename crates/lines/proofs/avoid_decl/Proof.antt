@@ -3,7 +3,8 @@ use native.Mathlib.Omega.{arith}
 use borrow.Author.Needs.{needs}
 use Rattle.scan.proofs.Bytes.{told}
 use Rattle.grammar.specs.State.{Gapped}
-use Rattle.lines.proofs.Laws.{gap-passed, avoid-end, avoid-line, avoid-gap}
+use Rattle.grammar.proofs.Steps.{gap-passed, passed-on}
+use Rattle.lines.proofs.Laws.{avoid-end, avoid-line, avoid-gap}
 use Rattle.lines.proofs.avoid_decl.Statement.{statement}
 use Rattle.lines.proofs.avoid_decl.Tie as tie
 
@@ -23,7 +24,7 @@ line c =
     let k = p .before .before .before .before .before in
     let g = k .before .before in
     let e = k .i .given .1 in
-    (avoid-line _ _ _ _ _ _ _ (g .before .if1 .left) _ (g .pass-gap .ensures .0) _ _ _ e (p .avoid-list .ensures .0), gap-passed _ _ _ _ _ _ (g .pass-gap .ensures .1) e (p .avoid-list .ensures .1))
+    (avoid-line _ _ _ _ _ _ _ (g .before .if1 .left) _ (g .pass-gap .ensures .0) _ _ _ e (p .avoid-list .ensures .0), passed-on _ _ _ _ (gap-passed _ _ _ _ _ (g .pass-gap .ensures .1) e) (p .avoid-list .ensures .1))
 
 refused : tie.Need-returns-3
 refused c =

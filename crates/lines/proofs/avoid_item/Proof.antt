@@ -4,7 +4,8 @@ use native.Mathlib.Omega.{arith}
 use borrow.Author.Needs.{needs}
 use Rattle.scan.proofs.Bytes.{told}
 use Rattle.words.specs.Words.{Tokened}
-use Rattle.lines.proofs.Laws.{item-moves, item-stays, avoid-found, avoid-none}
+use Rattle.grammar.proofs.Steps.{refused-put}
+use Rattle.lines.proofs.Laws.{item-moves, avoid-found, avoid-none}
 use Rattle.lines.proofs.avoid_item.Statement.{statement}
 use Rattle.lines.proofs.avoid_item.Tie as tie
 
@@ -41,13 +42,13 @@ found c =
     let p = k .before .before in
     let e = k .p .given .1 in (
       avoid-found _ _ _ _ _ _ _ _ (p .parse-token .ensures .0) _ _ _ _ e (n .avoid-named .ensures .0),
-      item-moves _ _ _ _ _ _ _ _ _ (p .before .before .before .before .before .pre .within) (p .parse-token .ensures .1) e refl (n .avoid-named .ensures .1),
+      item-moves _ _ _ _ _ _ _ _ _ (p .parse-token .ensures .1) e refl (n .avoid-named .ensures .1),
     )
 
 none : tie.Need-returns-2
 none c =
     let p = c .before .before .before in
-    (avoid-none _ _ _ _ _ _ _ _ (p .parse-token .ensures .0) _ (c .before .i .given .1), item-stays _ _ _ (p .before .before .before .before .before .pre .within))
+    (avoid-none _ _ _ _ _ _ _ _ (p .parse-token .ensures .0) _ (c .before .i .given .1), refused-put _ _ _ (p .before .before .before .before .before .pre .within))
 
 pub avoid-item-spec : {M : Type 1} → statement M
 avoid-item-spec =

@@ -6,7 +6,7 @@ use borrow.Author.Needs.{needs}
 use Rattle.scan.proofs.Bytes.{told}
 use Rattle.grammar.specs.State.{Onward}
 use Rattle.grammar.proofs.Steps.{stays}
-use Rattle.lines.proofs.Laws.{onward-from, avoid-entered, enter-done, enter-refused}
+use Rattle.lines.proofs.Laws.{avoid-entered, enter-done, enter-refused}
 use Rattle.lines.proofs.avoid_named.Statement.{statement}
 use Rattle.lines.proofs.avoid_named.Tie as tie
 
@@ -19,7 +19,7 @@ entered c =
     let k = o .before .before .before .before in
     let e = k .before .before .before .before .before in (
       avoid-entered _ _ _ _ _ _ _ _ _ _ _ (e .enter .ensures .0) _ _ (k .enum-told .given .1) (o .once .ensures .0) (c .pass-on .ensures .0),
-      onward-from (o .once .ensures .1 ∙ e .enter .ensures .1) (c .pass-on .ensures .1),
+      rw (o .once .ensures .1 ∙ e .enter .ensures .1) at (c .pass-on .ensures .1),
     )
 
 done : tie.Need-returns-2

@@ -3,7 +3,8 @@ use native.Mathlib.Omega.{arith}
 use borrow.Author.Needs.{needs}
 use Rattle.scan.proofs.Bytes.{told}
 use Rattle.grammar.specs.State.{Gapped}
-use Rattle.lines.proofs.Laws.{gap-passed, prec-line, prec-gap}
+use Rattle.grammar.proofs.Steps.{gap-passed, passed-on}
+use Rattle.lines.proofs.Laws.{prec-line, prec-gap}
 use Rattle.lines.proofs.prec_decl.Statement.{statement}
 use Rattle.lines.proofs.prec_decl.Tie as tie
 
@@ -20,7 +21,7 @@ line c =
     let n = p .before .before .before in
     let g = n .before .before .before .before in
     let e = n .before .before .i .given .1 in
-    (prec-line _ _ _ _ _ _ (g .pass-gap .ensures .0) _ _ _ _ e (n .next-level .ensures) (p .prec-list .ensures .0), gap-passed _ _ _ _ _ _ (g .pass-gap .ensures .1) e (p .prec-list .ensures .1))
+    (prec-line _ _ _ _ _ _ (g .pass-gap .ensures .0) _ _ _ _ e (n .next-level .ensures) (p .prec-list .ensures .0), passed-on _ _ _ _ (gap-passed _ _ _ _ _ (g .pass-gap .ensures .1) e) (p .prec-list .ensures .1))
 
 refused : tie.Need-returns-2
 refused c =

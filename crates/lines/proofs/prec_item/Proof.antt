@@ -3,7 +3,8 @@ use native.Mathlib.Omega.{arith}
 use borrow.Author.Needs.{needs}
 use Rattle.scan.proofs.Bytes.{told}
 use Rattle.words.specs.Words.{Tokened}
-use Rattle.lines.proofs.Laws.{item-moves, item-stays, prec-found, prec-none}
+use Rattle.grammar.proofs.Steps.{refused-put}
+use Rattle.lines.proofs.Laws.{item-moves, prec-found, prec-none}
 use Rattle.lines.proofs.prec_item.Statement.{statement}
 use Rattle.lines.proofs.prec_item.Tie as tie
 
@@ -39,13 +40,13 @@ found c =
     let p = k .before .before in
     let e = k .p .given .1 in (
       prec-found _ _ _ _ _ _ _ (p .parse-token .ensures .0) _ _ _ _ _ e (o .once .ensures .0) (c .pass-on .ensures .0),
-      item-moves _ _ _ _ _ _ _ _ _ (p .before .before .before .before .pre .within) (p .parse-token .ensures .1) e (o .once .ensures .1) (c .pass-on .ensures .1),
+      item-moves _ _ _ _ _ _ _ _ _ (p .parse-token .ensures .1) e (o .once .ensures .1) (c .pass-on .ensures .1),
     )
 
 none : tie.Need-returns-2
 none c =
     let p = c .before .before .before in
-    (prec-none _ _ _ _ _ _ _ (p .parse-token .ensures .0) _ (c .before .k .given .1), item-stays _ _ _ (p .before .before .before .before .pre .within))
+    (prec-none _ _ _ _ _ _ _ (p .parse-token .ensures .0) _ (c .before .k .given .1), refused-put _ _ _ (p .before .before .before .before .pre .within))
 
 pub prec-item-spec : {M : Type 1} → statement M
 prec-item-spec =

@@ -3,7 +3,8 @@ use native.Mathlib.Omega.{arith}
 use borrow.Author.Needs.{needs}
 use Rattle.scan.proofs.Bytes.{told}
 use Rattle.words.specs.Words.{Tokened}
-use Rattle.lists.proofs.Laws.{behind, moves, stays-put, token-found, token-none}
+use Rattle.lists.proofs.Laws.{token-found, token-none}
+use Rattle.grammar.proofs.Steps.{behind-one, moves, refused-put}
 use Rattle.lists.proofs.token_item.Statement.{statement}
 use Rattle.lists.proofs.token_item.Tie as tie
 
@@ -37,14 +38,14 @@ found c =
     let w = e .before .before .before .before .before in
     let p = w .before .before in
     let h = told (Tokened _ _) (w .p .given .1) (p .parse-token .ensures .1) in (
-      token-found _ _ _ _ (p .parse-token .ensures .0) _ _ _ _ (w .p .given .1) (behind _ _ _ _ _ _ _ _ (e .enter .ensures .0) (c .pass-on .ensures .0)),
+      token-found _ _ _ _ (p .parse-token .ensures .0) _ _ _ _ (w .p .given .1) (behind-one _ _ _ _ _ _ (c .pass-on .ensures .0) _ _ (e .enter .ensures .0)),
       moves _ _ _ _ _ _ (e .enter .ensures .1) (omega arith) (h .3) (c .pass-on .ensures .1),
     )
 
 none : tie.Need-returns-2
 none c =
     let p = c .before .before .before in
-    (token-none _ _ _ _ (p .parse-token .ensures .0) _ (c .before .k .given .1), stays-put _ _ _ (p .before .before .before .pre .within))
+    (token-none _ _ _ _ (p .parse-token .ensures .0) _ (c .before .k .given .1), refused-put _ _ _ (p .before .before .before .pre .within))
 
 pub token-item-spec : {M : Type 1} → statement M
 token-item-spec =

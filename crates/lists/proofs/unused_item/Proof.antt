@@ -4,7 +4,8 @@ use mathlib.Core.Path.{refl}
 use borrow.Author.Needs.{needs}
 use Rattle.scan.proofs.Bytes.{told}
 use Rattle.words.specs.Words.{Named, Tokened}
-use Rattle.lists.proofs.Laws.{moves, stays-put, unused-name, unused-token, unused-none}
+use Rattle.grammar.proofs.Steps.{moves, refused-put}
+use Rattle.lists.proofs.Laws.{unused-name, unused-token, unused-none}
 use Rattle.lists.proofs.unused_item.Statement.{statement}
 use Rattle.lists.proofs.unused_item.Tie as tie
 
@@ -67,7 +68,7 @@ none : tie.Need-returns-3
 none c =
     let p = c .before .before .before in
     let n = p .before .before .before in
-    (unused-none _ _ _ _ (n .parse-name .ensures .0) _ (p .before .enum-told .given .1) _ (p .parse-token .ensures .0) _ (c .before .k .given .1), stays-put _ _ _ (n .before .before .before .pre .within))
+    (unused-none _ _ _ _ (n .parse-name .ensures .0) _ (p .before .enum-told .given .1) _ (p .parse-token .ensures .0) _ (c .before .k .given .1), refused-put _ _ _ (n .before .before .before .pre .within))
 
 pub unused-item-spec : {M : Type 1} → statement M
 unused-item-spec =

@@ -1,7 +1,7 @@
 -- `lists::unused_row` meets its contract: a row more, and the spacing behind it. Assumes nothing.
 use borrow.Author.Needs.{needs}
 use Rattle.lists.specs.Lists.{unusedRow}
-use Rattle.lists.proofs.Laws.{behind}
+use Rattle.grammar.proofs.Steps.{behind-one}
 use Rattle.lists.proofs.unused_row.Statement.{statement}
 use Rattle.lists.proofs.unused_row.Tie as tie
 
@@ -9,7 +9,7 @@ row : tie.Need-returns
 unfolding unusedRow
 row c =
     let p = c .before .before .before in
-    (behind _ _ _ _ _ _ _ _ (p .push .ensures .0) (c .pass-on .ensures .0), rw (p .push .ensures .1) at (c .pass-on .ensures .1))
+    (behind-one _ _ _ _ _ _ (c .pass-on .ensures .0) _ _ (p .push .ensures .0), rw (p .push .ensures .1) at (c .pass-on .ensures .1))
 
 pub unused-row-spec : {M : Type 1} → statement M
 unused-row-spec =

@@ -1,0 +1,4 @@
+pub mod Symbols
+pub mod Marks
+pub mod Turns
+pub mod Far

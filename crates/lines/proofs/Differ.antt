@@ -1,0 +1,85 @@
+-- Two precedence lists in one source: a line end that is counted ends the first, and the second has a level of its own. Assumes nothing.
+use Prim.Native.Nat.{ℕ, _+_, _≤_, _<_}
+use mathlib.Core.Path.{_≡_, ap}
+use mathlib.Core.List.{List}
+use mathlib.Core.Bool.{Bool, true, false}
+use native.Mathlib.Omega.{arith}
+use lib.ListN.{length, getD}
+use Rattle.scan.specs.declared.Place.{Place}
+use Rattle.scan.proofs.Bytes.{told}
+use Rattle.spacing.specs.declared.Spaced.the-variants.{To}
+use Rattle.spacing.specs.Spacing.{spacesAt, Spaces}
+use Rattle.spacing.proofs.Places.{spaces}
+use Rattle.words.specs.declared.Token.the-variants.{Found}
+use Rattle.words.specs.Words.{tokenAt}
+use Rattle.tables.specs.Rows.{rowAt}
+use Rattle.tables.specs.Layout.{precedences, level, width}
+use Rattle.grammar.specs.declared.State.{State}
+use Rattle.grammar.specs.declared.Answer.the-variants.{Going}
+use Rattle.grammar.specs.State.{Out2, count, withAt}
+use Rattle.grammar.proofs.Steps.{level-up}
+use Rattle.lines.specs.Line.{Listed, In, LineAt}
+use Rattle.lines.specs.Precedences.{precDecl}
+use Rattle.lines.proofs.Levels.{levelAt}
+use Rattle.lines.proofs.Line.{word-placed, words-inside, counted-last}
+use Rattle.lines.proofs.Grown.{Grown, RowOf}
+use Rattle.lines.proofs.Read.{precRow, RowFrom, line-kept, line-words, line-level, line-ten, line-rows}
+
+-- Two lists: the first stands behind a keyword that ends at the index at₁, with the association a, and is read from s₀ to s₁; the second stands behind one that
+-- ends at at₂, with b, and ends in s₂, whatever its answer. Table 2 behind both is t.
+pub record TwoLists (src : List ℕ) (at₁ a at₂ b : ℕ) (s₀ s₁ s₂ : State) (t : List ℕ) : Type 0 where
+  -- the first is a line as it stands in the source,
+  pub line : LineAt src at₁ (s₁ .at)
+  -- and where a line end is counted behind a word of it, it is at its end;
+  pub stops : (w : Listed) → In w (line .words) → (k n : ℕ) → spacesAt true src (w .end) ≡ To k n → 0 < n → k ≡ s₁ .at
+  -- its rows are rows of its words, with its level and association,
+  pub first : (r : ℕ) → count s₀ precedences ≤ r → r < count s₁ precedences → RowOf (precRow (s₀ .level) a) (line .words) (rowAt (width precedences) t r)
+  -- and not of a token that stands behind it;
+  pub behind : (r : ℕ) → count s₀ precedences ≤ r → r < count s₁ precedences → (i : ℕ) → s₁ .at ≤ i → (p : Place) (end : ℕ) (quoted : Bool) → tokenAt src i ≡ Found p end quoted → getD (rowAt (width precedences) t r) 0 0 < p .from
+  -- the rows of the second are rows of tokens behind its keyword, with the next level and its association,
+  pub second : (r : ℕ) → count s₁ precedences ≤ r → r < count s₂ precedences → RowFrom src (s₀ .level + 1) b at₂ (rowAt (width precedences) t r)
+  -- so no row of the one has the level of a row of the other.
+  pub levels : (q r : ℕ) → count s₀ precedences ≤ q → q < count s₁ precedences → count s₁ precedences ≤ r → r < count s₂ precedences → levelAt t q < levelAt t r
+
+module _ (src : List ℕ) (s : State) (a : ℕ) (t2 t10 : List ℕ) (here : s .at ≤ length src) (ten : length (s .counts .n) ≡ 10) (low : s .level < 4294967295) (g : precDecl src s a t2 t10 .answer ≡ Going) where
+  abbrev one : Out2
+  one = precDecl src s a t2 t10
+
+  -- the second list's keyword may end at any index
+  module _ (i : ℕ) (inside : i ≤ length src) (b : ℕ) where
+    abbrev two : Out2
+    two = precDecl src (withAt (one .state) i) b (one .a) (one .b)
+
+    -- Two precedence lists never share a level, and what stands behind a line end that is counted is not in the first.
+    pub left-lists-differ : TwoLists src (s .at) a i b s (one .state) (two .state) (two .a)
+    left-lists-differ =
+        record {
+          line = l;
+          stops = λ w h k n e c. counted-last src (l .line) w h k n e c .0;
+          first = first;
+          behind = behind;
+          second = second;
+          levels = λ q r x y z v. let e = levelOf (first q x y .is) in let f = levelOf (second r z v .is) in rw (e, f) (omega arith);
+        }
+      where
+        l : LineAt src (s .at) (one .state .at)
+        l = line-words src s a t2 t10 here ten g
+
+        rest : Grown (RowFrom src (one .state .level) b i) (width precedences) (count (one .state) precedences) (one .a) (count (two .state) precedences) (two .a)
+        rest = line-kept src (withAt (one .state) i) b (one .a) (one .b) (line-ten src s a t2 t10 here ten g) i (λ k n e. let x = told (Spaces src i) e (spaces false src i inside) in omega (arith, x .0))
+
+        first : (r : ℕ) → count s precedences ≤ r → r < count (one .state) precedences → RowOf (precRow (s .level) a) (l .words) (rowAt (width precedences) (two .a) r)
+        first r x y = rw (rest .old r y) (line-rows src s a t2 t10 here ten g l .rows .new r x y)
+
+        behind : (r : ℕ) → count s precedences ≤ r → r < count (one .state) precedences → (i : ℕ) → one .state .at ≤ i → (p : Place) (end : ℕ) (quoted : Bool) → tokenAt src i ≡ Found p end quoted → getD (rowAt (width precedences) (two .a) r) 0 0 < p .from
+        behind r x y i h p end quoted e =
+            let w = first r x y in
+            let n = words-inside src (l .line) (w .word) (w .listed) in
+            let m = word-placed src i p end quoted e in
+            rw (w .is) (omega (arith, n .some, n .ends, n .before, m .0))
+
+        second : (r : ℕ) → count (one .state) precedences ≤ r → r < count (two .state) precedences → RowFrom src (s .level + 1) b i (rowAt (width precedences) (two .a) r)
+        second r x y = rw (level-up (s .level) low, ← line-level src s a t2 t10 here ten g) (rest .new r x y)
+
+        levelOf : {x : List ℕ} {lev assoc : ℕ} {p : Place} → x ≡ precRow lev assoc p → getD x level 0 ≡ lev
+        levelOf e = ap (λ (z : List ℕ). getD z level 0) e
