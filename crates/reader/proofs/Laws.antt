@@ -1,0 +1,144 @@
+-- The whole read: what it came to, one law for each answer. Assumes nothing.
+use Prim.Native.Nat.{ℕ, _≤_, _<_}
+use mathlib.Core.Path.{_≡_, sym, ap}
+use mathlib.Core.List.{List}
+use mathlib.Core.Bool.{true, false, _||_}
+use native.Mathlib.Omega.{arith}
+use mir.Syntax.{w32}
+use mir.Val.{Fits}
+use lib.Dec.{ltb}
+use lib.ListN.{length}
+use borrow.Author.Tests.{lt-ltb, le-ltb, eq-eqb, ne-eqb}
+use Rattle.scan.proofs.Bytes.{told}
+use Rattle.whole.specs.declared.Checked.{Checked}
+use Rattle.whole.specs.declared.Checked.the-variants.{Good, BadAt}
+use Rattle.whole.specs.Whole.{checkAt, Below}
+use Rattle.tables.specs.Table.{zeroed, cell}
+use Rattle.tables.specs.Layout.{repeats, width}
+use Rattle.grammar.specs.declared.Singles.{Singles}
+use Rattle.grammar.specs.declared.State.{State}
+use Rattle.grammar.specs.declared.Cause.the-variants.{NotUtf8, PrematureEnd}
+use Rattle.grammar.specs.declared.Refusal.{Refusal}
+use Rattle.grammar.specs.declared.Refusal.the-variants.{Fault, Repeated, TooLong, BadKind}
+use Rattle.grammar.specs.declared.Answer.{Answer}
+use Rattle.grammar.specs.declared.Answer.the-variants.{Going, Done, Refused}
+use Rattle.grammar.specs.State.{Out0, Here, Passed, count, fresh, noSingles}
+use Rattle.grammar.specs.Sound.{Tables}
+use Rattle.declarations.specs.Declarations.{Out, declAll}
+use Rattle.rules.specs.Rules.{Ruled, rulesAll, programsFrom}
+use Rattle.reader.specs.declared.Admission.{Admission}
+use Rattle.reader.specs.declared.Admission.the-variants.{Fit, Unfit}
+use Rattle.reader.specs.declared.Verdict.the-variants.{Accepted, Rejected}
+use Rattle.reader.specs.declared.Reading.{Reading}
+use Rattle.reader.specs.Read.{Run, Result, Short, admitted, ranProgram, restAll, declared, withDeclared, withRuled, sectionsAll, attempted, onlyRepeats, stoppedAt, endedAt, result, finished, readAll}
+
+-- kind, length, UTF-8
+module _ (src : List ℕ) (kind : ℕ) where
+  pub bad-kind : (ltb kind 1 || ltb 3 kind) ≡ true → Unfit BadKind ≡ admitted src kind
+  unfolding admitted
+  bad-kind e = rw (admitted, e)
+
+  module _ (k : (ltb kind 1 || ltb 3 kind) ≡ false) where
+    pub too-long : 65536 < length src → Unfit TooLong ≡ admitted src kind
+    unfolding admitted
+    too-long h = rw (admitted, k, lt-ltb _ _ h)
+
+    module _ (h : length src ≤ 65536) (w : Checked) (q : w ≡ checkAt src 0) where
+      pub is-text : w ≡ Good → Fit ≡ admitted src kind
+      unfolding admitted
+      is-text e = rw (admitted, k, le-ltb _ _ h, ← q, e)
+
+      pub no-text : (i : ℕ) → w ≡ BadAt i → Unfit (Fault NotUtf8 i) ≡ admitted src kind
+      unfolding admitted
+      no-text i e = rw (admitted, k, le-ltb _ _ h, ← q, e)
+
+-- a byte of a source that is not too long is a 32-bit place
+pub bad-byte : (src : List ℕ) (w : Checked) (i : ℕ) → length src ≤ 65536 → Below (length src) w → w ≡ BadAt i → Fits w32 i
+bad-byte src w i h x e = let k = told (Below (length src)) e x in omega arith
+
+-- rules, then programs
+module _ (src : List ℕ) (kind : ℕ) (s : State) (t1 t7 t8 t9 : List ℕ) (o : Ruled) (q : o ≡ rulesAll src kind s t1 t7 t8 t9) where
+  pub rest-going : (z : Out0) → o .answer ≡ Going → z ≡ programsFrom src (o .state) → ranProgram z o ≡ restAll src kind s t1 t7 t8 t9
+  unfolding restAll
+  rest-going z e h = rw (← q, e) (ap (λ (y : Out0). ranProgram y o) h)
+
+  pub rest-done : o .answer ≡ Done → ranProgram (record { answer = Done; state = o .state }) o ≡ restAll src kind s t1 t7 t8 t9
+  unfolding restAll
+  rest-done e = rw (← q, e)
+
+  pub rest-refused : (f : Refusal) → o .answer ≡ Refused f → ranProgram (record { answer = Refused f; state = o .state }) o ≡ restAll src kind s t1 t7 t8 t9
+  unfolding restAll
+  rest-refused f e = rw (← q, e)
+
+-- declarations, then the rest
+module _ (src : List ℕ) (kind : ℕ) (s : State) (T : Tables) (o : Out) (q : o ≡ declAll src kind s (declared T)) where
+  pub sections-going : o .answer ≡ Going → record { answer = Refused (Fault PrematureEnd (o .state .at)); state = o .state; tables = withDeclared T (o .tables) } ≡ sectionsAll src kind s T
+  unfolding sectionsAll
+  sections-going e = rw (← q, e)
+
+  pub sections-done : (r : Ruled) → o .answer ≡ Done → r ≡ restAll src kind (o .state) (o .tables .t1) (T .t7) (T .t8) (T .t9) → withRuled (o .tables) r ≡ sectionsAll src kind s T
+  unfolding sectionsAll
+  sections-done r e h = rw (← q, e) (ap (withRuled (o .tables)) h)
+
+  pub sections-refused : (f : Refusal) → o .answer ≡ Refused f → record { answer = Refused f; state = o .state; tables = withDeclared T (o .tables) } ≡ sectionsAll src kind s T
+  unfolding sectionsAll
+  sections-refused f e = rw (← q, e)
+
+-- a source that can be read is begun at its begin, and no reading leaves it
+module _ (src : List ℕ) (a : Admission) (x : Short src a) (e : a ≡ Fit) where
+  pub fit-here : (s : State) → s ≡ fresh → Here src (s .at)
+  fit-here s b = told (λ (y : State). Here src (y .at)) (sym b) (record { within = omega arith; short = told (Short src) e x })
+
+  pub fit-near : (i j : ℕ) → Passed src i j → j ≤ 65536
+  fit-near i j p =
+      let h = told (Short src) e x in
+      let k = p .inside in
+      omega arith
+
+pub begun-near : (s : State) → s ≡ fresh → s .at ≤ 65536
+begun-near s b = told (λ (y : State). y .at ≤ 65536) (sym b) (omega arith)
+
+-- its sections
+module _ (src : List ℕ) (kind : ℕ) (T : Tables) (s : State) (b : s ≡ fresh) (a : Admission) (q : a ≡ admitted src kind) where
+  pub attempt-fit : (r : Run) → a ≡ Fit → r ≡ sectionsAll src kind s T → r ≡ attempted src kind T
+  unfolding attempted
+  attempt-fit r e h = rw (← q, e) (rw b at h)
+
+  pub attempt-unfit : (f : Refusal) → a ≡ Unfit f → record { answer = Refused f; state = s; tables = T } ≡ attempted src kind T
+  unfolding attempted
+  attempt-unfit f e = rw (← q, e, b)
+
+-- after a fatal refusal
+pub stopped-at : (s : State) (f : Refusal) (n : ℕ) (g : Singles) → n ≡ count s repeats → g ≡ noSingles → record { answer = Rejected f; counts = onlyRepeats n; singles = g } ≡ stoppedAt s f
+stopped-at s f n g c e = rw (c, e)
+
+-- the end of a read that ended
+module _ (s : State) (t10 : List ℕ) (n : ℕ) (c : n ≡ count s repeats) where
+  pub accepted : n ≡ 0 → record { answer = Accepted (s .at); counts = s .counts; singles = s .singles } ≡ endedAt s t10
+  unfolding endedAt
+  accepted e = rw (endedAt, ← c, eq-eqb _ _ e)
+
+  pub repeated : (x y z : ℕ) → (n ≡ 0 → ⊥) → x ≡ cell (width repeats) t10 0 0 → y ≡ cell (width repeats) t10 0 1 → z ≡ cell (width repeats) t10 0 2
+      → record { answer = Rejected (Repeated x y z); counts = s .counts; singles = s .singles } ≡ endedAt s t10
+  unfolding endedAt
+  repeated x y z e g h k = rw (endedAt, ← c, ne-eqb _ _ e, g, h, k)
+
+-- tables 1 to 9 without anything in them
+abbrev Nine : Tables → Tables → Type 0
+Nine Z T = (Z .t1 ≡ zeroed (T .t1)) × (Z .t2 ≡ zeroed (T .t2)) × (Z .t3 ≡ zeroed (T .t3)) × (Z .t4 ≡ zeroed (T .t4)) × (Z .t5 ≡ zeroed (T .t5)) × (Z .t6 ≡ zeroed (T .t6)) × (Z .t7 ≡ zeroed (T .t7)) × (Z .t8 ≡ zeroed (T .t8)) × (Z .t9 ≡ zeroed (T .t9))
+
+-- the end of a read
+module _ (a : Answer) (s : State) (T : Tables) where
+  pub finish-going : (r : Reading) → a ≡ Going → r ≡ endedAt s (T .t10) → result r T ≡ finished a s T
+  finish-going r e h = rw e (ap (λ (y : Reading). result y T) h)
+
+  pub finish-done : (r : Reading) → a ≡ Done → r ≡ endedAt s (T .t10) → result r T ≡ finished a s T
+  finish-done r e h = rw e (ap (λ (y : Reading). result y T) h)
+
+  pub finish-refused : (f : Refusal) (r : Reading) (Z : Tables) → a ≡ Refused f → r ≡ stoppedAt s f → Nine Z T → Z .t10 ≡ T .t10 → result r Z ≡ finished a s T
+  finish-refused f r Z e h z k = rw (e, ← z .0, ← z .1, ← z .2, ← z .3, ← z .4, ← z .5, ← z .6, ← z .7, ← z .8, ← k) (ap (λ (y : Reading). result y Z) h)
+
+-- The read: on tables of zeros, then its end.
+pub read-ends : (src : List ℕ) (kind : ℕ) (T Z : Tables) (o : Run) (r : Result) → Nine Z T → Z .t10 ≡ zeroed (T .t10) → o ≡ attempted src kind Z → r ≡ finished (o .answer) (o .state) (o .tables) → r ≡ readAll src kind T
+unfolding readAll
+read-ends src kind T Z o r z k q h = rw (← z .0, ← z .1, ← z .2, ← z .3, ← z .4, ← z .5, ← z .6, ← z .7, ← z .8, ← k, ← q) h

@@ -1,0 +1,190 @@
+-- A read that was accepted, or refused for repeats only, is sound, and its end lies in the source; any other is cleared; and the contract allows one outcome.
+-- Assumes nothing.
+use Prim.Native.Nat.{ℕ, zero, suc, _≤_, _<_}
+use mathlib.Core.Path.{_≡_, refl, sym, ap, _∙_}
+use mathlib.Core.List.{List, []}
+use mathlib.Core.Bool.{_||_}
+use native.Mathlib.Omega.{arith}
+use lib.Dec.{ltb, eqb}
+use lib.ListN.{length, getD, replicate}
+use borrow.Author.Tests.{ltb-false}
+use Rattle.scan.proofs.Bytes.{on-test, told}
+use Rattle.whole.specs.declared.Checked.{Checked}
+use Rattle.whole.specs.declared.Checked.the-variants.{Good, BadAt}
+use Rattle.whole.specs.Whole.{checkAt}
+use Rattle.tables.specs.Table.{zeroed}
+use Rattle.tables.specs.Layout.{symbols, repeats}
+use Rattle.grammar.specs.declared.State.{State}
+use Rattle.grammar.specs.declared.Refusal.{Refusal}
+use Rattle.grammar.specs.declared.Answer.{Answer}
+use Rattle.grammar.specs.declared.Answer.the-variants.{Going, Done, Refused}
+use Rattle.grammar.specs.State.{count, withCount, fresh, noSingles}
+use Rattle.grammar.specs.Sound.{Tables, tab, setTab, zeroAll, Sound, Far}
+use Rattle.grammar.proofs.Far.{far-table, fresh-far, far-sound}
+use Rattle.items.proofs.Far.{Taken, going-taken, done-taken}
+use Rattle.declarations.specs.Declarations.{Out, declAll}
+use Rattle.declarations.proofs.Far.{FarAll, declarations-far}
+use Rattle.rules.specs.Rules.{Ruled, rulesAll}
+use Rattle.rules.proofs.Far.{Whole, WholeFar, rules-far, programs-far}
+use Rattle.reader.specs.declared.Verdict.{Verdict}
+use Rattle.reader.specs.declared.Verdict.the-variants.{Accepted, Rejected}
+use Rattle.reader.specs.declared.Admission.{Admission}
+use Rattle.reader.specs.declared.Admission.the-variants.{Fit, Unfit}
+use Rattle.reader.specs.declared.Reading.{Reading}
+use Rattle.reader.specs.Read.{Result, asText, admitted, restFrom, restAll, declared, withDeclared, sectionsFrom, sectionsAll, attemptOf, attempted, onlyRepeats, endedAt, clearNine, finished, finishedRun, readAll}
+use Rattle.reader.specs.Allowed.{Allowed, RepeatsOnly, Full, Cleared}
+use Rattle.reader.proofs.Lengths.{lengths, zero-lengths, sections-lengths}
+
+-- A source that can be read is not too long, and one that can't has no repeats.
+abbrev Admits : List ℕ → Admission → Type 0
+Admits src Fit = length src ≤ 65536
+Admits src (Unfit f) = RepeatsOnly f → ⊥
+
+admits : (src : List ℕ) (kind : ℕ) → Admits src (admitted src kind)
+unfolding admitted
+admits src kind =
+    on-test (Admits src) (ltb kind 1 || ltb 3 kind) _ _ (λ e x. x)
+    (λ e. on-test (Admits src) (ltb 65536 (length src)) _ _ (λ h x. x) (λ h. go (checkAt src 0) (ltb-false _ _ h)))
+  where
+    go : (c : Checked) → length src ≤ 65536 → Admits src (asText c)
+    go Good h = h
+    go (BadAt i) h = λ x. x
+
+-- Declarations count no symbol. They are sound so far beside any table 9, so beside one without room: none was counted.
+no-symbols : (src : List ℕ) (kind : ℕ) (T : Tables) → length src ≤ 65536 → count (declAll src kind fresh (declared (zeroAll T)) .state) symbols ≡ 0
+no-symbols src kind T h =
+    let U = zeroAll (setTab T symbols []) in
+    let f = declarations-far src 0 kind fresh (declared U) U (fresh-far src (setTab T symbols []) h) in
+    let l = f .tables symbols .fits in
+    omega arith
+
+-- The sections of a source: sound so far, and the productions' ranges end behind the last symbol unless a step was refused.
+sections-far : (src : List ℕ) (kind : ℕ) (T : Tables) → length src ≤ 65536 → let r = sectionsAll src kind fresh (zeroAll T) in Whole src (r .tables) (r .answer) (r .state)
+unfolding sectionsAll restAll
+sections-far src kind T h =
+    let U = zeroAll T in
+    let o = declAll src kind fresh (declared U) in
+    go (o .answer) o (declarations-far src 0 kind fresh (declared U) U (fresh-far src T h)) (no-symbols src kind T h)
+  where
+    rest : (a : Answer) (D : Tables) (r : Ruled) → r .answer ≡ a → WholeFar src D r → WholeFar src D (restFrom a src r)
+    rest Going D r e x = let p = programs-far (x .far) in record { done = x .done; far = p .far; whole = λ t. rw (p .counts) (x .whole (going-taken (r .answer) e)) }
+    rest Done D r e x = record { done = x .done; far = x .far; whole = λ t. x .whole (rw e t) }
+    rest (Refused f) D r e x = record { done = x .done; far = x .far; whole = λ t. x .whole (rw e t) }
+
+    go : (a : Answer) (o : Out) → FarAll src 0 (zeroAll T) o → count (o .state) symbols ≡ 0 → let r = sectionsFrom a src kind o (zeroAll T) in Whole src (r .tables) (r .answer) (r .state)
+    go Going o f e = record { done = 0; far = f; whole = λ t. sym e }
+    go Done o f e =
+        let D = withDeclared (zeroAll T) (o .tables) in
+        let r = rulesAll src kind (o .state) (D .t1) (D .t7) (D .t8) (D .t9) in
+        rest (r .answer) D r refl (rules-far D f (sym e) kind)
+    go (Refused r) o f e = record { done = 0; far = f; whole = λ t. sym e }
+
+-- what is sound
+abbrev SoundResult : List ℕ → Result → Type 0
+SoundResult src o = Sound src (o .counts) (o .singles) (o .tables)
+
+-- where a read stopped, repeats alone are left
+stopped-sound : {src : List ℕ} {done : ℕ} {s : State} {T : Tables} → Far src done s T → Sound src (onlyRepeats (count s repeats)) noSingles (clearNine T)
+stopped-sound {src} {done} {s} {T} f =
+    far-sound src (withCount fresh repeats (count s repeats)) (clearNine T) (far-table (fresh-far src T (f .short)) repeats (omega arith) (count s repeats) (omega arith) (T .t10) (λ e. omega arith) (f .tables repeats))
+
+finished-sound : {src : List ℕ} (a : Answer) (s : State) (T : Tables) → Whole src T a s → SoundResult src (finished a s T)
+unfolding endedAt
+finished-sound {src} a s T x = go a (x .whole)
+  where
+    ended : x .done ≡ count s symbols → SoundResult src (finished Going s T)
+    ended e =
+        let y = far-sound src s T (told (λ (n : ℕ). Far src n s T) e (x .far)) in
+        on-test (λ (r : Reading). Sound src (r .counts) (r .singles) T) (eqb (count s repeats) 0) _ _ (λ e. y) (λ e. y)
+
+    go : (a : Answer) → (Taken a → x .done ≡ count s symbols) → SoundResult src (finished a s T)
+    go Going w = ended (w (going-taken Going refl))
+    go Done w = ended (w (done-taken Done refl))
+    go (Refused f) w = stopped-sound (x .far)
+
+-- "An accepted read is sound", and so is one that was refused for repeats only.
+pub read-sound : (src : List ℕ) (kind : ℕ) (T : Tables) → Full (readAll src kind T .answer) → Sound src (readAll src kind T .counts) (readAll src kind T .singles) (readAll src kind T .tables)
+unfolding readAll attempted
+read-sound src kind T = go (admitted src kind) (admits src kind)
+  where
+    go : (m : Admission) → Admits src m → let o = finishedRun (attemptOf m src kind (zeroAll T)) in Full (o .answer) → SoundResult src o
+    go Fit h x = let r = sectionsAll src kind fresh (zeroAll T) in finished-sound (r .answer) (r .state) (r .tables) (sections-far src kind T h)
+    go (Unfit f) h x = absurd (h x)
+
+-- "0 accepted: read: end reached, twice"
+abbrev Within : List ℕ → Verdict → Type 0
+Within src (Accepted i) = i ≤ length src
+Within src (Rejected f) = Unit {0}
+
+read-within : (src : List ℕ) (kind : ℕ) (T : Tables) → Within src (readAll src kind T .answer)
+unfolding readAll attempted endedAt
+read-within src kind T = go (admitted src kind) (admits src kind)
+  where
+    ended : (s : State) (t : List ℕ) → s .at ≤ length src → Within src (endedAt s t .answer)
+    ended s t h = on-test (λ (r : Reading). Within src (r .answer)) (eqb (count s repeats) 0) _ _ (λ e. h) (λ e. tt)
+
+    end : (a : Answer) (s : State) (U : Tables) → s .at ≤ length src → Within src (finished a s U .answer)
+    end Going s U h = ended s (U .t10) h
+    end Done s U h = ended s (U .t10) h
+    end (Refused f) s U h = tt
+
+    go : (m : Admission) → Admits src m → Within src (finishedRun (attemptOf m src kind (zeroAll T)) .answer)
+    go Fit h = let r = sectionsAll src kind fresh (zeroAll T) in end (r .answer) (r .state) (r .tables) (sections-far src kind T h .far .here)
+    go (Unfit f) h = tt
+
+pub accepted-end : (src : List ℕ) (kind : ℕ) (T : Tables) (i : ℕ) → readAll src kind T .answer ≡ Accepted i → i ≤ length src
+accepted-end src kind T i e = rw e at (read-within src kind T)
+
+-- What is left of a read that stopped: tables as long as those it was given.
+cleared : (T U : Tables) (s : State) (f : Refusal) → lengths U ≡ lengths T → Cleared T (finished (Refused f) s U)
+cleared T U s f e = record { tables = zeros; counts = none; singles = refl }
+  where
+    -- table k + 1 of zeros
+    zero-at : (k : ℕ) → _≡_ {A = List ℕ} (replicate (getD (lengths U) k 0) 0) (replicate (getD (lengths T) k 0) 0)
+    zero-at k = ap (λ (l : List ℕ). replicate {A = ℕ} (getD l k 0) 0) e
+
+    zeros : (k : ℕ) → k < repeats → tab (clearNine U) k ≡ zeroed (tab T k)
+    zeros zero h = zero-at 0
+    zeros (suc zero) h = zero-at 1
+    zeros (suc (suc zero)) h = zero-at 2
+    zeros (suc (suc (suc zero))) h = zero-at 3
+    zeros (suc (suc (suc (suc zero)))) h = zero-at 4
+    zeros (suc (suc (suc (suc (suc zero))))) h = zero-at 5
+    zeros (suc (suc (suc (suc (suc (suc zero)))))) h = zero-at 6
+    zeros (suc (suc (suc (suc (suc (suc (suc zero))))))) h = zero-at 7
+    zeros (suc (suc (suc (suc (suc (suc (suc (suc zero)))))))) h = zero-at 8
+    zeros (suc (suc (suc (suc (suc (suc (suc (suc (suc k))))))))) h = absurd (omega arith)
+
+    none : (k : ℕ) → k < repeats → getD (onlyRepeats (count s repeats) .n) k 0 ≡ 0
+    none zero h = refl
+    none (suc zero) h = refl
+    none (suc (suc zero)) h = refl
+    none (suc (suc (suc zero))) h = refl
+    none (suc (suc (suc (suc zero)))) h = refl
+    none (suc (suc (suc (suc (suc zero))))) h = refl
+    none (suc (suc (suc (suc (suc (suc zero)))))) h = refl
+    none (suc (suc (suc (suc (suc (suc (suc zero))))))) h = refl
+    none (suc (suc (suc (suc (suc (suc (suc (suc zero)))))))) h = refl
+    none (suc (suc (suc (suc (suc (suc (suc (suc (suc k))))))))) h = absurd (omega arith)
+
+-- "After 1 to 15, 40 to 43, tables 1 to 9 and their counts are zero, the singles absent."
+pub stopped-clean : (src : List ℕ) (kind : ℕ) (T : Tables) (f : Refusal) → readAll src kind T .answer ≡ Rejected f → (RepeatsOnly f → ⊥) → Cleared T (readAll src kind T)
+unfolding readAll attempted endedAt
+stopped-clean src kind T f = let r = attempted src kind (zeroAll T) in go (r .answer) (r .state) (r .tables) (run (admitted src kind) ∙ zero-lengths T)
+  where
+    run : (m : Admission) → lengths (attemptOf m src kind (zeroAll T) .tables) ≡ lengths (zeroAll T)
+    run Fit = sections-lengths src kind fresh (zeroAll T)
+    run (Unfit g) = refl
+
+    -- one that ended was refused for repeats only
+    ended : (s : State) (t : List ℕ) → Full (endedAt s t .answer)
+    ended s t = on-test (λ (r : Reading). Full (r .answer)) (eqb (count s repeats) 0) _ _ (λ e. tt) (λ e. tt)
+
+    go : (a : Answer) (s : State) (U : Tables) → lengths U ≡ lengths T → finished a s U .answer ≡ Rejected f → (RepeatsOnly f → ⊥) → Cleared T (finished a s U)
+    go Going s U e h n = absurd (n (told Full h (ended s (U .t10))))
+    go Done s U e h n = absurd (n (told Full h (ended s (U .t10))))
+    go (Refused g) s U e h n = cleared T U s g e
+
+-- "Any two outcomes allowed by it are proved equal": the contract of `read` allows one.
+pub one-reading : (src : List ℕ) (kind : ℕ) (T : Tables) (o p : Result) → Allowed src kind T o → Allowed src kind T p → o ≡ p
+one-reading src kind T o p e h = e ∙ sym h

@@ -1,0 +1,37 @@
+-- What the contract of `read` allows, and what document 01 says of the tables after each answer.
+use Prim.Native.Nat.{ℕ, _<_}
+use mathlib.Core.Path.{_≡_}
+use mathlib.Core.List.{List}
+use lib.ListN.{getD}
+use Rattle.tables.specs.Table.{zeroed}
+use Rattle.tables.specs.Layout.{repeats}
+use Rattle.grammar.specs.declared.Refusal.{Refusal}
+use Rattle.grammar.specs.declared.Refusal.the-variants.{Fault, Repeated, NoRoom, TooLong, BadKind}
+use Rattle.grammar.specs.State.{noSingles}
+use Rattle.grammar.specs.Sound.{Tables, tab}
+use Rattle.reader.specs.declared.Verdict.{Verdict}
+use Rattle.reader.specs.declared.Verdict.the-variants.{Accepted, Rejected}
+use Rattle.reader.specs.Read.{Result, readAll}
+
+-- "Any two outcomes allowed by it are proved equal": an outcome that the contract of `read` allows, on tables that held T
+abbrev pub Allowed : List ℕ → ℕ → Tables → Result → Type 0
+Allowed src kind T o = o ≡ readAll src kind T
+
+-- "With repeats only, the number is the first repeat's": no fatal refusal
+abbrev pub RepeatsOnly : Refusal → Type 0
+RepeatsOnly (Fault c i) = ⊥
+RepeatsOnly (Repeated n a b) = Unit {0}
+RepeatsOnly (NoRoom t a b) = ⊥
+RepeatsOnly TooLong = ⊥
+RepeatsOnly BadKind = ⊥
+
+-- "all tables hold the full reading": accepted, or refused for repeats only
+abbrev pub Full : Verdict → Type 0
+Full (Accepted i) = Unit {0}
+Full (Rejected f) = RepeatsOnly f
+
+-- "After 1 to 15, 40 to 43, tables 1 to 9 and their counts are zero, the singles absent."
+pub record Cleared (T : Tables) (o : Result) : Type 0 where
+  pub tables : (k : ℕ) → k < repeats → tab (o .tables) k ≡ zeroed (tab T k)
+  pub counts : (k : ℕ) → k < repeats → getD (o .counts .n) k 0 ≡ 0
+  pub singles : o .singles ≡ noSingles

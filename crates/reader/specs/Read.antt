@@ -1,0 +1,153 @@
+-- Document 01, "Numbers given back": "Order: 43, 41, 40, then reading."
+use Prim.Native.Nat.{ℕ, _≤_}
+use mathlib.Core.Path.{_≡_}
+use mathlib.Core.List.{List, [], _∷_}
+use mathlib.Core.Bool.{Bool, true, false, _||_}
+use lib.Dec.{ltb, eqb}
+use lib.ListN.{length}
+use Rattle.whole.specs.declared.Checked.{Checked}
+use Rattle.whole.specs.declared.Checked.the-variants.{Good, BadAt}
+use Rattle.whole.specs.Whole.{checkAt}
+use Rattle.tables.specs.Table.{zeroed, cell}
+use Rattle.tables.specs.Layout.{repeats, width}
+use Rattle.grammar.specs.declared.Counts.{Counts}
+use Rattle.grammar.specs.declared.Singles.{Singles}
+use Rattle.grammar.specs.declared.State.{State}
+use Rattle.grammar.specs.declared.Cause.the-variants.{NotUtf8, PrematureEnd}
+use Rattle.grammar.specs.declared.Refusal.{Refusal}
+use Rattle.grammar.specs.declared.Refusal.the-variants.{Fault, Repeated, TooLong, BadKind}
+use Rattle.grammar.specs.declared.Answer.{Answer}
+use Rattle.grammar.specs.declared.Answer.the-variants.{Going, Done, Refused}
+use Rattle.grammar.specs.Numbers.{refusalNumbers}
+use Rattle.grammar.specs.State.{Out0, count, fresh, noSingles}
+use Rattle.grammar.specs.Sound.{Tables, zeroAll}
+use Rattle.declarations.specs.Declarations.{Declared, Out, declAll}
+use Rattle.rules.specs.Rules.{Ruled, rulesAll, programsFrom}
+use Rattle.reader.specs.declared.Verdict.{Verdict}
+use Rattle.reader.specs.declared.Verdict.the-variants.{Accepted, Rejected}
+use Rattle.reader.specs.declared.Admission.{Admission}
+use Rattle.reader.specs.declared.Admission.the-variants.{Fit, Unfit}
+use Rattle.reader.specs.declared.Reading.{Reading}
+
+-- a reading under way, with all ten tables
+pub record Run : Type 0 where
+  pub answer : Answer
+  pub state : State
+  pub tables : Tables
+
+-- "A read's answer holds number, place, table number [..], and the ten counts [..] besides" the singles; and the tables it left
+pub record Result : Type 0 where
+  pub answer : Verdict
+  pub counts : Counts
+  pub singles : Singles
+  pub tables : Tables
+
+-- document 01's number, place and table of each answer: "0 accepted: end reached, twice"
+abbrev pub verdictNumbers : Verdict → List ℕ
+verdictNumbers (Accepted i) = 0 ∷ i ∷ i ∷ 0 ∷ []
+verdictNumbers (Rejected f) = refusalNumbers f
+
+abbrev pub admissionNumbers : Admission → List ℕ
+admissionNumbers Fit = 0 ∷ 0 ∷ 0 ∷ 0 ∷ []
+admissionNumbers (Unfit f) = refusalNumbers f
+
+-- "40 not UTF-8: first byte that begins no well-formed sequence"
+abbrev pub asText : Checked → Admission
+asText Good = Fit
+asText (BadAt i) = Unfit (Fault NotUtf8 i)
+
+-- "Kinds: 1 Original, 2 Grmtools, 3 Eco. Source: 0 to 65,536 bytes."
+unfoldable pub admitted : List ℕ → ℕ → Admission
+admitted src kind =
+    elim (ltb kind 1 || ltb 3 kind) [
+      | true ↦ Unfit BadKind
+      | false ↦ elim (ltb 65536 (length src)) [ true ↦ Unfit TooLong | false ↦ asText (checkAt src 0) ]
+    ]
+
+-- a source that can be read is not too long
+abbrev pub Short : List ℕ → Admission → Type 0
+Short src Fit = length src ≤ 65536
+Short src (Unfit f) = Unit {0}
+
+-- rules, then programs
+abbrev pub ranProgram : Out0 → Ruled → Ruled
+ranProgram o r = record { answer = o .answer; state = o .state; t1 = r .t1; t7 = r .t7; t8 = r .t8; t9 = r .t9 }
+
+abbrev pub restFrom : Answer → List ℕ → Ruled → Ruled
+restFrom Going src r = ranProgram (programsFrom src (r .state)) r
+restFrom Done src r = record { answer = Done; state = r .state; t1 = r .t1; t7 = r .t7; t8 = r .t8; t9 = r .t9 }
+restFrom (Refused f) src r = record { answer = Refused f; state = r .state; t1 = r .t1; t7 = r .t7; t8 = r .t8; t9 = r .t9 }
+
+abbrev pub restOut : List ℕ → Ruled → Ruled
+restOut src r = restFrom (r .answer) src r
+
+unfoldable pub restAll : List ℕ → ℕ → State → List ℕ → List ℕ → List ℕ → List ℕ → Ruled
+restAll src kind s t1 t7 t8 t9 = restOut src (rulesAll src kind s t1 t7 t8 t9)
+
+-- the tables that declarations filled, and those that rules did
+abbrev pub declared : Tables → Declared
+declared T = record { t1 = T .t1; t2 = T .t2; t3 = T .t3; t4 = T .t4; t5 = T .t5; t6 = T .t6; t10 = T .t10 }
+
+abbrev pub withDeclared : Tables → Declared → Tables
+withDeclared T D = record { t1 = D .t1; t2 = D .t2; t3 = D .t3; t4 = D .t4; t5 = D .t5; t6 = D .t6; t7 = T .t7; t8 = T .t8; t9 = T .t9; t10 = D .t10 }
+
+abbrev pub withRuled : Declared → Ruled → Run
+withRuled D r =
+    record {
+      answer = r .answer;
+      state = r .state;
+      tables = record { t1 = r .t1; t2 = D .t2; t3 = D .t3; t4 = D .t4; t5 = D .t5; t6 = D .t6; t7 = r .t7; t8 = r .t8; t9 = r .t9; t10 = D .t10 };
+    }
+
+-- Declarations, which end with `%%` or refused; then the rest. Where they could go on, which does not come up, the rules would be missing: "10 PrematureEnd".
+abbrev pub sectionsFrom : Answer → List ℕ → ℕ → Out → Tables → Run
+sectionsFrom Going src kind o T = record { answer = Refused (Fault PrematureEnd (o .state .at)); state = o .state; tables = withDeclared T (o .tables) }
+sectionsFrom Done src kind o T = withRuled (o .tables) (restAll src kind (o .state) (o .tables .t1) (T .t7) (T .t8) (T .t9))
+sectionsFrom (Refused f) src kind o T = record { answer = Refused f; state = o .state; tables = withDeclared T (o .tables) }
+
+abbrev pub sectionsOut : List ℕ → ℕ → Out → Tables → Run
+sectionsOut src kind o T = sectionsFrom (o .answer) src kind o T
+
+unfoldable pub sectionsAll : List ℕ → ℕ → State → Tables → Run
+sectionsAll src kind s T = sectionsOut src kind (declAll src kind s (declared T)) T
+
+-- the sections of a source that can be read, from where a reading begins
+abbrev pub attemptOf : Admission → List ℕ → ℕ → Tables → Run
+attemptOf Fit src kind T = sectionsAll src kind fresh T
+attemptOf (Unfit f) src kind T = record { answer = Refused f; state = fresh; tables = T }
+
+unfoldable pub attempted : List ℕ → ℕ → Tables → Run
+attempted src kind T = attemptOf (admitted src kind) src kind T
+
+-- "After 1 to 15, 40 to 43, tables 1 to 9 and their counts are zero, the singles absent"; "repeats met before it stay listed"
+abbrev pub onlyRepeats : ℕ → Counts
+onlyRepeats n = record { n = 0 ∷ 0 ∷ 0 ∷ 0 ∷ 0 ∷ 0 ∷ 0 ∷ 0 ∷ 0 ∷ n ∷ [] }
+
+abbrev pub stoppedAt : State → Refusal → Reading
+stoppedAt s f = record { answer = Rejected f; counts = onlyRepeats (count s repeats); singles = noSingles }
+
+-- "With repeats only, the number is the first repeat's, and all tables hold the full reading": its first place
+unfoldable pub endedAt : State → List ℕ → Reading
+endedAt s t10 =
+    elim (eqb (count s repeats) 0) [
+      | true ↦ record { answer = Accepted (s .at); counts = s .counts; singles = s .singles }
+      | false ↦ record { answer = Rejected (Repeated (cell (width repeats) t10 0 0) (cell (width repeats) t10 0 1) (cell (width repeats) t10 0 2)); counts = s .counts; singles = s .singles }
+    ]
+
+abbrev pub clearNine : Tables → Tables
+clearNine T = record { t1 = zeroed (T .t1); t2 = zeroed (T .t2); t3 = zeroed (T .t3); t4 = zeroed (T .t4); t5 = zeroed (T .t5); t6 = zeroed (T .t6); t7 = zeroed (T .t7); t8 = zeroed (T .t8); t9 = zeroed (T .t9); t10 = T .t10 }
+
+abbrev pub result : Reading → Tables → Result
+result r T = record { answer = r .answer; counts = r .counts; singles = r .singles; tables = T }
+
+abbrev pub finished : Answer → State → Tables → Result
+finished Going s T = result (endedAt s (T .t10)) T
+finished Done s T = result (endedAt s (T .t10)) T
+finished (Refused f) s T = result (stoppedAt s f) (clearNine T)
+
+abbrev pub finishedRun : Run → Result
+finishedRun r = finished (r .answer) (r .state) (r .tables)
+
+-- The read: on tables of zeros.
+unfoldable pub readAll : List ℕ → ℕ → Tables → Result
+readAll src kind T = finishedRun (attempted src kind (zeroAll T))

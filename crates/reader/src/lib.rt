@@ -1,0 +1,292 @@
+// The whole read: kind, length and UTF-8, then declarations, rules and programs on tables of zeros, and what is left of them after a refusal.
+use grammar::Answer;
+use grammar::Cause;
+use grammar::Counts;
+use grammar::Expect;
+use grammar::Param;
+use grammar::Part;
+use grammar::Refusal;
+use grammar::Singles;
+use grammar::State;
+use grammar::Step;
+use whole::Checked;
+ghost use mathlib.Core.Path.{_≡_};
+ghost use Prim.Native.Nat.{_≤_};
+ghost use Rattle.grammar.specs.State.{Here, Passed, fresh, noSingles};
+ghost use Rattle.grammar.specs.Sound.{Tables};
+ghost use Rattle.rules.specs.Rules.{Ruled};
+ghost use Rattle.tables.specs.Table.{zeroed};
+ghost use Rattle.reader.specs.Read.{Run, Result, Short, admitted, restAll, sectionsAll, attempted, stoppedAt, endedAt, finished, readAll};
+
+// What a read came to.
+pub enum Verdict {
+    // The end reached.
+    Accepted(u32),
+    Rejected(Refusal),
+}
+
+pub struct Reading {
+    pub answer: Verdict,
+    pub counts: Counts,
+    pub singles: Singles,
+}
+
+// Whether a source can be read at all.
+pub enum Admission {
+    Fit,
+    Unfit(Refusal),
+}
+
+// 43, 41 and 40, in that order.
+pub fn admit(src: &[u8], kind: u32) -> Admission
+    ensures is { λ r. ⌜ r ≡ admitted (now (src .entry)) kind ⌝ }
+    ensures short { λ r. ⌜ Short (now (src .entry)) r ⌝ }
+{
+    if (kind < 1) | (3 < kind) {
+        return Admission::Unfit(Refusal::BadKind);
+    }
+    if 65536 < src.len() {
+        return Admission::Unfit(Refusal::TooLong);
+    }
+    match whole::check(src) {
+        Checked::Good => Admission::Fit,
+        Checked::BadAt(i) => Admission::Unfit(Refusal::Fault(Cause::NotUtf8, i as u32)),
+    }
+}
+
+pub fn no_singles() -> Singles
+    ensures { λ r. ⌜ r ≡ noSingles ⌝ }
+{
+    Singles {
+        start: Part::Absent,
+        expect: Expect::NotExpected,
+        expect_rr: Expect::NotExpected,
+        param: Param::NoParam,
+        generics: Part::Absent,
+        programs: Part::Absent,
+    }
+}
+
+// Where a reading begins.
+pub fn begin() -> State
+    ensures { λ r. ⌜ r ≡ fresh ⌝ }
+{
+    State {
+        at: 0,
+        level: 0,
+        counts: Counts {
+            n: [0, 0, 0, 0, 0, 0, 0, 0, 0, 0],
+        },
+        singles: no_singles(),
+        actiontype: Part::Absent,
+    }
+}
+
+// Rules and programs.
+pub fn rest(
+    src: &[u8],
+    kind: u32,
+    s: State,
+    t1: &mut [u32],
+    t7: &mut [u32],
+    t8: &mut [u32],
+    t9: &mut [u32],
+) -> Step
+    requires { ⌜ Here (now src) (s .at) ⌝ }
+    ensures is { λ r. ⌜ _≡_ {A = Ruled} (record { answer = r .answer; state = r .state; t1 = now (t1 .exit); t7 = now (t7 .exit); t8 = now (t8 .exit); t9 = now (t9 .exit) }) (restAll (now (src .entry)) kind s (now (t1 .entry)) (now (t7 .entry)) (now (t8 .entry)) (now (t9 .entry))) ⌝ }
+    ensures moved { λ r. ⌜ Passed (now (src .entry)) (s .at) (r .state .at) ⌝ }
+{
+    let r = rules::rules(src, kind, s, t1, t7, t8, t9);
+    let a = r.answer;
+    let n = r.state;
+    match a {
+        Answer::Going => rules::programs(src, n),
+        Answer::Done => Step {
+            answer: Answer::Done,
+            state: n,
+        },
+        Answer::Refused(f) => Step {
+            answer: Answer::Refused(f),
+            state: n,
+        },
+    }
+}
+
+// The three sections. Declarations end with `%%` or refused; where they could go on the rules would be missing.
+pub fn sections(
+    src: &[u8],
+    kind: u32,
+    s: State,
+    t1: &mut [u32],
+    t2: &mut [u32],
+    t3: &mut [u32],
+    t4: &mut [u32],
+    t5: &mut [u32],
+    t6: &mut [u32],
+    t7: &mut [u32],
+    t8: &mut [u32],
+    t9: &mut [u32],
+    t10: &mut [u32],
+) -> Step
+    requires { ⌜ Here (now src) (s .at) ⌝ }
+    ensures is { λ r. ⌜ _≡_ {A = Run} (record { answer = r .answer; state = r .state; tables = record { t1 = now (t1 .exit); t2 = now (t2 .exit); t3 = now (t3 .exit); t4 = now (t4 .exit); t5 = now (t5 .exit); t6 = now (t6 .exit); t7 = now (t7 .exit); t8 = now (t8 .exit); t9 = now (t9 .exit); t10 = now (t10 .exit) } }) (sectionsAll (now (src .entry)) kind s (record { t1 = now (t1 .entry); t2 = now (t2 .entry); t3 = now (t3 .entry); t4 = now (t4 .entry); t5 = now (t5 .entry); t6 = now (t6 .entry); t7 = now (t7 .entry); t8 = now (t8 .entry); t9 = now (t9 .entry); t10 = now (t10 .entry) })) ⌝ }
+    ensures moved { λ r. ⌜ Passed (now (src .entry)) (s .at) (r .state .at) ⌝ }
+{
+    let r = declarations::declarations(src, kind, s, t1, t2, t3, t4, t5, t6, t10);
+    let a = r.answer;
+    let n = r.state;
+    match a {
+        Answer::Going => Step {
+            answer: Answer::Refused(Refusal::Fault(Cause::PrematureEnd, n.at as u32)),
+            state: n,
+        },
+        Answer::Done => rest(src, kind, n, t1, t7, t8, t9),
+        Answer::Refused(f) => Step {
+            answer: Answer::Refused(f),
+            state: n,
+        },
+    }
+}
+
+// The sections of a source that can be read.
+pub fn attempt(
+    src: &[u8],
+    kind: u32,
+    t1: &mut [u32],
+    t2: &mut [u32],
+    t3: &mut [u32],
+    t4: &mut [u32],
+    t5: &mut [u32],
+    t6: &mut [u32],
+    t7: &mut [u32],
+    t8: &mut [u32],
+    t9: &mut [u32],
+    t10: &mut [u32],
+) -> Step
+    ensures is { λ r. ⌜ _≡_ {A = Run} (record { answer = r .answer; state = r .state; tables = record { t1 = now (t1 .exit); t2 = now (t2 .exit); t3 = now (t3 .exit); t4 = now (t4 .exit); t5 = now (t5 .exit); t6 = now (t6 .exit); t7 = now (t7 .exit); t8 = now (t8 .exit); t9 = now (t9 .exit); t10 = now (t10 .exit) } }) (attempted (now (src .entry)) kind (record { t1 = now (t1 .entry); t2 = now (t2 .entry); t3 = now (t3 .entry); t4 = now (t4 .entry); t5 = now (t5 .entry); t6 = now (t6 .entry); t7 = now (t7 .entry); t8 = now (t8 .entry); t9 = now (t9 .entry); t10 = now (t10 .entry) })) ⌝ }
+    ensures near { λ r. ⌜ r .state .at ≤ 65536 ⌝ }
+{
+    let s = begin();
+    let a = admit(src, kind);
+    match a {
+        Admission::Fit => sections(src, kind, s, t1, t2, t3, t4, t5, t6, t7, t8, t9, t10),
+        Admission::Unfit(f) => Step {
+            answer: Answer::Refused(f),
+            state: s,
+        },
+    }
+}
+
+// Tables 1 to 9 without anything in them.
+pub fn clear(
+    t1: &mut [u32],
+    t2: &mut [u32],
+    t3: &mut [u32],
+    t4: &mut [u32],
+    t5: &mut [u32],
+    t6: &mut [u32],
+    t7: &mut [u32],
+    t8: &mut [u32],
+    t9: &mut [u32],
+)
+    ensures { λ r. ⌜ (now (t1 .exit) ≡ zeroed (now (t1 .entry))) × (now (t2 .exit) ≡ zeroed (now (t2 .entry))) × (now (t3 .exit) ≡ zeroed (now (t3 .entry))) × (now (t4 .exit) ≡ zeroed (now (t4 .entry))) × (now (t5 .exit) ≡ zeroed (now (t5 .entry))) × (now (t6 .exit) ≡ zeroed (now (t6 .entry))) × (now (t7 .exit) ≡ zeroed (now (t7 .entry))) × (now (t8 .exit) ≡ zeroed (now (t8 .entry))) × (now (t9 .exit) ≡ zeroed (now (t9 .entry))) ⌝ }
+{
+    tables::zero(t1);
+    tables::zero(t2);
+    tables::zero(t3);
+    tables::zero(t4);
+    tables::zero(t5);
+    tables::zero(t6);
+    tables::zero(t7);
+    tables::zero(t8);
+    tables::zero(t9);
+}
+
+// After a fatal refusal only the repeats stay listed.
+pub fn stopped(s: State, f: Refusal) -> Reading
+    ensures { λ r. ⌜ r ≡ stoppedAt s f ⌝ }
+{
+    let n = grammar::count_of(s, tables::REPEATS);
+    Reading {
+        answer: Verdict::Rejected(f),
+        counts: Counts {
+            n: [0, 0, 0, 0, 0, 0, 0, 0, 0, n],
+        },
+        singles: no_singles(),
+    }
+}
+
+// A read that ended: accepted, or refused for its first repeat only.
+pub fn ended(s: State, t10: &[u32]) -> Reading
+    requires { ⌜ s .at ≤ 65536 ⌝ }
+    ensures { λ r. ⌜ r ≡ endedAt s (now (t10 .entry)) ⌝ }
+{
+    let counts = s.counts;
+    let singles = s.singles;
+    if grammar::count_of(s, tables::REPEATS) == 0 {
+        return Reading {
+            answer: Verdict::Accepted(s.at as u32),
+            counts,
+            singles,
+        };
+    }
+    let number = tables::cell(t10, tables::REPEAT_WIDTH, 0, 0);
+    let from = tables::cell(t10, tables::REPEAT_WIDTH, 0, 1);
+    let to = tables::cell(t10, tables::REPEAT_WIDTH, 0, 2);
+    Reading {
+        answer: Verdict::Rejected(Refusal::Repeated(number, from, to)),
+        counts,
+        singles,
+    }
+}
+
+pub fn finish(
+    r: Step,
+    t1: &mut [u32],
+    t2: &mut [u32],
+    t3: &mut [u32],
+    t4: &mut [u32],
+    t5: &mut [u32],
+    t6: &mut [u32],
+    t7: &mut [u32],
+    t8: &mut [u32],
+    t9: &mut [u32],
+    t10: &[u32],
+) -> Reading
+    requires { ⌜ r .state .at ≤ 65536 ⌝ }
+    ensures is { λ q. ⌜ _≡_ {A = Result} (record { answer = q .answer; counts = q .counts; singles = q .singles; tables = record { t1 = now (t1 .exit); t2 = now (t2 .exit); t3 = now (t3 .exit); t4 = now (t4 .exit); t5 = now (t5 .exit); t6 = now (t6 .exit); t7 = now (t7 .exit); t8 = now (t8 .exit); t9 = now (t9 .exit); t10 = now (t10 .entry) } }) (finished (r .answer) (r .state) (record { t1 = now (t1 .entry); t2 = now (t2 .entry); t3 = now (t3 .entry); t4 = now (t4 .entry); t5 = now (t5 .entry); t6 = now (t6 .entry); t7 = now (t7 .entry); t8 = now (t8 .entry); t9 = now (t9 .entry); t10 = now (t10 .entry) })) ⌝ }
+{
+    let a = r.answer;
+    let s = r.state;
+    match a {
+        Answer::Going => ended(s, t10),
+        Answer::Done => ended(s, t10),
+        Answer::Refused(f) => {
+            clear(t1, t2, t3, t4, t5, t6, t7, t8, t9);
+            stopped(s, f)
+        }
+    }
+}
+
+// The read of a source of the kind, into ten lent tables.
+pub fn read(
+    src: &[u8],
+    kind: u32,
+    t1: &mut [u32],
+    t2: &mut [u32],
+    t3: &mut [u32],
+    t4: &mut [u32],
+    t5: &mut [u32],
+    t6: &mut [u32],
+    t7: &mut [u32],
+    t8: &mut [u32],
+    t9: &mut [u32],
+    t10: &mut [u32],
+) -> Reading
+    ensures is { λ r. ⌜ _≡_ {A = Result} (record { answer = r .answer; counts = r .counts; singles = r .singles; tables = record { t1 = now (t1 .exit); t2 = now (t2 .exit); t3 = now (t3 .exit); t4 = now (t4 .exit); t5 = now (t5 .exit); t6 = now (t6 .exit); t7 = now (t7 .exit); t8 = now (t8 .exit); t9 = now (t9 .exit); t10 = now (t10 .exit) } }) (readAll (now (src .entry)) kind (record { t1 = now (t1 .entry); t2 = now (t2 .entry); t3 = now (t3 .entry); t4 = now (t4 .entry); t5 = now (t5 .entry); t6 = now (t6 .entry); t7 = now (t7 .entry); t8 = now (t8 .entry); t9 = now (t9 .entry); t10 = now (t10 .entry) })) ⌝ }
+{
+    clear(t1, t2, t3, t4, t5, t6, t7, t8, t9);
+    tables::zero(t10);
+    let r = attempt(src, kind, t1, t2, t3, t4, t5, t6, t7, t8, t9, t10);
+    finish(r, t1, t2, t3, t4, t5, t6, t7, t8, t9, t10)
+}

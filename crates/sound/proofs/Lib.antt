@@ -1,0 +1,4 @@
+pub mod Laws
+pub mod Tells
+pub mod RowTests
+pub mod Iff

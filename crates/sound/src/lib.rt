@@ -1,0 +1,419 @@
+// Whether tables, counts and singles are sound: the test behind 44. Each table is read a constant number of times, but for the names of tables 1 and 7, each of
+// which is sought among those before it.
+use grammar::Counts;
+use grammar::Expect;
+use grammar::Param;
+use grammar::Part;
+use grammar::Singles;
+use tables::Found;
+ghost use mathlib.Core.Path.{_≡_};
+ghost use Rattle.grammar.specs.Sound.{Tables};
+ghost use Rattle.sound.specs.Test.{zerosFrom, givenTest, actionTest, tokenTest, precTest, nameTest, eppTest, kindTest, ruleTest, productionTest, repeatTest, rowTest, below, freshTest, widthOf, tableTest, rangeTest, rangesTest, partTest, expectTest, paramTest, singlesTest, countAt, tablesTest, soundTest};
+
+// Whether all cells from `from` on are zero.
+pub fn zeros_from(t: &[u32], from: usize) -> bool
+    ensures { λ r. ⌜ r ≡ zerosFrom (now (t .entry)) from ⌝ }
+{
+    let mut i = from;
+    while i < t.len() {
+        if t[i] != 0 {
+            return false;
+        }
+        i += 1;
+    }
+    true
+}
+
+// A flag and a place: absent with zeros, or given in the source.
+pub fn given_sound(src: &[u8], f: u32, a: u32, b: u32) -> bool
+    ensures { λ r. ⌜ r ≡ givenTest (now (src .entry)) f a b ⌝ }
+{
+    ((f == 0) & (a == 0) & (b == 0)) | ((f == 1) & tables::is_place(src, a, b))
+}
+
+// The same of an action's two places.
+pub fn action_sound(src: &[u8], f: u32, a: u32, b: u32, c: u32, d: u32) -> bool
+    ensures { λ r. ⌜ r ≡ actionTest (now (src .entry)) f a b c d ⌝ }
+{
+    ((f == 0) & (a == 0) & (b == 0) & (c == 0) & (d == 0))
+        | ((f == 1) & tables::is_place(src, a, b) & tables::is_place(src, c, d))
+}
+
+// A row of each table.
+pub fn token_sound(src: &[u8], t: &[u32], r: u32) -> bool
+    ensures { λ q. ⌜ q ≡ tokenTest (now (src .entry)) (now (t .entry)) r ⌝ }
+{
+    let w = tables::TOKEN_WIDTH;
+    tables::is_place(src, tables::cell(t, w, r, 0), tables::cell(t, w, r, 1))
+        & (tables::cell(t, w, r, tables::DECLARED) <= 1)
+}
+
+pub fn prec_sound(src: &[u8], t: &[u32], r: u32) -> bool
+    ensures { λ q. ⌜ q ≡ precTest (now (src .entry)) (now (t .entry)) r ⌝ }
+{
+    let w = tables::PRECEDENCE_WIDTH;
+    let a = tables::cell(t, w, r, 3);
+    tables::is_place(src, tables::cell(t, w, r, 0), tables::cell(t, w, r, 1)) & (1 <= a) & (a <= 3)
+}
+
+pub fn name_sound(src: &[u8], t: &[u32], r: u32) -> bool
+    ensures { λ q. ⌜ q ≡ nameTest (now (src .entry)) (now (t .entry)) r ⌝ }
+{
+    let w = tables::NAME_WIDTH;
+    tables::is_place(src, tables::cell(t, w, r, 0), tables::cell(t, w, r, 1))
+}
+
+pub fn epp_sound(src: &[u8], t: &[u32], r: u32) -> bool
+    ensures { λ q. ⌜ q ≡ eppTest (now (src .entry)) (now (t .entry)) r ⌝ }
+{
+    let w = tables::EPP_WIDTH;
+    tables::is_place(src, tables::cell(t, w, r, 0), tables::cell(t, w, r, 1))
+        & tables::is_place(src, tables::cell(t, w, r, 2), tables::cell(t, w, r, 3))
+        & tables::is_place(src, tables::cell(t, w, r, 4), tables::cell(t, w, r, 5))
+}
+
+// Tables 6 and 9 have one width and one form.
+pub fn kind_sound(src: &[u8], t: &[u32], r: u32) -> bool
+    ensures { λ q. ⌜ q ≡ kindTest (now (src .entry)) (now (t .entry)) r ⌝ }
+{
+    let w = tables::SYMBOL_WIDTH;
+    let k = tables::cell(t, w, r, 0);
+    (1 <= k) & (k <= 2) & tables::is_place(src, tables::cell(t, w, r, 1), tables::cell(t, w, r, 2))
+}
+
+pub fn rule_sound(src: &[u8], t: &[u32], r: u32) -> bool
+    ensures { λ q. ⌜ q ≡ ruleTest (now (src .entry)) (now (t .entry)) r ⌝ }
+{
+    let w = tables::RULE_WIDTH;
+    tables::is_place(src, tables::cell(t, w, r, 0), tables::cell(t, w, r, 1))
+        & given_sound(
+            src,
+            tables::cell(t, w, r, 2),
+            tables::cell(t, w, r, 3),
+            tables::cell(t, w, r, 4),
+        )
+}
+
+pub fn production_sound(src: &[u8], t: &[u32], r: u32, rules: u32) -> bool
+    ensures { λ q. ⌜ q ≡ productionTest (now (src .entry)) rules (now (t .entry)) r ⌝ }
+{
+    let w = tables::PRODUCTION_WIDTH;
+    let place = tables::is_place(
+        src,
+        tables::cell(t, w, r, tables::FROM),
+        tables::cell(t, w, r, tables::TO),
+    );
+    let prec = given_sound(
+        src,
+        tables::cell(t, w, r, tables::PREC),
+        tables::cell(t, w, r, tables::PREC_FROM),
+        tables::cell(t, w, r, tables::PREC_TO),
+    );
+    let action = action_sound(
+        src,
+        tables::cell(t, w, r, tables::ACTION),
+        tables::cell(t, w, r, tables::TEXT_FROM),
+        tables::cell(t, w, r, tables::TEXT_TO),
+        tables::cell(t, w, r, tables::SPAN_FROM),
+        tables::cell(t, w, r, tables::SPAN_TO),
+    );
+    (tables::cell(t, w, r, tables::RULE_ROW) < rules) & place & prec & action
+}
+
+pub fn repeat_sound(src: &[u8], t: &[u32], r: u32) -> bool
+    ensures { λ q. ⌜ q ≡ repeatTest (now (src .entry)) (now (t .entry)) r ⌝ }
+{
+    let w = tables::REPEAT_WIDTH;
+    let n = tables::cell(t, w, r, 0);
+    (20 <= n)
+        & (n <= 27)
+        & tables::is_place(src, tables::cell(t, w, r, 1), tables::cell(t, w, r, 2))
+        & tables::is_place(src, tables::cell(t, w, r, 3), tables::cell(t, w, r, 4))
+}
+
+// Row `r` of table `k + 1`; `rules` is the count of table 7.
+pub fn row_sound(src: &[u8], k: u8, t: &[u32], r: u32, rules: u32) -> bool
+    ensures { λ q. ⌜ q ≡ rowTest (now (src .entry)) rules k (now (t .entry)) r ⌝ }
+{
+    match k {
+        0 => token_sound(src, t, r),
+        1 => prec_sound(src, t, r),
+        2 => name_sound(src, t, r),
+        3 => name_sound(src, t, r),
+        4 => epp_sound(src, t, r),
+        5 => kind_sound(src, t, r),
+        6 => rule_sound(src, t, r),
+        7 => production_sound(src, t, r, rules),
+        8 => kind_sound(src, t, r),
+        9 => repeat_sound(src, t, r),
+        _ => true,
+    }
+}
+
+pub fn rows_sound(src: &[u8], k: u8, t: &[u32], n: u32, rules: u32) -> bool
+    ensures { λ q. ⌜ q ≡ below n (rowTest (now (src .entry)) rules k (now (t .entry))) ⌝ }
+{
+    let mut r = 0;
+    while r < n {
+        if !row_sound(src, k, t, r, rules) {
+            return false;
+        }
+        r += 1;
+    }
+    true
+}
+
+// Whether no row before row `r` has its name.
+pub fn name_fresh(src: &[u8], t: &[u32], w: u32, r: u32) -> bool
+    ensures { λ q. ⌜ q ≡ freshTest (now (src .entry)) w (now (t .entry)) r ⌝ }
+{
+    match tables::find(
+        src,
+        t,
+        w,
+        tables::NAME,
+        r,
+        tables::cell(t, w, r, 0),
+        tables::cell(t, w, r, 1),
+    ) {
+        Found::RowAt(_) => false,
+        Found::NoRow => true,
+    }
+}
+
+pub fn names_differ(src: &[u8], t: &[u32], w: u32, n: u32) -> bool
+    ensures { λ q. ⌜ q ≡ below n (freshTest (now (src .entry)) w (now (t .entry))) ⌝ }
+{
+    let mut r = 0;
+    while r < n {
+        if !name_fresh(src, t, w, r) {
+            return false;
+        }
+        r += 1;
+    }
+    true
+}
+
+// The width of table `k + 1`.
+pub fn width_of(k: u8) -> u32
+    ensures { λ r. ⌜ r ≡ widthOf k ⌝ }
+{
+    match k {
+        0 => tables::TOKEN_WIDTH,
+        1 => tables::PRECEDENCE_WIDTH,
+        2 => tables::NAME_WIDTH,
+        3 => tables::NAME_WIDTH,
+        4 => tables::EPP_WIDTH,
+        5 => tables::UNUSED_WIDTH,
+        6 => tables::RULE_WIDTH,
+        7 => tables::PRODUCTION_WIDTH,
+        8 => tables::SYMBOL_WIDTH,
+        9 => tables::REPEAT_WIDTH,
+        _ => 1,
+    }
+}
+
+// Table `k + 1` with `n` rows. That the rows fit comes first, so that no count makes it read past the table.
+pub fn table_sound(src: &[u8], k: u8, t: &[u32], n: u32, rules: u32) -> bool
+    ensures { λ q. ⌜ q ≡ tableTest (now (src .entry)) rules k n (now (t .entry)) ⌝ }
+{
+    let w = width_of(k);
+    let end = (n as usize) * (w as usize);
+    if t.len() < end {
+        return false;
+    }
+    if !zeros_from(t, end) {
+        return false;
+    }
+    if !rows_sound(src, k, t, n, rules) {
+        return false;
+    }
+    if (k == tables::TOKENS) | (k == tables::RULES) {
+        return names_differ(src, t, w, n);
+    }
+    true
+}
+
+// Row `r` of table 8 begins with the symbol behind the row before it.
+pub fn range_sound(t: &[u32], r: u32) -> bool
+    ensures { λ q. ⌜ q ≡ rangeTest (now (t .entry)) r ⌝ }
+{
+    let w = tables::PRODUCTION_WIDTH;
+    let first = tables::cell(t, w, r, tables::FIRST);
+    let mut before = 0;
+    if r != 0 {
+        before = tables::cell(t, w, r - 1, tables::LAST);
+    }
+    (first == before) & (first <= tables::cell(t, w, r, tables::LAST))
+}
+
+pub fn ranges_sound(t: &[u32], n: u32, symbols: u32) -> bool
+    ensures { λ q. ⌜ q ≡ rangesTest (now (t .entry)) n symbols ⌝ }
+{
+    let mut r = 0;
+    let mut end = 0;
+    while r < n {
+        if !range_sound(t, r) {
+            return false;
+        }
+        end = tables::cell(t, tables::PRODUCTION_WIDTH, r, tables::LAST);
+        r += 1;
+    }
+    end == symbols
+}
+
+pub fn part_sound(src: &[u8], p: Part) -> bool
+    ensures { λ r. ⌜ r ≡ partTest (now (src .entry)) p ⌝ }
+{
+    match p {
+        Part::Absent => true,
+        Part::At(a, b) => tables::is_place(src, a, b),
+    }
+}
+
+pub fn expect_sound(src: &[u8], e: Expect) -> bool
+    ensures { λ r. ⌜ r ≡ expectTest (now (src .entry)) e ⌝ }
+{
+    match e {
+        Expect::NotExpected => true,
+        Expect::Expected(_, a, b) => tables::is_place(src, a, b),
+    }
+}
+
+pub fn param_sound(src: &[u8], p: Param) -> bool
+    ensures { λ r. ⌜ r ≡ paramTest (now (src .entry)) p ⌝ }
+{
+    match p {
+        Param::NoParam => true,
+        Param::ParamAt(a, b, c, d) => { tables::is_place(src, a, b) & tables::is_place(src, c, d) }
+    }
+}
+
+pub fn singles_sound(src: &[u8], g: Singles) -> bool
+    ensures { λ r. ⌜ r ≡ singlesTest (now (src .entry)) g ⌝ }
+{
+    let start = g.start;
+    let expect = g.expect;
+    let expect_rr = g.expect_rr;
+    let param = g.param;
+    let generics = g.generics;
+    let programs = g.programs;
+    part_sound(src, start)
+        & expect_sound(src, expect)
+        & expect_sound(src, expect_rr)
+        & param_sound(src, param)
+        & part_sound(src, generics)
+        & part_sound(src, programs)
+}
+
+// The count of table `k + 1`.
+pub fn rows_of(c: Counts, k: u8) -> u32
+    ensures { λ r. ⌜ r ≡ countAt c k ⌝ }
+{
+    let i = k as usize;
+    if i < 10 { c.n[i] } else { 0 }
+}
+
+// All ten tables by themselves.
+pub fn tables_sound(
+    src: &[u8],
+    c: Counts,
+    t1: &[u32],
+    t2: &[u32],
+    t3: &[u32],
+    t4: &[u32],
+    t5: &[u32],
+    t6: &[u32],
+    t7: &[u32],
+    t8: &[u32],
+    t9: &[u32],
+    t10: &[u32],
+) -> bool
+    ensures { λ q. ⌜ q ≡ tablesTest (now (src .entry)) c (record { t1 = now (t1 .entry); t2 = now (t2 .entry); t3 = now (t3 .entry); t4 = now (t4 .entry); t5 = now (t5 .entry); t6 = now (t6 .entry); t7 = now (t7 .entry); t8 = now (t8 .entry); t9 = now (t9 .entry); t10 = now (t10 .entry) }) ⌝ }
+{
+    let rules = rows_of(c, tables::RULES);
+    if !table_sound(src, tables::TOKENS, t1, rows_of(c, tables::TOKENS), rules) {
+        return false;
+    }
+    if !table_sound(
+        src,
+        tables::PRECEDENCES,
+        t2,
+        rows_of(c, tables::PRECEDENCES),
+        rules,
+    ) {
+        return false;
+    }
+    if !table_sound(src, tables::AVOIDED, t3, rows_of(c, tables::AVOIDED), rules) {
+        return false;
+    }
+    if !table_sound(
+        src,
+        tables::IMPLICIT,
+        t4,
+        rows_of(c, tables::IMPLICIT),
+        rules,
+    ) {
+        return false;
+    }
+    if !table_sound(src, tables::EPPS, t5, rows_of(c, tables::EPPS), rules) {
+        return false;
+    }
+    if !table_sound(src, tables::UNUSED, t6, rows_of(c, tables::UNUSED), rules) {
+        return false;
+    }
+    if !table_sound(src, tables::RULES, t7, rules, rules) {
+        return false;
+    }
+    if !table_sound(
+        src,
+        tables::PRODUCTIONS,
+        t8,
+        rows_of(c, tables::PRODUCTIONS),
+        rules,
+    ) {
+        return false;
+    }
+    if !table_sound(src, tables::SYMBOLS, t9, rows_of(c, tables::SYMBOLS), rules) {
+        return false;
+    }
+    table_sound(
+        src,
+        tables::REPEATS,
+        t10,
+        rows_of(c, tables::REPEATS),
+        rules,
+    )
+}
+
+// Whether all of it is sound.
+pub fn sound(
+    src: &[u8],
+    c: Counts,
+    g: Singles,
+    t1: &[u32],
+    t2: &[u32],
+    t3: &[u32],
+    t4: &[u32],
+    t5: &[u32],
+    t6: &[u32],
+    t7: &[u32],
+    t8: &[u32],
+    t9: &[u32],
+    t10: &[u32],
+) -> bool
+    ensures { λ q. ⌜ q ≡ soundTest (now (src .entry)) c g (record { t1 = now (t1 .entry); t2 = now (t2 .entry); t3 = now (t3 .entry); t4 = now (t4 .entry); t5 = now (t5 .entry); t6 = now (t6 .entry); t7 = now (t7 .entry); t8 = now (t8 .entry); t9 = now (t9 .entry); t10 = now (t10 .entry) }) ⌝ }
+{
+    if 65536 < src.len() {
+        return false;
+    }
+    if !tables_sound(src, c, t1, t2, t3, t4, t5, t6, t7, t8, t9, t10) {
+        return false;
+    }
+    ranges_sound(
+        t8,
+        rows_of(c, tables::PRODUCTIONS),
+        rows_of(c, tables::SYMBOLS),
+    )
+        & singles_sound(src, g)
+}
