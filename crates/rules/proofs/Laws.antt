@@ -2,7 +2,7 @@
 use Prim.Native.Nat.{ℕ, _+_, _≤_, _<_}
 use mathlib.Core.Path.{_≡_, refl, sym, _∙_, ap}
 use mathlib.Core.List.{List, [], _∷_}
-use mathlib.Core.Bool.{Bool, true, false, not}
+use mathlib.Core.Bool.{Bool, true, false}
 use native.Mathlib.Omega.{arith}
 use lib.Dec.{leb, eqb}
 use borrow.Author.Tests.{le-leb, lt-leb}
@@ -159,14 +159,6 @@ named-moves src at j after w a x e p =
     record { onward = omega arith; inside = p .inside; beyond = λ g. omega arith }
 
 -- the programs
-pub not-true : (b : Bool) → not b ≡ true → b ≡ false
-not-true true e = sym e
-not-true false e = refl
-
-pub not-false : (b : Bool) → not b ≡ false → b ≡ true
-not-false true e = refl
-not-false false e = sym e
-
 module _ (src : List ℕ) (s : State) (b : Bool) (is : b ≡ startsAt percents src (s .at)) where
   pub no-programs : b ≡ false → record { answer = Going; state = s } ≡ programsFrom src s
   unfolding programsFrom

@@ -6,9 +6,10 @@ use mathlib.Core.Bool.{Bool, true}
 use native.Mathlib.Omega.{arith}
 use denote.Ref.{now}
 use borrow.Author.Needs.{needs}
+use borrow.Author.Tests.{not-true, not-false}
 use Rattle.scan.proofs.Bytes.{told, starts-fits}
 use Rattle.grammar.proofs.Steps.{gap-passed, still}
-use Rattle.rules.proofs.Laws.{not-true, not-false, no-programs, programs-text, programs-refused}
+use Rattle.rules.proofs.Laws.{no-programs, programs-text, programs-refused}
 use Rattle.rules.proofs.programs.Statement.{statement}
 use Rattle.rules.proofs.programs.Tie as tie
 

@@ -1,0 +1,137 @@
+-- Small inputs of the whole read, under one statement; document 01's are among them, and the crate gives the same numbers, places, counts and rows.
+use Prim.Native.Nat.{ℕ, _*_}
+use mathlib.Core.Path.{_≡_, refl}
+use mathlib.Core.Bool.{true}
+use mathlib.Core.List.{List, [], _∷_, _++_}
+use lib.ListN.{take, replicate, getD}
+use Rattle.scan.specs.Scan.{isAt, begins, startsAt, isLetter, isDigit, isEol, inClass, runEnd, runEndAt}
+use Rattle.scan.specs.Loop.{turns}
+use Rattle.scan.specs.Table.{Case, same, all}
+use Rattle.utf8.specs.White.{isWhite}
+use Rattle.utf8.specs.Utf8.{leadOf, follow, followAt, begun, decode, decodeAt}
+use Rattle.whole.specs.Whole.{check, checkAt}
+use Rattle.trim.specs.Trim.{passed, passedAt, kept, moved, trimTurn, trimmed}
+use Rattle.spacing.specs.Spacing.{isBlank, spacing, spacingAt}
+use Rattle.words.specs.Words.{wordAt, named, nameAt, isQuote, closed, quotedAt, bare, tokenAt}
+use Rattle.words.specs.Numbers.{decimal, decimalAt, counted, intAt}
+use Rattle.words.specs.Strings.{string, stringFrom, stringAt}
+use Rattle.texts.specs.Line.{lineEndAt}
+use Rattle.texts.specs.Colon.{single, singleFrom, colonText, colonTextAt}
+use Rattle.texts.specs.Action.{braced, bracedFrom, acted, actionAt}
+use Rattle.tables.specs.Layout.{width}
+use Rattle.tables.specs.Table.{room, addRow, samePart, hasName, firstRow, findName, enterToken}
+use Rattle.keywords.specs.Keywords.{firstOf, seenAt}
+use Rattle.grammar.specs.Numbers.{singlesNumbers}
+use Rattle.grammar.specs.State.{nextLevel, gapOf, gapAt, pushRow, listRepeat, enterStep, onceStep, pastGap}
+use Rattle.grammar.specs.Sound.{Tables, tab}
+use Rattle.productions.specs.Cells.{pushProduction}
+use Rattle.settings.specs.Settings.{startNamed, startDecl, expectGiven, expectDecl, actiontypeNamed, actiontypeDecl, paramTyped, paramDecl, genericsDecl}
+use Rattle.lists.specs.Lists.{tokenItem, unusedRow, unusedItem, ends, listTurn, percentList, listDecl}
+use Rattle.lines.specs.Precedences.{precItem, precTurn, precList, precDecl}
+use Rattle.lines.specs.Avoided.{avoidNamed, avoidItem, avoidTurn, avoidList, avoidDecl}
+use Rattle.epps.specs.Epps.{eppGiven, eppText, eppValue, eppDecl}
+use Rattle.declarations.specs.Declarations.{declStep, declTurn, declRun, declAll}
+use Rattle.items.specs.Items.{firstMark, sortAt, tokenSymbol, quotedRows, quotedItem, precName, precItem as item-precItem, mayEnd, afterAction, actionItem, mayFollow, emptyItem, symbolKind, bareItem, endProduction, barItem, endItem, itemStep, itemTurn, itemList}
+use Rattle.rules.specs.Rules.{passMark, firstStart, colonType, arrowType, ruleType, enterRule, namedHead, ruleHead, ruleBody, ruleStep, nextRule, rulesTurn, rulesRun, rulesAll, programsFrom}
+use Rattle.reader.specs.Read.{Result, verdictNumbers, admitted, restAll, sectionsAll, attempted, endedAt, readAll}
+
+-- a kind and a source
+pub record Input : Type 0 where
+  pub kind : ℕ
+  pub src : List ℕ
+
+unfoldable pub row : ℕ → List ℕ → List ℕ → Case Input
+row kind src gives = record { input = record { kind = kind; src = src }; gives = gives }
+
+-- tables with some rows of room, and something in them
+abbrev free : List ℕ
+free = replicate 39 7
+
+abbrev lent : Tables
+lent = record { t1 = free; t2 = free; t3 = free; t4 = free; t5 = free; t6 = free; t7 = free; t8 = free; t9 = free; t10 = free }
+
+-- the rows of table k + 1
+unfoldable pub filled : Result → ℕ → List ℕ
+filled o k = take (getD (o .counts .n) k 0 * width k) (tab (o .tables) k)
+
+-- number and place, the ten counts, the rows of the ten tables, the singles
+unfoldable pub numbers : Result → List ℕ
+numbers o =
+    take 3 (verdictNumbers (o .answer)) ++ (o .counts .n
+    ++ (filled o 0 ++ (filled o 1 ++ (filled o 2 ++ (filled o 3 ++ (filled o 4 ++ (filled o 5 ++ (filled o 6 ++ (filled o 7 ++ (filled o 8 ++ (filled o 9 ++ singlesNumbers (o .singles))))))))))))
+
+unfoldable pub table : List (Case Input)
+table =
+    -- nothing, kind 1
+    row 1 ([]) (10 ∷ 0 ∷ 0 ∷ 0 ∷ 0 ∷ 0 ∷ 0 ∷ 0 ∷ 0 ∷ 0 ∷ 0 ∷ 0 ∷ 0 ∷ 0 ∷ 0 ∷ 0 ∷ 0 ∷ 0 ∷ 0 ∷ 0 ∷ 0 ∷ 0 ∷ 0 ∷ 0 ∷ 0 ∷ 0 ∷ 0 ∷ 0 ∷ 0 ∷ 0 ∷ 0 ∷ 0 ∷ 0 ∷ 0 ∷ 0 ∷ [])
+    -- `%%`, kind 1
+    ∷ row 1 (37 ∷ 37 ∷ []) (0 ∷ 2 ∷ 2 ∷ 0 ∷ 0 ∷ 0 ∷ 0 ∷ 0 ∷ 0 ∷ 0 ∷ 0 ∷ 0 ∷ 0 ∷ 0 ∷ 0 ∷ 0 ∷ 0 ∷ 0 ∷ 0 ∷ 0 ∷ 0 ∷ 0 ∷ 0 ∷ 0 ∷ 0 ∷ 0 ∷ 0 ∷ 0 ∷ 0 ∷ 0 ∷ 0 ∷ 0 ∷ 0 ∷ 0 ∷ 0 ∷ [])
+    -- `%%s:;`, kind 1
+    ∷ row 1 (37 ∷ 37 ∷ 115 ∷ 58 ∷ 59 ∷ []) (0 ∷ 5 ∷ 5 ∷ 0 ∷ 0 ∷ 0 ∷ 0 ∷ 0 ∷ 0 ∷ 1 ∷ 1 ∷ 0 ∷ 0 ∷ 2 ∷ 3 ∷ 0 ∷ 0 ∷ 0 ∷ 0 ∷ 4 ∷ 4 ∷ 0 ∷ 0 ∷ 0 ∷ 0 ∷ 0 ∷ 0 ∷ 0 ∷ 0 ∷ 0 ∷ 0 ∷ 1 ∷ 2 ∷ 3 ∷ 0 ∷ 0 ∷ 0 ∷ 0 ∷ 0 ∷ 0 ∷ 0 ∷ 0 ∷ 0 ∷ 0 ∷ 0 ∷ 0 ∷ 0 ∷ 0 ∷ 0 ∷ 0 ∷ 0 ∷ 0 ∷ 0 ∷ [])
+    -- `%%s:;`, kind 2
+    ∷ row 2 (37 ∷ 37 ∷ 115 ∷ 58 ∷ 59 ∷ []) (8 ∷ 3 ∷ 3 ∷ 0 ∷ 0 ∷ 0 ∷ 0 ∷ 0 ∷ 0 ∷ 0 ∷ 0 ∷ 0 ∷ 0 ∷ 0 ∷ 0 ∷ 0 ∷ 0 ∷ 0 ∷ 0 ∷ 0 ∷ 0 ∷ 0 ∷ 0 ∷ 0 ∷ 0 ∷ 0 ∷ 0 ∷ 0 ∷ 0 ∷ 0 ∷ 0 ∷ 0 ∷ 0 ∷ 0 ∷ 0 ∷ [])
+    -- `%tokenA%%s:A;`, kind 1
+    ∷ row 1 (37 ∷ 116 ∷ 111 ∷ 107 ∷ 101 ∷ 110 ∷ 65 ∷ 37 ∷ 37 ∷ 115 ∷ 58 ∷ 65 ∷ 59 ∷ []) (0 ∷ 13 ∷ 13 ∷ 1 ∷ 0 ∷ 0 ∷ 0 ∷ 0 ∷ 0 ∷ 1 ∷ 1 ∷ 1 ∷ 0 ∷ 6 ∷ 7 ∷ 1 ∷ 9 ∷ 10 ∷ 0 ∷ 0 ∷ 0 ∷ 0 ∷ 11 ∷ 12 ∷ 0 ∷ 1 ∷ 0 ∷ 0 ∷ 0 ∷ 0 ∷ 0 ∷ 0 ∷ 0 ∷ 0 ∷ 2 ∷ 11 ∷ 12 ∷ 1 ∷ 9 ∷ 10 ∷ 0 ∷ 0 ∷ 0 ∷ 0 ∷ 0 ∷ 0 ∷ 0 ∷ 0 ∷ 0 ∷ 0 ∷ 0 ∷ 0 ∷ 0 ∷ 0 ∷ 0 ∷ 0 ∷ 0 ∷ 0 ∷ 0 ∷ [])
+    -- `%left'a'`, kind 1
+    ∷ row 1 (37 ∷ 108 ∷ 101 ∷ 102 ∷ 116 ∷ 39 ∷ 97 ∷ 39 ∷ []) (10 ∷ 8 ∷ 8 ∷ 0 ∷ 0 ∷ 0 ∷ 0 ∷ 0 ∷ 0 ∷ 0 ∷ 0 ∷ 0 ∷ 0 ∷ 0 ∷ 0 ∷ 0 ∷ 0 ∷ 0 ∷ 0 ∷ 0 ∷ 0 ∷ 0 ∷ 0 ∷ 0 ∷ 0 ∷ 0 ∷ 0 ∷ 0 ∷ 0 ∷ 0 ∷ 0 ∷ 0 ∷ 0 ∷ 0 ∷ 0 ∷ [])
+    -- `%avoid_insert'a'`, kind 1
+    ∷ row 1 (37 ∷ 97 ∷ 118 ∷ 111 ∷ 105 ∷ 100 ∷ 95 ∷ 105 ∷ 110 ∷ 115 ∷ 101 ∷ 114 ∷ 116 ∷ 39 ∷ 97 ∷ 39 ∷ []) (3 ∷ 16 ∷ 16 ∷ 0 ∷ 0 ∷ 0 ∷ 0 ∷ 0 ∷ 0 ∷ 0 ∷ 0 ∷ 0 ∷ 0 ∷ 0 ∷ 0 ∷ 0 ∷ 0 ∷ 0 ∷ 0 ∷ 0 ∷ 0 ∷ 0 ∷ 0 ∷ 0 ∷ 0 ∷ 0 ∷ 0 ∷ 0 ∷ 0 ∷ 0 ∷ 0 ∷ 0 ∷ 0 ∷ 0 ∷ 0 ∷ [])
+    -- `%%/*\n/s:;`, kind 1
+    ∷ row 1 (37 ∷ 37 ∷ 47 ∷ 42 ∷ 10 ∷ 47 ∷ 115 ∷ 58 ∷ 59 ∷ []) (0 ∷ 9 ∷ 9 ∷ 0 ∷ 0 ∷ 0 ∷ 0 ∷ 0 ∷ 0 ∷ 1 ∷ 1 ∷ 0 ∷ 0 ∷ 6 ∷ 7 ∷ 0 ∷ 0 ∷ 0 ∷ 0 ∷ 8 ∷ 8 ∷ 0 ∷ 0 ∷ 0 ∷ 0 ∷ 0 ∷ 0 ∷ 0 ∷ 0 ∷ 0 ∷ 0 ∷ 1 ∷ 6 ∷ 7 ∷ 0 ∷ 0 ∷ 0 ∷ 0 ∷ 0 ∷ 0 ∷ 0 ∷ 0 ∷ 0 ∷ 0 ∷ 0 ∷ 0 ∷ 0 ∷ 0 ∷ 0 ∷ 0 ∷ 0 ∷ 0 ∷ 0 ∷ [])
+    -- `%%/*/`, kind 1
+    ∷ row 1 (37 ∷ 37 ∷ 47 ∷ 42 ∷ 47 ∷ []) (5 ∷ 2 ∷ 2 ∷ 0 ∷ 0 ∷ 0 ∷ 0 ∷ 0 ∷ 0 ∷ 0 ∷ 0 ∷ 0 ∷ 0 ∷ 0 ∷ 0 ∷ 0 ∷ 0 ∷ 0 ∷ 0 ∷ 0 ∷ 0 ∷ 0 ∷ 0 ∷ 0 ∷ 0 ∷ 0 ∷ 0 ∷ 0 ∷ 0 ∷ 0 ∷ 0 ∷ 0 ∷ 0 ∷ 0 ∷ 0 ∷ [])
+    -- `%token\nA`, kind 1
+    ∷ row 1 (37 ∷ 116 ∷ 111 ∷ 107 ∷ 101 ∷ 110 ∷ 10 ∷ 65 ∷ []) (13 ∷ 6 ∷ 6 ∷ 0 ∷ 0 ∷ 0 ∷ 0 ∷ 0 ∷ 0 ∷ 0 ∷ 0 ∷ 0 ∷ 0 ∷ 0 ∷ 0 ∷ 0 ∷ 0 ∷ 0 ∷ 0 ∷ 0 ∷ 0 ∷ 0 ∷ 0 ∷ 0 ∷ 0 ∷ 0 ∷ 0 ∷ 0 ∷ 0 ∷ 0 ∷ 0 ∷ 0 ∷ 0 ∷ 0 ∷ 0 ∷ [])
+    -- `%token//\nA%%s:A;`, kind 1
+    ∷ row 1 (37 ∷ 116 ∷ 111 ∷ 107 ∷ 101 ∷ 110 ∷ 47 ∷ 47 ∷ 10 ∷ 65 ∷ 37 ∷ 37 ∷ 115 ∷ 58 ∷ 65 ∷ 59 ∷ []) (0 ∷ 16 ∷ 16 ∷ 1 ∷ 0 ∷ 0 ∷ 0 ∷ 0 ∷ 0 ∷ 1 ∷ 1 ∷ 1 ∷ 0 ∷ 9 ∷ 10 ∷ 1 ∷ 12 ∷ 13 ∷ 0 ∷ 0 ∷ 0 ∷ 0 ∷ 14 ∷ 15 ∷ 0 ∷ 1 ∷ 0 ∷ 0 ∷ 0 ∷ 0 ∷ 0 ∷ 0 ∷ 0 ∷ 0 ∷ 2 ∷ 14 ∷ 15 ∷ 1 ∷ 12 ∷ 13 ∷ 0 ∷ 0 ∷ 0 ∷ 0 ∷ 0 ∷ 0 ∷ 0 ∷ 0 ∷ 0 ∷ 0 ∷ 0 ∷ 0 ∷ 0 ∷ 0 ∷ 0 ∷ 0 ∷ 0 ∷ 0 ∷ 0 ∷ [])
+    -- `%token//\r\nA`, kind 1
+    ∷ row 1 (37 ∷ 116 ∷ 111 ∷ 107 ∷ 101 ∷ 110 ∷ 47 ∷ 47 ∷ 13 ∷ 10 ∷ 65 ∷ []) (13 ∷ 9 ∷ 9 ∷ 0 ∷ 0 ∷ 0 ∷ 0 ∷ 0 ∷ 0 ∷ 0 ∷ 0 ∷ 0 ∷ 0 ∷ 0 ∷ 0 ∷ 0 ∷ 0 ∷ 0 ∷ 0 ∷ 0 ∷ 0 ∷ 0 ∷ 0 ∷ 0 ∷ 0 ∷ 0 ∷ 0 ∷ 0 ∷ 0 ∷ 0 ∷ 0 ∷ 0 ∷ 0 ∷ 0 ∷ 0 ∷ [])
+    -- `%%s:""x";`, kind 1
+    ∷ row 1 (37 ∷ 37 ∷ 115 ∷ 58 ∷ 34 ∷ 34 ∷ 120 ∷ 34 ∷ 59 ∷ []) (0 ∷ 9 ∷ 9 ∷ 1 ∷ 0 ∷ 0 ∷ 0 ∷ 0 ∷ 0 ∷ 1 ∷ 1 ∷ 1 ∷ 0 ∷ 5 ∷ 7 ∷ 0 ∷ 2 ∷ 3 ∷ 0 ∷ 0 ∷ 0 ∷ 0 ∷ 4 ∷ 8 ∷ 0 ∷ 1 ∷ 0 ∷ 0 ∷ 0 ∷ 0 ∷ 0 ∷ 0 ∷ 0 ∷ 0 ∷ 2 ∷ 5 ∷ 7 ∷ 1 ∷ 2 ∷ 3 ∷ 0 ∷ 0 ∷ 0 ∷ 0 ∷ 0 ∷ 0 ∷ 0 ∷ 0 ∷ 0 ∷ 0 ∷ 0 ∷ 0 ∷ 0 ∷ 0 ∷ 0 ∷ 0 ∷ 0 ∷ 0 ∷ 0 ∷ [])
+    -- `%%s:{ };`, kind 1
+    ∷ row 1 (37 ∷ 37 ∷ 115 ∷ 58 ∷ 123 ∷ 32 ∷ 125 ∷ 59 ∷ []) (0 ∷ 8 ∷ 8 ∷ 0 ∷ 0 ∷ 0 ∷ 0 ∷ 0 ∷ 0 ∷ 1 ∷ 1 ∷ 0 ∷ 0 ∷ 2 ∷ 3 ∷ 0 ∷ 0 ∷ 0 ∷ 0 ∷ 4 ∷ 4 ∷ 0 ∷ 0 ∷ 0 ∷ 0 ∷ 0 ∷ 1 ∷ 5 ∷ 5 ∷ 5 ∷ 5 ∷ 1 ∷ 2 ∷ 3 ∷ 0 ∷ 0 ∷ 0 ∷ 0 ∷ 0 ∷ 0 ∷ 0 ∷ 0 ∷ 0 ∷ 0 ∷ 0 ∷ 0 ∷ 0 ∷ 0 ∷ 0 ∷ 0 ∷ 0 ∷ 0 ∷ 0 ∷ [])
+    -- `%%s:%empty%prec A'b';`, kind 1
+    ∷ row 1 (37 ∷ 37 ∷ 115 ∷ 58 ∷ 37 ∷ 101 ∷ 109 ∷ 112 ∷ 116 ∷ 121 ∷ 37 ∷ 112 ∷ 114 ∷ 101 ∷ 99 ∷ 32 ∷ 65 ∷ 39 ∷ 98 ∷ 39 ∷ 59 ∷ []) (0 ∷ 21 ∷ 21 ∷ 2 ∷ 0 ∷ 0 ∷ 0 ∷ 0 ∷ 0 ∷ 1 ∷ 1 ∷ 1 ∷ 0 ∷ 16 ∷ 17 ∷ 0 ∷ 18 ∷ 19 ∷ 0 ∷ 2 ∷ 3 ∷ 0 ∷ 0 ∷ 0 ∷ 0 ∷ 4 ∷ 20 ∷ 0 ∷ 1 ∷ 1 ∷ 16 ∷ 17 ∷ 0 ∷ 0 ∷ 0 ∷ 0 ∷ 0 ∷ 2 ∷ 18 ∷ 19 ∷ 1 ∷ 2 ∷ 3 ∷ 0 ∷ 0 ∷ 0 ∷ 0 ∷ 0 ∷ 0 ∷ 0 ∷ 0 ∷ 0 ∷ 0 ∷ 0 ∷ 0 ∷ 0 ∷ 0 ∷ 0 ∷ 0 ∷ 0 ∷ 0 ∷ 0 ∷ [])
+    -- `%start a%start b%%a:;`, kind 1
+    ∷ row 1 (37 ∷ 115 ∷ 116 ∷ 97 ∷ 114 ∷ 116 ∷ 32 ∷ 97 ∷ 37 ∷ 115 ∷ 116 ∷ 97 ∷ 114 ∷ 116 ∷ 32 ∷ 98 ∷ 37 ∷ 37 ∷ 97 ∷ 58 ∷ 59 ∷ []) (25 ∷ 7 ∷ 8 ∷ 0 ∷ 0 ∷ 0 ∷ 0 ∷ 0 ∷ 0 ∷ 1 ∷ 1 ∷ 0 ∷ 1 ∷ 18 ∷ 19 ∷ 0 ∷ 0 ∷ 0 ∷ 0 ∷ 20 ∷ 20 ∷ 0 ∷ 0 ∷ 0 ∷ 0 ∷ 0 ∷ 0 ∷ 0 ∷ 0 ∷ 0 ∷ 0 ∷ 25 ∷ 7 ∷ 8 ∷ 15 ∷ 16 ∷ 1 ∷ 7 ∷ 8 ∷ 0 ∷ 0 ∷ 0 ∷ 0 ∷ 0 ∷ 0 ∷ 0 ∷ 0 ∷ 0 ∷ 0 ∷ 0 ∷ 0 ∷ 0 ∷ 0 ∷ 0 ∷ 0 ∷ 0 ∷ 0 ∷ 0 ∷ [])
+    -- `%token A%expect-unused A%%s:A;`, kind 1
+    ∷ row 1 (37 ∷ 116 ∷ 111 ∷ 107 ∷ 101 ∷ 110 ∷ 32 ∷ 65 ∷ 37 ∷ 101 ∷ 120 ∷ 112 ∷ 101 ∷ 99 ∷ 116 ∷ 45 ∷ 117 ∷ 110 ∷ 117 ∷ 115 ∷ 101 ∷ 100 ∷ 32 ∷ 65 ∷ 37 ∷ 37 ∷ 115 ∷ 58 ∷ 65 ∷ 59 ∷ []) (0 ∷ 30 ∷ 30 ∷ 1 ∷ 0 ∷ 0 ∷ 0 ∷ 0 ∷ 1 ∷ 1 ∷ 1 ∷ 1 ∷ 0 ∷ 7 ∷ 8 ∷ 1 ∷ 1 ∷ 23 ∷ 24 ∷ 26 ∷ 27 ∷ 0 ∷ 0 ∷ 0 ∷ 0 ∷ 28 ∷ 29 ∷ 0 ∷ 1 ∷ 0 ∷ 0 ∷ 0 ∷ 0 ∷ 0 ∷ 0 ∷ 0 ∷ 0 ∷ 2 ∷ 28 ∷ 29 ∷ 1 ∷ 26 ∷ 27 ∷ 0 ∷ 0 ∷ 0 ∷ 0 ∷ 0 ∷ 0 ∷ 0 ∷ 0 ∷ 0 ∷ 0 ∷ 0 ∷ 0 ∷ 0 ∷ 0 ∷ 0 ∷ 0 ∷ 0 ∷ 0 ∷ 0 ∷ [])
+    -- `%expect18446744073709551616`, kind 1
+    ∷ row 1 (37 ∷ 101 ∷ 120 ∷ 112 ∷ 101 ∷ 99 ∷ 116 ∷ 49 ∷ 56 ∷ 52 ∷ 52 ∷ 54 ∷ 55 ∷ 52 ∷ 52 ∷ 48 ∷ 55 ∷ 51 ∷ 55 ∷ 48 ∷ 57 ∷ 53 ∷ 53 ∷ 49 ∷ 54 ∷ 49 ∷ 54 ∷ []) (1 ∷ 7 ∷ 7 ∷ 0 ∷ 0 ∷ 0 ∷ 0 ∷ 0 ∷ 0 ∷ 0 ∷ 0 ∷ 0 ∷ 0 ∷ 0 ∷ 0 ∷ 0 ∷ 0 ∷ 0 ∷ 0 ∷ 0 ∷ 0 ∷ 0 ∷ 0 ∷ 0 ∷ 0 ∷ 0 ∷ 0 ∷ 0 ∷ 0 ∷ 0 ∷ 0 ∷ 0 ∷ 0 ∷ 0 ∷ 0 ∷ [])
+    -- `%left 'a' // x\n%left 'b'\n%%s:;`, kind 1
+    ∷ row 1 (37 ∷ 108 ∷ 101 ∷ 102 ∷ 116 ∷ 32 ∷ 39 ∷ 97 ∷ 39 ∷ 32 ∷ 47 ∷ 47 ∷ 32 ∷ 120 ∷ 10 ∷ 37 ∷ 108 ∷ 101 ∷ 102 ∷ 116 ∷ 32 ∷ 39 ∷ 98 ∷ 39 ∷ 10 ∷ 37 ∷ 37 ∷ 115 ∷ 58 ∷ 59 ∷ []) (0 ∷ 30 ∷ 30 ∷ 0 ∷ 2 ∷ 0 ∷ 0 ∷ 0 ∷ 0 ∷ 1 ∷ 1 ∷ 0 ∷ 0 ∷ 7 ∷ 8 ∷ 0 ∷ 1 ∷ 22 ∷ 23 ∷ 1 ∷ 1 ∷ 27 ∷ 28 ∷ 0 ∷ 0 ∷ 0 ∷ 0 ∷ 29 ∷ 29 ∷ 0 ∷ 0 ∷ 0 ∷ 0 ∷ 0 ∷ 0 ∷ 0 ∷ 0 ∷ 0 ∷ 0 ∷ 1 ∷ 27 ∷ 28 ∷ 0 ∷ 0 ∷ 0 ∷ 0 ∷ 0 ∷ 0 ∷ 0 ∷ 0 ∷ 0 ∷ 0 ∷ 0 ∷ 0 ∷ 0 ∷ 0 ∷ 0 ∷ 0 ∷ 0 ∷ 0 ∷ 0 ∷ [])
+    -- `%%s:a.b;`, kind 1
+    ∷ row 1 (37 ∷ 37 ∷ 115 ∷ 58 ∷ 97 ∷ 46 ∷ 98 ∷ 59 ∷ []) (3 ∷ 5 ∷ 5 ∷ 0 ∷ 0 ∷ 0 ∷ 0 ∷ 0 ∷ 0 ∷ 0 ∷ 0 ∷ 0 ∷ 0 ∷ 0 ∷ 0 ∷ 0 ∷ 0 ∷ 0 ∷ 0 ∷ 0 ∷ 0 ∷ 0 ∷ 0 ∷ 0 ∷ 0 ∷ 0 ∷ 0 ∷ 0 ∷ 0 ∷ 0 ∷ 0 ∷ 0 ∷ 0 ∷ 0 ∷ 0 ∷ [])
+    -- `%%s:a|b c;a:;`, kind 1
+    ∷ row 1 (37 ∷ 37 ∷ 115 ∷ 58 ∷ 97 ∷ 124 ∷ 98 ∷ 32 ∷ 99 ∷ 59 ∷ 97 ∷ 58 ∷ 59 ∷ []) (0 ∷ 13 ∷ 13 ∷ 0 ∷ 0 ∷ 0 ∷ 0 ∷ 0 ∷ 0 ∷ 2 ∷ 3 ∷ 3 ∷ 0 ∷ 2 ∷ 3 ∷ 0 ∷ 0 ∷ 0 ∷ 10 ∷ 11 ∷ 0 ∷ 0 ∷ 0 ∷ 0 ∷ 4 ∷ 5 ∷ 0 ∷ 1 ∷ 0 ∷ 0 ∷ 0 ∷ 0 ∷ 0 ∷ 0 ∷ 0 ∷ 0 ∷ 0 ∷ 6 ∷ 9 ∷ 1 ∷ 3 ∷ 0 ∷ 0 ∷ 0 ∷ 0 ∷ 0 ∷ 0 ∷ 0 ∷ 0 ∷ 1 ∷ 12 ∷ 12 ∷ 3 ∷ 3 ∷ 0 ∷ 0 ∷ 0 ∷ 0 ∷ 0 ∷ 0 ∷ 0 ∷ 0 ∷ 1 ∷ 4 ∷ 5 ∷ 1 ∷ 6 ∷ 7 ∷ 1 ∷ 8 ∷ 9 ∷ 1 ∷ 2 ∷ 3 ∷ 0 ∷ 0 ∷ 0 ∷ 0 ∷ 0 ∷ 0 ∷ 0 ∷ 0 ∷ 0 ∷ 0 ∷ 0 ∷ 0 ∷ 0 ∷ 0 ∷ 0 ∷ 0 ∷ 0 ∷ 0 ∷ 0 ∷ [])
+    -- `%%s-> T::U :{ x }|;`, kind 2
+    ∷ row 2 (37 ∷ 37 ∷ 115 ∷ 45 ∷ 62 ∷ 32 ∷ 84 ∷ 58 ∷ 58 ∷ 85 ∷ 32 ∷ 58 ∷ 123 ∷ 32 ∷ 120 ∷ 32 ∷ 125 ∷ 124 ∷ 59 ∷ []) (0 ∷ 19 ∷ 19 ∷ 0 ∷ 0 ∷ 0 ∷ 0 ∷ 0 ∷ 0 ∷ 1 ∷ 2 ∷ 0 ∷ 0 ∷ 2 ∷ 3 ∷ 1 ∷ 6 ∷ 10 ∷ 0 ∷ 12 ∷ 12 ∷ 0 ∷ 0 ∷ 0 ∷ 0 ∷ 0 ∷ 1 ∷ 14 ∷ 15 ∷ 13 ∷ 14 ∷ 0 ∷ 18 ∷ 18 ∷ 0 ∷ 0 ∷ 0 ∷ 0 ∷ 0 ∷ 0 ∷ 0 ∷ 0 ∷ 0 ∷ 0 ∷ 1 ∷ 2 ∷ 3 ∷ 0 ∷ 0 ∷ 0 ∷ 0 ∷ 0 ∷ 0 ∷ 0 ∷ 0 ∷ 0 ∷ 0 ∷ 0 ∷ 0 ∷ 0 ∷ 0 ∷ 0 ∷ 0 ∷ 0 ∷ 0 ∷ 0 ∷ [])
+    -- `%actiontype T\n%%s:;s:a;`, kind 1
+    ∷ row 1 (37 ∷ 97 ∷ 99 ∷ 116 ∷ 105 ∷ 111 ∷ 110 ∷ 116 ∷ 121 ∷ 112 ∷ 101 ∷ 32 ∷ 84 ∷ 10 ∷ 37 ∷ 37 ∷ 115 ∷ 58 ∷ 59 ∷ 115 ∷ 58 ∷ 97 ∷ 59 ∷ []) (0 ∷ 23 ∷ 23 ∷ 0 ∷ 0 ∷ 0 ∷ 0 ∷ 0 ∷ 0 ∷ 1 ∷ 2 ∷ 1 ∷ 0 ∷ 16 ∷ 17 ∷ 1 ∷ 12 ∷ 13 ∷ 0 ∷ 18 ∷ 18 ∷ 0 ∷ 0 ∷ 0 ∷ 0 ∷ 0 ∷ 0 ∷ 0 ∷ 0 ∷ 0 ∷ 0 ∷ 0 ∷ 21 ∷ 22 ∷ 0 ∷ 1 ∷ 0 ∷ 0 ∷ 0 ∷ 0 ∷ 0 ∷ 0 ∷ 0 ∷ 0 ∷ 1 ∷ 21 ∷ 22 ∷ 1 ∷ 16 ∷ 17 ∷ 0 ∷ 0 ∷ 0 ∷ 0 ∷ 0 ∷ 0 ∷ 0 ∷ 0 ∷ 0 ∷ 0 ∷ 0 ∷ 0 ∷ 0 ∷ 0 ∷ 0 ∷ 0 ∷ 0 ∷ 0 ∷ 0 ∷ [])
+    -- `%%s:'a'%prec b%prec 'c';%% // x\n q`, kind 1
+    ∷ row 1 (37 ∷ 37 ∷ 115 ∷ 58 ∷ 39 ∷ 97 ∷ 39 ∷ 37 ∷ 112 ∷ 114 ∷ 101 ∷ 99 ∷ 32 ∷ 98 ∷ 37 ∷ 112 ∷ 114 ∷ 101 ∷ 99 ∷ 32 ∷ 39 ∷ 99 ∷ 39 ∷ 59 ∷ 37 ∷ 37 ∷ 32 ∷ 47 ∷ 47 ∷ 32 ∷ 120 ∷ 10 ∷ 32 ∷ 113 ∷ []) (0 ∷ 34 ∷ 34 ∷ 3 ∷ 0 ∷ 0 ∷ 0 ∷ 0 ∷ 0 ∷ 1 ∷ 1 ∷ 1 ∷ 0 ∷ 5 ∷ 6 ∷ 0 ∷ 13 ∷ 14 ∷ 0 ∷ 21 ∷ 22 ∷ 0 ∷ 2 ∷ 3 ∷ 0 ∷ 0 ∷ 0 ∷ 0 ∷ 4 ∷ 23 ∷ 0 ∷ 1 ∷ 1 ∷ 21 ∷ 22 ∷ 0 ∷ 0 ∷ 0 ∷ 0 ∷ 0 ∷ 2 ∷ 5 ∷ 6 ∷ 1 ∷ 2 ∷ 3 ∷ 0 ∷ 0 ∷ 0 ∷ 0 ∷ 0 ∷ 0 ∷ 0 ∷ 0 ∷ 0 ∷ 0 ∷ 0 ∷ 0 ∷ 0 ∷ 0 ∷ 0 ∷ 0 ∷ 1 ∷ 33 ∷ 34 ∷ [])
+    -- `%%s:{a}b;`, kind 1
+    ∷ row 1 (37 ∷ 37 ∷ 115 ∷ 58 ∷ 123 ∷ 97 ∷ 125 ∷ 98 ∷ 59 ∷ []) (11 ∷ 7 ∷ 7 ∷ 0 ∷ 0 ∷ 0 ∷ 0 ∷ 0 ∷ 0 ∷ 0 ∷ 0 ∷ 0 ∷ 0 ∷ 0 ∷ 0 ∷ 0 ∷ 0 ∷ 0 ∷ 0 ∷ 0 ∷ 0 ∷ 0 ∷ 0 ∷ 0 ∷ 0 ∷ 0 ∷ 0 ∷ 0 ∷ 0 ∷ 0 ∷ 0 ∷ 0 ∷ 0 ∷ 0 ∷ 0 ∷ [])
+    -- `%%s:%empty b;`, kind 1
+    ∷ row 1 (37 ∷ 37 ∷ 115 ∷ 58 ∷ 37 ∷ 101 ∷ 109 ∷ 112 ∷ 116 ∷ 121 ∷ 32 ∷ 98 ∷ 59 ∷ []) (9 ∷ 4 ∷ 4 ∷ 0 ∷ 0 ∷ 0 ∷ 0 ∷ 0 ∷ 0 ∷ 0 ∷ 0 ∷ 0 ∷ 0 ∷ 0 ∷ 0 ∷ 0 ∷ 0 ∷ 0 ∷ 0 ∷ 0 ∷ 0 ∷ 0 ∷ 0 ∷ 0 ∷ 0 ∷ 0 ∷ 0 ∷ 0 ∷ 0 ∷ 0 ∷ 0 ∷ 0 ∷ 0 ∷ 0 ∷ 0 ∷ [])
+    -- `%%s a;`, kind 1
+    ∷ row 1 (37 ∷ 37 ∷ 115 ∷ 32 ∷ 97 ∷ 59 ∷ []) (7 ∷ 4 ∷ 4 ∷ 0 ∷ 0 ∷ 0 ∷ 0 ∷ 0 ∷ 0 ∷ 0 ∷ 0 ∷ 0 ∷ 0 ∷ 0 ∷ 0 ∷ 0 ∷ 0 ∷ 0 ∷ 0 ∷ 0 ∷ 0 ∷ 0 ∷ 0 ∷ 0 ∷ 0 ∷ 0 ∷ 0 ∷ 0 ∷ 0 ∷ 0 ∷ 0 ∷ 0 ∷ 0 ∷ 0 ∷ 0 ∷ [])
+    -- `%%s:a`, kind 1
+    ∷ row 1 (37 ∷ 37 ∷ 115 ∷ 58 ∷ 97 ∷ []) (4 ∷ 5 ∷ 5 ∷ 0 ∷ 0 ∷ 0 ∷ 0 ∷ 0 ∷ 0 ∷ 0 ∷ 0 ∷ 0 ∷ 0 ∷ 0 ∷ 0 ∷ 0 ∷ 0 ∷ 0 ∷ 0 ∷ 0 ∷ 0 ∷ 0 ∷ 0 ∷ 0 ∷ 0 ∷ 0 ∷ 0 ∷ 0 ∷ 0 ∷ 0 ∷ 0 ∷ 0 ∷ 0 ∷ 0 ∷ 0 ∷ [])
+    -- `%%s:{{};`, kind 1
+    ∷ row 1 (37 ∷ 37 ∷ 115 ∷ 58 ∷ 123 ∷ 123 ∷ 125 ∷ 59 ∷ []) (6 ∷ 4 ∷ 4 ∷ 0 ∷ 0 ∷ 0 ∷ 0 ∷ 0 ∷ 0 ∷ 0 ∷ 0 ∷ 0 ∷ 0 ∷ 0 ∷ 0 ∷ 0 ∷ 0 ∷ 0 ∷ 0 ∷ 0 ∷ 0 ∷ 0 ∷ 0 ∷ 0 ∷ 0 ∷ 0 ∷ 0 ∷ 0 ∷ 0 ∷ 0 ∷ 0 ∷ 0 ∷ 0 ∷ 0 ∷ 0 ∷ [])
+    -- `%%9`, kind 1
+    ∷ row 1 (37 ∷ 37 ∷ 57 ∷ []) (2 ∷ 2 ∷ 2 ∷ 0 ∷ 0 ∷ 0 ∷ 0 ∷ 0 ∷ 0 ∷ 0 ∷ 0 ∷ 0 ∷ 0 ∷ 0 ∷ 0 ∷ 0 ∷ 0 ∷ 0 ∷ 0 ∷ 0 ∷ 0 ∷ 0 ∷ 0 ∷ 0 ∷ 0 ∷ 0 ∷ 0 ∷ 0 ∷ 0 ∷ 0 ∷ 0 ∷ 0 ∷ 0 ∷ 0 ∷ 0 ∷ [])
+    -- `%%s->t`, kind 2
+    ∷ row 2 (37 ∷ 37 ∷ 115 ∷ 45 ∷ 62 ∷ 116 ∷ []) (13 ∷ 6 ∷ 6 ∷ 0 ∷ 0 ∷ 0 ∷ 0 ∷ 0 ∷ 0 ∷ 0 ∷ 0 ∷ 0 ∷ 0 ∷ 0 ∷ 0 ∷ 0 ∷ 0 ∷ 0 ∷ 0 ∷ 0 ∷ 0 ∷ 0 ∷ 0 ∷ 0 ∷ 0 ∷ 0 ∷ 0 ∷ 0 ∷ 0 ∷ 0 ∷ 0 ∷ 0 ∷ 0 ∷ 0 ∷ 0 ∷ [])
+    -- `%implicit_tokens A\n%%s:A;`, kind 3
+    ∷ row 3 (37 ∷ 105 ∷ 109 ∷ 112 ∷ 108 ∷ 105 ∷ 99 ∷ 105 ∷ 116 ∷ 95 ∷ 116 ∷ 111 ∷ 107 ∷ 101 ∷ 110 ∷ 115 ∷ 32 ∷ 65 ∷ 10 ∷ 37 ∷ 37 ∷ 115 ∷ 58 ∷ 65 ∷ 59 ∷ []) (0 ∷ 25 ∷ 25 ∷ 1 ∷ 0 ∷ 0 ∷ 1 ∷ 0 ∷ 0 ∷ 1 ∷ 1 ∷ 1 ∷ 0 ∷ 17 ∷ 18 ∷ 0 ∷ 17 ∷ 18 ∷ 21 ∷ 22 ∷ 0 ∷ 0 ∷ 0 ∷ 0 ∷ 23 ∷ 24 ∷ 0 ∷ 1 ∷ 0 ∷ 0 ∷ 0 ∷ 0 ∷ 0 ∷ 0 ∷ 0 ∷ 0 ∷ 1 ∷ 23 ∷ 24 ∷ 1 ∷ 21 ∷ 22 ∷ 0 ∷ 0 ∷ 0 ∷ 0 ∷ 0 ∷ 0 ∷ 0 ∷ 0 ∷ 0 ∷ 0 ∷ 0 ∷ 0 ∷ 0 ∷ 0 ∷ 0 ∷ 0 ∷ 0 ∷ 0 ∷ 0 ∷ [])
+    -- `%token A%%s:A 'A' B;`, kind 1
+    ∷ row 1 (37 ∷ 116 ∷ 111 ∷ 107 ∷ 101 ∷ 110 ∷ 32 ∷ 65 ∷ 37 ∷ 37 ∷ 115 ∷ 58 ∷ 65 ∷ 32 ∷ 39 ∷ 65 ∷ 39 ∷ 32 ∷ 66 ∷ 59 ∷ []) (0 ∷ 20 ∷ 20 ∷ 1 ∷ 0 ∷ 0 ∷ 0 ∷ 0 ∷ 0 ∷ 1 ∷ 1 ∷ 3 ∷ 0 ∷ 7 ∷ 8 ∷ 1 ∷ 10 ∷ 11 ∷ 0 ∷ 0 ∷ 0 ∷ 0 ∷ 12 ∷ 19 ∷ 0 ∷ 3 ∷ 0 ∷ 0 ∷ 0 ∷ 0 ∷ 0 ∷ 0 ∷ 0 ∷ 0 ∷ 2 ∷ 12 ∷ 13 ∷ 2 ∷ 15 ∷ 16 ∷ 1 ∷ 18 ∷ 19 ∷ 1 ∷ 10 ∷ 11 ∷ 0 ∷ 0 ∷ 0 ∷ 0 ∷ 0 ∷ 0 ∷ 0 ∷ 0 ∷ 0 ∷ 0 ∷ 0 ∷ 0 ∷ 0 ∷ 0 ∷ 0 ∷ 0 ∷ 0 ∷ 0 ∷ 0 ∷ [])
+    -- `%parse-param p : q\n%parse-generics 'a\n%expect 2%expect-rr 3%%s:;`, kind 1
+    ∷ row 1 (37 ∷ 112 ∷ 97 ∷ 114 ∷ 115 ∷ 101 ∷ 45 ∷ 112 ∷ 97 ∷ 114 ∷ 97 ∷ 109 ∷ 32 ∷ 112 ∷ 32 ∷ 58 ∷ 32 ∷ 113 ∷ 10 ∷ 37 ∷ 112 ∷ 97 ∷ 114 ∷ 115 ∷ 101 ∷ 45 ∷ 103 ∷ 101 ∷ 110 ∷ 101 ∷ 114 ∷ 105 ∷ 99 ∷ 115 ∷ 32 ∷ 39 ∷ 97 ∷ 10 ∷ 37 ∷ 101 ∷ 120 ∷ 112 ∷ 101 ∷ 99 ∷ 116 ∷ 32 ∷ 50 ∷ 37 ∷ 101 ∷ 120 ∷ 112 ∷ 101 ∷ 99 ∷ 116 ∷ 45 ∷ 114 ∷ 114 ∷ 32 ∷ 51 ∷ 37 ∷ 37 ∷ 115 ∷ 58 ∷ 59 ∷ []) (0 ∷ 64 ∷ 64 ∷ 0 ∷ 0 ∷ 0 ∷ 0 ∷ 0 ∷ 0 ∷ 1 ∷ 1 ∷ 0 ∷ 0 ∷ 61 ∷ 62 ∷ 0 ∷ 0 ∷ 0 ∷ 0 ∷ 63 ∷ 63 ∷ 0 ∷ 0 ∷ 0 ∷ 0 ∷ 0 ∷ 0 ∷ 0 ∷ 0 ∷ 0 ∷ 0 ∷ 1 ∷ 61 ∷ 62 ∷ 1 ∷ 2 ∷ 46 ∷ 47 ∷ 1 ∷ 3 ∷ 58 ∷ 59 ∷ 1 ∷ 13 ∷ 14 ∷ 17 ∷ 18 ∷ 1 ∷ 35 ∷ 37 ∷ 0 ∷ 0 ∷ 0 ∷ [])
+    ∷ []
+
+pub table-holds : all (λ x. numbers (readAll (x .src) (x .kind) lent)) table ≡ true
+unfolding isWhite all same row table filled numbers readAll attempted admitted sectionsAll restAll endedAt check checkAt declAll declRun declTurn declStep seenAt firstOf startsAt begins turns gapAt gapOf spacing spacingAt isBlank isEol pastGap pushRow listRepeat enterStep onceStep addRow room samePart hasName firstRow findName enterToken nextLevel nameAt named wordAt tokenAt bare quotedAt closed isQuote isAt inClass isLetter isDigit runEnd runEndAt intAt counted decimal decimalAt stringAt stringFrom string lineEndAt single singleFrom colonText colonTextAt braced bracedFrom acted actionAt startDecl startNamed expectDecl expectGiven actiontypeDecl actiontypeNamed paramTyped paramDecl genericsDecl listDecl percentList listTurn ends tokenItem unusedItem unusedRow precDecl precList precTurn precItem avoidDecl avoidList avoidTurn avoidItem avoidNamed eppDecl eppValue eppText eppGiven pushProduction leadOf follow followAt begun decode decodeAt passed passedAt kept moved trimTurn trimmed firstMark sortAt tokenSymbol quotedRows quotedItem precName item-precItem mayEnd afterAction actionItem mayFollow emptyItem symbolKind bareItem endProduction barItem endItem itemStep itemTurn itemList passMark firstStart colonType arrowType ruleType enterRule namedHead ruleHead ruleBody ruleStep nextRule rulesTurn rulesRun rulesAll programsFrom
+table-holds = refl
