@@ -31,21 +31,21 @@ module _ {src : List ℕ} {done : ℕ} {s : State} {T : Tables} (f : Far src don
   first : (r : ℕ) → r < count s epps → Passed src (cell (width epps) (T .t5) r 0) (cell (width epps) (T .t5) r 1)
   first r l = rw (← row-cell (width epps) (T .t5) r 0 (omega arith), ← row-cell (width epps) (T .t5) r 1 (omega arith)) (f .tables epps .each r l .key)
 
-  given-far : (i j from to v e : ℕ) → Passed src i j → Passed src from to → Passed src v e → s .at ≤ e → Far2 src done T epps repeats (eppGiven src s i j from to v e (T .t5) (T .t10))
+  given-far : (i j from to v e : ℕ) → Passed src i j → Passed src from to → Passed src v e → stringAt src v ≡ Closed e → s .at ≤ e → Far2 src done T epps repeats (eppGiven src s i j from to v e (T .t5) (T .t10))
   unfolding eppGiven
-  given-far i j from to v e p q w h =
-      behind2-far false e _ h (w .inside) (once-held f epps (omega arith) (λ z. omega arith) keyName from to RepeatedEpp i j (eppCells i j from to v e) refl (record { key = p; name = q; text = w }) (λ r l. tt) first p)
+  given-far i j from to v e p q w c h =
+      behind2-far false e _ h (w .inside) (once-held f epps (omega arith) (λ z. omega arith) keyName from to RepeatedEpp i j (eppCells i j from to v e) refl (record { key = p; name = q; text = w; closed = c }) (λ r l. tt) first p)
 
   text-far : (i j from to v : ℕ) → Passed src i j → Passed src from to → s .at ≤ v → Far2 src done T epps repeats (eppText src s i j from to v (T .t5) (T .t10))
   unfolding eppText
-  text-far i j from to v p q h = go (stringAt src v) (string-placed src v (stringAt src v) refl .1)
+  text-far i j from to v p q h = go (stringAt src v) refl (string-placed src v (stringAt src v) refl .1)
     where
-      go : (t : Quote) → Stringed src v t → Far2 src done T epps repeats (eppString t src s i j from to v (T .t5) (T .t10))
-      go (Closed e) x = let a = x .0 in given-far i j from to v e p q (record { onward = omega arith; inside = x .1 }) (omega arith)
-      go (NotOpened k) x = f
-      go (LineInside k) x = f
-      go (BadEscape k) x = f
-      go (NotClosed k) x = f
+      go : (t : Quote) → stringAt src v ≡ t → Stringed src v t → Far2 src done T epps repeats (eppString t src s i j from to v (T .t5) (T .t10))
+      go (Closed e) c x = let a = x .0 in given-far i j from to v e p q (record { onward = omega arith; inside = x .1 }) c (omega arith)
+      go (NotOpened k) c x = f
+      go (LineInside k) c x = f
+      go (BadEscape k) c x = f
+      go (NotClosed k) c x = f
 
   pub epp-far : Far2 src done T epps repeats (eppDecl src s (T .t5) (T .t10))
   unfolding eppDecl eppValue

@@ -56,6 +56,7 @@ set-tab T (suc (suc (suc (suc (suc (suc (suc (suc (suc (suc k)))))))))) = refl
 -- a view that allows at least as much
 pub record Up (v w : View) : Type 0 where
   pub low : (n : ℕ) → v .low n → w .low n
+  pub whole : (src : List ℕ) (a b : ℕ) → v .whole src a b → w .whole src a b
   pub rules : v .rules ≤ w .rules
   pub symbols : v .symbols ≤ w .symbols
 
@@ -65,7 +66,7 @@ each-up src u zero x p = p
 each-up src u (suc zero) x p = record { name = p .name; earlier = u .low _ (p .earlier); least = p .least; most = p .most }
 each-up src u (suc (suc zero)) x p = p
 each-up src u (suc (suc (suc zero))) x p = p
-each-up src u (suc (suc (suc (suc zero)))) x p = p
+each-up src u (suc (suc (suc (suc zero)))) x p = record { key = p .key; name = p .name; text = p .text; closed = u .whole src _ _ (p .closed) }
 each-up src u (suc (suc (suc (suc (suc zero))))) x p = p
 each-up src u (suc (suc (suc (suc (suc (suc zero)))))) x p = p
 each-up src u (suc (suc (suc (suc (suc (suc (suc zero))))))) x p = record { rule = let e = p .rule in let l = u .rules in omega arith; span = p .span; precedence = p .precedence; body = p .body }
@@ -86,7 +87,7 @@ module _ {src : List ℕ} {done : ℕ} {s : State} {T : Tables} (f : Far src don
   -- the level rises,
   pub far-level : (n : ℕ) → s .level ≤ n → n ≤ s .at → Far src done (withLevel s n) T
   far-level n g h =
-      record { here = f .here; short = f .short; ten = f .ten; risen = h; tables = λ k. rows-map (each-up src (record { low = λ m l. omega arith; rules = omega arith; symbols = omega arith }) k) (f .tables k); ranges = f .ranges; since = f .since; singles = f .singles; actiontype = f .actiontype }
+      record { here = f .here; short = f .short; ten = f .ten; risen = h; tables = λ k. rows-map (each-up src (record { low = λ m l. omega arith; whole = λ _ a b c. c; rules = omega arith; symbols = omega arith }) k) (f .tables k); ranges = f .ranges; since = f .since; singles = f .singles; actiontype = f .actiontype }
 
   module _ (k : ℕ) (b : k < 10) (n : ℕ) (g : count s k ≤ n) (x : List ℕ) where
     same : count (withCount s k n) k ≡ n
@@ -100,7 +101,7 @@ module _ {src : List ℕ} {done : ℕ} {s : State} {T : Tables} (f : Far src don
     grow j (no e) = rw (other j e) (omega arith)
 
     up : Up (view s) (view (withCount s k n))
-    up = record { low = λ m l. l; rules = grow rules (ℕ-discrete rules k); symbols = grow symbols (ℕ-discrete symbols k) }
+    up = record { low = λ m l. l; whole = λ _ a b c. c; rules = grow rules (ℕ-discrete rules k); symbols = grow symbols (ℕ-discrete symbols k) }
 
     others : Table src (view s) k n x → (j : ℕ) → Dec (j ≡ k) → Table src (view s) j (count (withCount s k n) j) (tab (setTab T k x) j)
     others R j (yes e) = rw e (rows-as (sym same) (sym (tab-same T k x b)) R)
@@ -170,7 +171,7 @@ far-sound src s T f =
       short = f .short;
       fits = λ k b. f .tables k .fits;
       clean = λ k b. f .tables k .clean;
-      rows = λ k r b l. each-up src (record { low = λ n h. tt; rules = omega arith; symbols = omega arith }) k _ (f .tables k .each r l);
+      rows = λ k r b l. each-up src (record { low = λ n h. tt; whole = λ _ a b c. tt; rules = omega arith; symbols = omega arith }) k _ (f .tables k .each r l);
       singles = f .singles;
       ranges = f .ranges;
       names = λ k q r b l h. f .tables k .pairs q r l h;

@@ -5,6 +5,8 @@ use mathlib.Core.List.{List, [], _∷_}
 use mathlib.Core.Bool.{Bool, true, false}
 use mathlib.Core.Logic.{_⊎_}
 use lib.ListN.{length, getD, set, replicate}
+use Rattle.words.specs.declared.Quote.the-variants.{Closed}
+use Rattle.words.specs.Strings.{stringAt}
 use Rattle.tables.specs.Table.{samePart, zeroed}
 use Rattle.tables.specs.Rows.{Clean, rowAt, Rows, Chained}
 use Rattle.tables.specs.Layout.{precedences, rules, productions, symbols, declared, level, association, keyName, value, typed, ruleRow, place, symbolsFrom, symbolsTo, prec, action, kindName, width}
@@ -55,9 +57,10 @@ Given src f a b = ((f ≡ 0) × (a ≡ 0) × (b ≡ 0)) ⊎ ((f ≡ 1) × Passed
 abbrev pub GivenAction : List ℕ → ℕ → ℕ → ℕ → ℕ → ℕ → Type 0
 GivenAction src f a b c d = ((f ≡ 0) × (a ≡ 0) × (b ≡ 0) × (c ≡ 0) × (d ≡ 0)) ⊎ ((f ≡ 1) × Passed src a b × Passed src c d)
 
--- What a row says of other tables, and of levels: the rows of tables 7 and 9, and what a level may be.
+-- What a row says of other tables, of levels and of `%epp` values: the rows of tables 7 and 9, what a level may be, and what place of a source a value may have.
 pub record View : Type 1 where
   pub low : ℕ → Type 0
+  pub whole : List ℕ → ℕ → ℕ → Type 0
   pub rules : ℕ
   pub symbols : ℕ
 
@@ -75,10 +78,11 @@ pub record PrecRow (src : List ℕ) (v : View) (x : List ℕ) : Type 0 where
 pub record NameRow (src x : List ℕ) : Type 0 where
   pub name : Passed src (getD x 0 0) (getD x 1 0)
 
-pub record EppRow (src x : List ℕ) : Type 0 where
+pub record EppRow (src : List ℕ) (v : View) (x : List ℕ) : Type 0 where
   pub key : Passed src (getD x 0 0) (getD x 1 0)
   pub name : Passed src (getD x keyName 0) (getD x (keyName + 1) 0)
   pub text : Passed src (getD x value 0) (getD x (value + 1) 0)
+  pub closed : v .whole src (getD x value 0) (getD x (value + 1) 0)
 
 pub record KindRow (src x : List ℕ) : Type 0 where
   pub least : 1 ≤ getD x 0 0
@@ -114,7 +118,7 @@ any₂ x y = Unit
 -- the rows of each table in number order, and what two rows of one are to each other
 abbrev pub each : List ℕ → View → ℕ → List ℕ → Type 0
 each src v k =
-    getD (TokenRow src ∷ PrecRow src v ∷ NameRow src ∷ NameRow src ∷ EppRow src ∷ KindRow src ∷ RuleRow src ∷ ProductionRow src v ∷ KindRow src ∷ RepeatRow src ∷ []) k any
+    getD (TokenRow src ∷ PrecRow src v ∷ NameRow src ∷ NameRow src ∷ EppRow src v ∷ KindRow src ∷ RuleRow src ∷ ProductionRow src v ∷ KindRow src ∷ RepeatRow src ∷ []) k any
 
 abbrev pub pairs : List ℕ → ℕ → List ℕ → List ℕ → Type 0
 pairs src k = getD (Differ src ∷ any₂ ∷ any₂ ∷ any₂ ∷ any₂ ∷ any₂ ∷ Differ src ∷ []) k any₂
@@ -143,9 +147,9 @@ pub record Lie (src : List ℕ) (g : Singles) : Type 0 where
   pub generics : Lies src (g .generics)
   pub programs : Lies src (g .programs)
 
--- levels are free
+-- levels are free, and so are values within their places
 abbrev pub soundView : Counts → View
-soundView c = record { low = λ n. Unit; rules = getD (c .n) rules 0; symbols = getD (c .n) symbols 0 }
+soundView c = record { low = λ n. Unit; whole = λ src a b. Unit; rules = getD (c .n) rules 0; symbols = getD (c .n) symbols 0 }
 
 -- "Tables are sound when"
 pub record Sound (src : List ℕ) (c : Counts) (g : Singles) (T : Tables) : Type 0 where
@@ -164,9 +168,9 @@ pub record Sound (src : List ℕ) (c : Counts) (g : Singles) (T : Tables) : Type
   -- "names in 1 and in 7 are pairwise different"
   pub names : (k q r : ℕ) → k < 10 → q < r → r < getD (c .n) k 0 → pairs src k (rowAt (width k) (tab T k) q) (rowAt (width k) (tab T k) r)
 
--- levels that were given are below the next one
+-- levels that were given are below the next one, and values are strings
 abbrev pub view : State → View
-view s = record { low = λ n. n < s .level; rules = count s rules; symbols = count s symbols }
+view s = record { low = λ n. n < s .level; whole = λ src a b. stringAt src a ≡ Closed b; rules = count s rules; symbols = count s symbols }
 
 -- Sound so far: what holds between any two steps of a reading, whatever their answers. The productions' ranges end at `done`; the symbols behind it are
 -- those of the production that is being read.

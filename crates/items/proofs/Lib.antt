@@ -1,3 +1,4 @@
+pub mod Bare
 pub mod Symbols
 pub mod Marks
 pub mod Turns

@@ -1,6 +1,6 @@
 -- Lists that run to their line's end keep soundness so far, whatever their answer. Assumes nothing.
 use Prim.Native.Nat.{ℕ, suc, _≤_, _<_}
-use mathlib.Core.Path.{refl}
+use mathlib.Core.Path.{_≡_, refl}
 use mathlib.Core.List.{List}
 use mathlib.Core.Bool.{Bool, true, false}
 use native.Mathlib.Omega.{arith}
@@ -23,12 +23,13 @@ use Rattle.grammar.specs.declared.Repeat.the-variants.{RepeatedPrecedence}
 use Rattle.grammar.specs.declared.Gap.{Gap}
 use Rattle.grammar.specs.declared.Gap.the-variants.{GapTo, GapRefused}
 use Rattle.grammar.specs.Cells.{precedenceCells, nameCells}
-use Rattle.grammar.specs.State.{Out1, Out2, Out3, Passed, count, withAt, nextLevel, gapAt, Gapped, enterStep, onceStep, behind2}
+use Rattle.grammar.specs.State.{Out1, Out2, Out3, Passed, count, withAt, withLevel, nextLevel, gapAt, Gapped, enterStep, onceStep, behind2}
 use Rattle.grammar.specs.Sound.{Tables, tab, setTab, Far}
 use Rattle.grammar.proofs.Steps.{level-up}
 use Rattle.grammar.proofs.Far.{far-at, far-level}
 use Rattle.grammar.proofs.Kept.{gapped, Far2, Far3, Held, Held2, enter-held, once-held, behind2-far, pass-level}
-use Rattle.lines.specs.Precedences.{precFound, precItem, lineEnd, afterEnd, precTurn, precList, precFrom, precDecl}
+use Rattle.lines.specs.Precedences.{precFound, precItem, lineEnd, afterEnd, precTurn, precList, precDecl}
+use Rattle.lines.proofs.Cases.{prec-cases}
 use Rattle.lines.specs.Avoided.{avoidEntered, avoidNamed, avoidFound, avoidItem, avoidEnd, avoidTurn, avoidList, avoidFrom, avoidDecl}
 
 -- a precedence line under way: sound so far, and the line's level is below the next one
@@ -74,18 +75,18 @@ module _ (src : List ℕ) (done : ℕ) (T : Tables) (lev assoc : ℕ) (a : 1 ≤
 
 -- `%left`, `%right` and `%nonassoc`, behind their keyword
 pub prec-far : {src : List ℕ} {done : ℕ} {s : State} {T : Tables} (assoc : ℕ) → 1 ≤ assoc → assoc ≤ 3 → s .level < s .at → Far src done s T → Far2 src done T precedences repeats (precDecl src s assoc (T .t2) (T .t10))
-unfolding precDecl precList
-prec-far {src} {done} {s} {T} assoc a b up f = go (gapAt false src (s .at)) (gapped false src (s .at) (f .here))
+unfolding precList
+prec-far {src} {done} {s} {T} assoc a b up f = prec-cases (Far2 src done T precedences repeats) src s assoc (T .t2) (T .t10) line (λ e q. f)
   where
-    go : (g : Gap) → Gapped src (s .at) g → Far2 src done T precedences repeats (precFrom g src s assoc (T .t2) (T .t10))
-    go (GapTo i n) x =
+    line : (i n : ℕ) → gapAt false src (s .at) ≡ GapTo i n → Far2 src done T precedences repeats (precList src (withLevel (withAt s i) (nextLevel (s .level))) (s .level) assoc (T .t2) (T .t10))
+    line i n q =
+        let x : Gapped src (s .at) (GapTo i n) = rw q at (gapped false src (s .at) (f .here)) in
         let c = x .0 in
         let d = f .here in
         let e = f .short in
         let r = level-up (s .level) (omega arith) in
         let g = far-level (far-at f i (omega arith) (x .1)) (nextLevel (s .level)) (omega arith) (omega arith) in
         turns-keep (LineFar src done T (s .level)) (precTurn src (s .level) assoc) (turn-far src done T (s .level) assoc a b) (suc (length src)) _ (record { far = g; low = omega arith }) .far
-    go (GapRefused e) x = f
 
 -- a name table: table 3 or table 4
 pub data NameTable : ℕ → Type 0 where

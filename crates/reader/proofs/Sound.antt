@@ -1,6 +1,6 @@
 -- A read that was accepted, or refused for repeats only, is sound, and its end lies in the source; any other is cleared; and the contract allows one outcome.
 -- Assumes nothing.
-use Prim.Native.Nat.{ℕ, zero, suc, _≤_, _<_}
+use Prim.Native.Nat.{ℕ, zero, suc, _+_, _≤_, _<_}
 use mathlib.Core.Path.{_≡_, refl, sym, ap, _∙_}
 use mathlib.Core.List.{List, []}
 use mathlib.Core.Bool.{_||_}
@@ -12,8 +12,11 @@ use Rattle.scan.proofs.Bytes.{on-test, told}
 use Rattle.whole.specs.declared.Checked.{Checked}
 use Rattle.whole.specs.declared.Checked.the-variants.{Good, BadAt}
 use Rattle.whole.specs.Whole.{checkAt}
-use Rattle.tables.specs.Table.{zeroed}
-use Rattle.tables.specs.Layout.{symbols, repeats}
+use Rattle.words.specs.declared.Quote.the-variants.{Closed}
+use Rattle.words.specs.Strings.{stringAt}
+use Rattle.tables.specs.Table.{cell, zeroed}
+use Rattle.tables.specs.Layout.{epps, value, symbols, repeats, width}
+use Rattle.tables.proofs.Rows.{row-cell}
 use Rattle.grammar.specs.declared.State.{State}
 use Rattle.grammar.specs.declared.Refusal.{Refusal}
 use Rattle.grammar.specs.declared.Answer.{Answer}
@@ -110,6 +113,33 @@ read-sound src kind T = go (admitted src kind) (admits src kind)
     go : (m : Admission) → Admits src m → let o = finishedRun (attemptOf m src kind (zeroAll T)) in Full (o .answer) → SoundResult src o
     go Fit h x = let r = sectionsAll src kind fresh (zeroAll T) in finished-sound (r .answer) (r .state) (r .tables) (sections-far src kind T h)
     go (Unfit f) h x = absurd (h x)
+
+-- The `%epp` values that a read leaves are strings with their quotes, whatever its answer.
+abbrev Values : List ℕ → Result → Type 0
+Values src o = (r : ℕ) → r < getD (o .counts .n) epps 0 → stringAt src (cell (width epps) (o .tables .t5) r value) ≡ Closed (cell (width epps) (o .tables .t5) r (value + 1))
+
+far-values : {src : List ℕ} {done : ℕ} {s : State} {T : Tables} → Far src done s T → (r : ℕ) → r < count s epps → stringAt src (cell (width epps) (T .t5) r value) ≡ Closed (cell (width epps) (T .t5) r (value + 1))
+far-values {T = T} f r l = rw (← row-cell (width epps) (T .t5) r value (omega arith), ← row-cell (width epps) (T .t5) r (value + 1) (omega arith)) (f .tables epps .each r l .closed)
+
+finished-values : {src : List ℕ} {done : ℕ} (a : Answer) (s : State) (T : Tables) → Far src done s T → Values src (finished a s T)
+unfolding endedAt
+finished-values {src} a s T f = go a
+  where
+    ended : Values src (finished Going s T)
+    ended = on-test (λ (r : Reading). Values src (record { answer = r .answer; counts = r .counts; singles = r .singles; tables = T })) (eqb (count s repeats) 0) _ _ (λ e. far-values f) (λ e. far-values f)
+
+    go : (a : Answer) → Values src (finished a s T)
+    go Going = ended
+    go Done = ended
+    go (Refused x) = λ r l. absurd (omega arith)
+
+pub read-values : (src : List ℕ) (kind : ℕ) (T : Tables) → Values src (readAll src kind T)
+unfolding readAll attempted
+read-values src kind T = go (admitted src kind) (admits src kind)
+  where
+    go : (m : Admission) → Admits src m → Values src (finishedRun (attemptOf m src kind (zeroAll T)))
+    go Fit h = let r = sectionsAll src kind fresh (zeroAll T) in finished-values (r .answer) (r .state) (r .tables) (sections-far src kind T h .far)
+    go (Unfit f) h = λ r l. absurd (omega arith)
 
 -- "0 accepted: read: end reached, twice"
 abbrev Within : List ℕ → Verdict → Type 0

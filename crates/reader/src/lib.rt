@@ -224,8 +224,9 @@ pub fn ended(s: State, t10: &[u32]) -> Reading
     let counts = s.counts;
     let singles = s.singles;
     if grammar::count_of(s, tables::REPEATS) == 0 {
+        let end = s.at as u32;
         return Reading {
-            answer: Verdict::Accepted(s.at as u32),
+            answer: Verdict::Accepted(end),
             counts,
             singles,
         };

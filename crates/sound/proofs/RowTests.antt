@@ -51,12 +51,12 @@ module _ (src t : List ℕ) (r : ℕ) where
   unfolding nameTest
   name-iff = Iff·trans (placed (width avoided) 0 (omega arith)) (λ x. record { name = x }, λ y. y .name)
 
-  epp-iff : (eppTest src t r ≡ true) ↔ EppRow src (rowAt (width epps) t r)
+  epp-iff : (v : View) → ((src : List ℕ) (a b : ℕ) → v .whole src a b) → (eppTest src t r ≡ true) ↔ EppRow src v (rowAt (width epps) t r)
   unfolding eppTest
-  epp-iff =
+  epp-iff v any =
       Iff·trans
       (both-iff (both-iff (placed (width epps) 0 (omega arith)) (placed (width epps) keyName (omega arith))) (placed (width epps) value (omega arith)))
-      (λ x. record { key = x .0 .0; name = x .0 .1; text = x .1 }, λ y. ((y .key, y .name), y .text))
+      (λ x. record { key = x .0 .0; name = x .0 .1; text = x .1; closed = any src _ _ }, λ y. ((y .key, y .name), y .text))
 
   kind-iff : (kindTest src t r ≡ true) ↔ KindRow src (rowAt (width symbols) t r)
   unfolding kindTest
@@ -97,15 +97,15 @@ module _ (src t : List ℕ) (r : ℕ) where
         (λ x. record { rule = x .0 .0 .0; span = x .0 .0 .1; precedence = x .0 .1; body = x .1 }, λ y. (((y .rule, y .span), y .precedence), y .body))
 
     -- each row as its table's test tells it
-    pub each-iff : ((n : ℕ) → v .low n) → (k : ℕ) → (rowTest src (v .rules) k t r ≡ true) ↔ each src v k (rowAt (width k) t r)
-    each-iff free zero = token-iff
-    each-iff free (suc zero) = prec-iff free
-    each-iff free (suc (suc zero)) = name-iff
-    each-iff free (suc (suc (suc zero))) = name-iff
-    each-iff free (suc (suc (suc (suc zero)))) = epp-iff
-    each-iff free (suc (suc (suc (suc (suc zero))))) = kind-iff
-    each-iff free (suc (suc (suc (suc (suc (suc zero)))))) = rule-iff
-    each-iff free (suc (suc (suc (suc (suc (suc (suc zero))))))) = production-iff
-    each-iff free (suc (suc (suc (suc (suc (suc (suc (suc zero)))))))) = kind-iff
-    each-iff free (suc (suc (suc (suc (suc (suc (suc (suc (suc zero))))))))) = repeat-iff
-    each-iff free (suc (suc (suc (suc (suc (suc (suc (suc (suc (suc k)))))))))) = (λ e. tt, λ x. refl)
+    pub each-iff : ((n : ℕ) → v .low n) → ((src : List ℕ) (a b : ℕ) → v .whole src a b) → (k : ℕ) → (rowTest src (v .rules) k t r ≡ true) ↔ each src v k (rowAt (width k) t r)
+    each-iff free any zero = token-iff
+    each-iff free any (suc zero) = prec-iff free
+    each-iff free any (suc (suc zero)) = name-iff
+    each-iff free any (suc (suc (suc zero))) = name-iff
+    each-iff free any (suc (suc (suc (suc zero)))) = epp-iff v any
+    each-iff free any (suc (suc (suc (suc (suc zero))))) = kind-iff
+    each-iff free any (suc (suc (suc (suc (suc (suc zero)))))) = rule-iff
+    each-iff free any (suc (suc (suc (suc (suc (suc (suc zero))))))) = production-iff
+    each-iff free any (suc (suc (suc (suc (suc (suc (suc (suc zero)))))))) = kind-iff
+    each-iff free any (suc (suc (suc (suc (suc (suc (suc (suc (suc zero))))))))) = repeat-iff
+    each-iff free any (suc (suc (suc (suc (suc (suc (suc (suc (suc (suc k)))))))))) = (λ e. tt, λ x. refl)

@@ -8,6 +8,7 @@ use native.Mathlib.Omega.{arith}
 use lib.Dec.{leb, ltb, eqb}
 use lib.ListN.{length, getD}
 use borrow.Author.Tests.{leb-false, ltb-true, eqb-true, eqb-false, eq-eqb, ne-eqb, lt-ltb}
+use Rattle.scan.specs.declared.Place.{Place}
 use Rattle.scan.specs.declared.Class.{Class}
 use Rattle.scan.specs.declared.Class.the-variants.{NameStart, NameByte, TokenStart, TokenByte, Digit, Unquoted}
 use Rattle.scan.specs.Scan.{isAt, isLetter, inClass, runEndAt, Runs}
@@ -129,6 +130,20 @@ module _ (s : List ℕ) (from to : ℕ) where
           (λ f. on-test Is (isQuote (getD s from 0)) _ _
           (λ t q. absurd (false≢true (quoted-is (getD s from 0) s from from to to false q .quoted)))
           (λ t q. word-is TokenStart TokenByte s from to (back (wordAt TokenStart TokenByte s from) q)))
+
+  -- what is read where no quote stands is a bare token,
+  pub bare-is : (p : Place) (b : Bool) → isQuote (getD s from 0) ≡ false → tokenAt s from ≡ Found p to b → IsWord TokenStart TokenByte s from to
+  unfolding tokenAt bare
+  bare-is p b u =
+      on-test Is (leb (length s) from) _ _ (λ f q. absurd (clash (cc)))
+      (λ f. on-test Is (isQuote (getD s from 0)) _ _ (λ t q. absurd (false≢true (sym u ∙ t))) (λ t q. word-is TokenStart TokenByte s from to (back (wordAt TokenStart TokenByte s from) q)))
+    where
+      Is : Token → Type 0
+      Is r = r ≡ Found p to b → IsWord TokenStart TokenByte s from to
+
+      back : (w : Word) → bare from w ≡ Found p to b → w ≡ WordTo to
+      back (WordTo j) e = cc
+      back NoWord e = absurd (clash (cc))
 
   -- and so is a quoted one.
   pub quoted-iff : (tokenAt s from ≡ found (from + 1) to (to + 1) true) ↔ IsQuoted s from to

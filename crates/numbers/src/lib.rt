@@ -1,0 +1,193 @@
+// Each operation's answer as document 01's number, place and table number.
+use grammar::Told;
+use reader::Verdict;
+use usage::Listing;
+use validation::Flaw;
+use validation::Validity;
+use values::Valuation;
+ghost use mathlib.Core.Path.{_≡_};
+ghost use mathlib.Core.List.{List, [], _∷_, _++_};
+ghost use lib.ListN.{take, getD};
+ghost use Rattle.reader.specs.Read.{verdictNumbers};
+ghost use Rattle.validation.specs.Faults.{flawNumbers, validityNumbers};
+ghost use Rattle.usage.specs.Report.{listingNumbers};
+ghost use Rattle.values.specs.Value.{valuationNumbers};
+ghost use Rattle.numbers.specs.Numbers.{toldNumbers};
+
+pub fn of_verdict(v: Verdict) -> Told
+    ensures { λ r. ⌜ toldNumbers r ≡ verdictNumbers v ⌝ }
+{
+    match v {
+        Verdict::Accepted(i) => Told {
+            number: 0,
+            from: i,
+            to: i,
+            table: 0,
+        },
+        Verdict::Rejected(f) => grammar::tell(f),
+    }
+}
+
+pub fn of_flaw(f: Flaw) -> Told
+    ensures { λ r. ⌜ toldNumbers r ≡ flawNumbers f ++ (0 ∷ []) ⌝ }
+{
+    match f {
+        Flaw::NoStartRule => Told {
+            number: 30,
+            from: 0,
+            to: 0,
+            table: 0,
+        },
+        Flaw::InvalidStartRule(a, b) => Told {
+            number: 31,
+            from: a,
+            to: b,
+            table: 0,
+        },
+        Flaw::UnknownRuleRef(a, b) => Told {
+            number: 32,
+            from: a,
+            to: b,
+            table: 0,
+        },
+        Flaw::UnknownTokenRef(a, b) => Told {
+            number: 33,
+            from: a,
+            to: b,
+            table: 0,
+        },
+        Flaw::UnknownPrecToken(_, _) => Told {
+            number: 33,
+            from: 0,
+            to: 0,
+            table: 0,
+        },
+        Flaw::NoPrecForToken(_, _) => Told {
+            number: 34,
+            from: 0,
+            to: 0,
+            table: 0,
+        },
+        Flaw::UnknownEppKey(a, b) => Told {
+            number: 35,
+            from: a,
+            to: b,
+            table: 0,
+        },
+    }
+}
+
+pub fn of_validity(v: Validity) -> Told
+    ensures { λ r. ⌜ toldNumbers r ≡ validityNumbers v ++ (0 ∷ []) ⌝ }
+{
+    match v {
+        Validity::Valid => Told {
+            number: 0,
+            from: 0,
+            to: 0,
+            table: 0,
+        },
+        Validity::UnsoundTables => Told {
+            number: 44,
+            from: 0,
+            to: 0,
+            table: 0,
+        },
+        Validity::Invalid(f) => of_flaw(f),
+    }
+}
+
+pub fn of_listing(l: Listing) -> Told
+    ensures { λ r. ⌜ toldNumbers r ≡ take 4 (listingNumbers l) ⌝ }
+{
+    match l {
+        Listing::Unused(_) => Told {
+            number: 0,
+            from: 0,
+            to: 0,
+            table: 0,
+        },
+        Listing::OfUnsound => Told {
+            number: 44,
+            from: 0,
+            to: 0,
+            table: 0,
+        },
+        Listing::OfInvalid(f) => of_flaw(f),
+        Listing::NoWords => Told {
+            number: 42,
+            from: 0,
+            to: 0,
+            table: 11,
+        },
+        Listing::NoRoom => Told {
+            number: 42,
+            from: 0,
+            to: 0,
+            table: 12,
+        },
+    }
+}
+
+// How many rows the report has; 0 after a refusal.
+pub fn listed(l: Listing) -> usize
+    ensures { λ r. ⌜ r ≡ getD (listingNumbers l) 4 0 ⌝ }
+{
+    match l {
+        Listing::Unused(n) => n,
+        Listing::OfUnsound => 0,
+        Listing::OfInvalid(_) => 0,
+        Listing::NoWords => 0,
+        Listing::NoRoom => 0,
+    }
+}
+
+pub fn of_valuation(v: Valuation) -> Told
+    ensures { λ r. ⌜ toldNumbers r ≡ take 4 (valuationNumbers v) ⌝ }
+{
+    match v {
+        Valuation::Written(_) => Told {
+            number: 0,
+            from: 0,
+            to: 0,
+            table: 0,
+        },
+        Valuation::OfUnsoundTables => Told {
+            number: 44,
+            from: 0,
+            to: 0,
+            table: 0,
+        },
+        Valuation::PastCount => Told {
+            number: 44,
+            from: 0,
+            to: 0,
+            table: 0,
+        },
+        Valuation::NotString => Told {
+            number: 44,
+            from: 0,
+            to: 0,
+            table: 0,
+        },
+        Valuation::NoTextRoom => Told {
+            number: 42,
+            from: 0,
+            to: 0,
+            table: 13,
+        },
+    }
+}
+
+// How many bytes the value has; 0 after a refusal.
+pub fn written(v: Valuation) -> usize
+    ensures { λ r. ⌜ r ≡ getD (valuationNumbers v) 4 0 ⌝ }
+{
+    match v {
+        Valuation::Written(n) => n,
+        Valuation::OfUnsoundTables => 0,
+        Valuation::PastCount => 0,
+        Valuation::NotString => 0,
+        Valuation::NoTextRoom => 0,
+    }
+}

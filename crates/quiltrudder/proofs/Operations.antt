@@ -1,0 +1,68 @@
+-- The operations together: what they answer on what a read left, and that each contract allows one outcome. Assumes nothing.
+use Prim.Native.Nat.{ℕ, _<_}
+use mathlib.Core.Path.{_≡_, refl, sym, _∙_}
+use mathlib.Core.List.{List}
+use mathlib.Core.Bool.{true, false, false≢true}
+use native.Mathlib.Omega.{arith}
+use lib.ListN.{getD}
+use Rattle.tables.specs.Layout.{epps}
+use Rattle.grammar.specs.declared.Counts.{Counts}
+use Rattle.grammar.specs.declared.Singles.{Singles}
+use Rattle.grammar.specs.Sound.{Tables}
+use Rattle.reader.specs.Read.{Result, readAll}
+use Rattle.reader.specs.Allowed.{Full}
+use Rattle.reader.proofs.Sound.{read-sound, read-values}
+use Rattle.sound.specs.Test.{countAt, soundTest}
+use Rattle.sound.proofs.Iff.{sound-iff}
+use Rattle.validation.specs.declared.Validity.{Validity}
+use Rattle.validation.specs.declared.Validity.the-variants.{Valid, UnsoundTables, Invalid}
+use Rattle.validation.specs.Faults.{validity}
+use Rattle.validation.proofs.Order.{validity-unsound}
+use Rattle.usage.specs.declared.Listing.{Listing}
+use Rattle.usage.specs.declared.Listing.the-variants.{Unused, OfUnsound}
+use Rattle.usage.specs.Report.{Told, Reported}
+use Rattle.usage.proofs.Outcome.{report-room}
+use Rattle.usage.proofs.Standing.{unused-listed, report-rises}
+use Rattle.names.specs.Name.{nameOf}
+use Rattle.values.specs.Value.{valuationNumbers, eppValue}
+use Rattle.values.proofs.Meaning.{value-not-44}
+use Rattle.quiltrudder.specs.Report.{grammarRead, excusesRead, Roomy, Exactly}
+
+-- What an accepted read left, or one refused for repeats only, passes the test of soundness,
+module _ (src : List ℕ) (kind : ℕ) (T : Tables) (full : Full (readAll src kind T .answer)) where
+  abbrev o : Result
+  o = readAll src kind T
+
+  pub read-passes : soundTest src (o .counts) (o .singles) (o .tables) ≡ true
+  read-passes = sound-iff src (o .counts) (o .singles) (o .tables) .1 (read-sound src kind T full)
+
+  -- so that validation never answers 44 on it,
+  pub validate-not-44 : validity src (o .counts) (o .singles) (o .tables) ≡ UnsoundTables → ⊥
+  validate-not-44 e = false≢true (sym (validity-unsound src (o .counts) (o .singles) (o .tables) .0 e) ∙ read-passes)
+
+  -- nor does the report,
+  pub report-not-44 : (ws₀ ws out₀ out : List ℕ) → Reported src (o .counts) (o .singles) (o .tables) OfUnsound ws₀ ws out₀ out → ⊥
+  report-not-44 ws₀ ws out₀ out = go (validity src (o .counts) (o .singles) (o .tables)) refl
+    where
+      go : (v : Validity) → validity src (o .counts) (o .singles) (o .tables) ≡ v → Told v (grammarRead src o) (excusesRead src o) OfUnsound ws₀ ws out₀ out → ⊥
+      go Valid e p = p
+      go UnsoundTables e p = validate-not-44 e
+      go (Invalid f) e p = let q = p .0 in let z : _≡_ {A = ℕ} 0 1 = cc in omega arith
+
+  -- nor the value of an `%epp` row.
+  pub value-row-not-44 : (row : ℕ) (out : List ℕ) → row < countAt (o .counts) epps → getD (valuationNumbers (eppValue src (o .counts) (o .singles) (o .tables) row out .answer)) 0 0 ≡ 44 → ⊥
+  value-row-not-44 row out h = value-not-44 src (o .counts) (o .singles) (o .tables) row out read-passes h (read-values src kind T row h)
+
+  -- The third demand: where it validates, with words and room, the report holds exactly the unused rows, each once, in order.
+  pub report-exactly : (l : Listing) (ws₀ ws out₀ out : List ℕ) → validity src (o .counts) (o .singles) (o .tables) ≡ Valid → Roomy (grammarRead src o) ws₀ out₀ → Reported src (o .counts) (o .singles) (o .tables) l ws₀ ws out₀ out → Exactly (grammarRead src o) (excusesRead src o) l out
+  report-exactly l ws₀ ws out₀ out v room p =
+      let r = report-room src (o .counts) (o .singles) (o .tables) l ws₀ ws out₀ out v (room .words) (room .rows) p in
+      let q : Reported src (o .counts) (o .singles) (o .tables) (Unused (r .0)) ws₀ ws out₀ out = rw (r .1) at p in
+      record { count = r .0; listed = r .1; exactly = unused-listed src (o .counts) (o .singles) (o .tables) (r .0) ws₀ ws out₀ out q; rises = report-rises src (o .counts) (o .singles) (o .tables) (r .0) ws₀ ws out₀ out q }
+
+-- "Any two outcomes allowed by it are proved equal": of validation and of a name; `one-reading`, `reported-one` and `valued-one` say it of the others.
+pub validity-one : (src : List ℕ) (c : Counts) (g : Singles) (T : Tables) (v w : Validity) → v ≡ validity src c g T → w ≡ validity src c g T → v ≡ w
+validity-one src c g T v w p q = p ∙ sym q
+
+pub name-one : (src : List ℕ) (c : Counts) (g : Singles) (T : Tables) (table row : ℕ) (a b : List ℕ) → a ≡ nameOf src c g T table row → b ≡ nameOf src c g T table row → a ≡ b
+name-one src c g T table row a b p q = p ∙ sym q

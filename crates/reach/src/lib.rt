@@ -1,0 +1,285 @@
+// Marking: one bit for each row that a chain of productions from the start rule reaches.
+use grammar::Counts;
+use grammar::Part;
+use tables::Found;
+ghost use mathlib.Core.Path.{_≡_};
+ghost use Prim.Native.Nat.{ℕ, _+_, _*_, _^_, _<_, _≤_};
+ghost use mathlib.Core.Bool.{Bool, true, false, _||_};
+ghost use lib.ListN.{length, getD};
+ghost use Rattle.bits.specs.Bits.{bit};
+ghost use Rattle.reach.specs.Reach.{wordsFor, ruleSort, tokenSort, named, net, grammarOf, Begins, Apart, Owned, Fair, Adds, Added, Fits, Called, Among, Held, Swept, Within, Done, Visited, Spread, TokenOf, Marks};
+
+// One sort of rows: its code, the width of its rows, their count, and the bit of row 0.
+pub struct Sort {
+    pub kind: u32,
+    pub wide: u32,
+    pub count: u32,
+    pub base: usize,
+}
+
+fn either(a: bool, b: bool) -> bool
+    ensures { λ r. ⌜ r ≡ (a || b) ⌝ }
+{
+    if a { true } else { b }
+}
+
+// Words for `n` rows.
+pub fn words_for(n: u32) -> usize
+    ensures { λ r. ⌜ r ≡ wordsFor n ⌝ }
+{
+    (n as usize + 31) / 32
+}
+
+pub fn rule_sort(c: Counts) -> Sort
+    ensures { λ r. ⌜ r ≡ ruleSort c ⌝ }
+{
+    Sort {
+        kind: 1,
+        wide: tables::RULE_WIDTH,
+        count: sound::rows_of(c, tables::RULES),
+        base: 0,
+    }
+}
+
+pub fn token_sort(c: Counts) -> Sort
+    ensures { λ r. ⌜ r ≡ tokenSort c ⌝ }
+{
+    let rules = sound::rows_of(c, tables::RULES);
+    Sort {
+        kind: 2,
+        wide: tables::TOKEN_WIDTH,
+        count: sound::rows_of(c, tables::TOKENS),
+        base: words_for(rules) * 32,
+    }
+}
+
+// Sets bit `k`, and says whether it was 0.
+fn mark(w: &mut [u32], k: usize) -> bool
+    requires { ⌜ k < length (now w) * 32 ⌝ }
+    ensures { λ r. ⌜ Added (λ (j : ℕ). j ≡ k) (now (w .entry)) (now (w .exit)) r ⌝ }
+{
+    if bits::test_bit(w, k) {
+        return false;
+    }
+    bits::set_bit(w, k);
+    true
+}
+
+// Sets the bit of the row that has the name from `a` to `b`, if there is one. Says whether it was 0.
+fn mark_name(w: &mut [u32], src: &[u8], names: &[u32], z: Sort, a: u32, b: u32) -> bool
+    requires { ⌜ Fits z (now w) × Apart (now src) (named (now names) z) ⌝ }
+    ensures { λ r. ⌜ Added (Called (now (src .entry)) (named (now (names .entry)) z) a b) (now (w .entry)) (now (w .exit)) r ⌝ }
+{
+    match tables::find(src, names, z.wide, tables::NAME, z.count, a, b) {
+        Found::RowAt(row) => mark(w, z.base + row as usize),
+        Found::NoRow => false,
+    }
+}
+
+// Sets the bit of the row that symbol `s` names, if it is of the sort.
+fn mark_symbol(w: &mut [u32], src: &[u8], names: &[u32], z: Sort, syms: &[u32], s: u32) -> bool
+    requires { ⌜ Fits z (now w) × Apart (now src) (named (now names) z) ⌝ }
+    ensures { λ r. ⌜ Added (Among (now (src .entry)) (now (syms .entry)) (named (now (names .entry)) z) s (s + 1)) (now (w .entry)) (now (w .exit)) r ⌝ }
+{
+    let wide = tables::SYMBOL_WIDTH;
+    if tables::cell(syms, wide, s, 0) != z.kind {
+        return false;
+    }
+    let a = tables::cell(syms, wide, s, 1);
+    let b = tables::cell(syms, wide, s, 2);
+    mark_name(w, src, names, z, a, b)
+}
+
+// The same for the symbols from `from` on and before `to`.
+fn mark_symbols(
+    w: &mut [u32],
+    src: &[u8],
+    names: &[u32],
+    z: Sort,
+    syms: &[u32],
+    from: u32,
+    to: u32,
+) -> bool
+    requires { ⌜ Fits z (now w) × Apart (now src) (named (now names) z) ⌝ }
+    ensures { λ r. ⌜ Added (Among (now (src .entry)) (now (syms .entry)) (named (now (names .entry)) z) from to) (now (w .entry)) (now (w .exit)) r ⌝ }
+{
+    let mut changed = false;
+    let mut s = from;
+    while s < to {
+        let one = mark_symbol(w, src, names, z, syms, s);
+        changed = either(one, changed);
+        s += 1;
+    }
+    changed
+}
+
+// The rows that production `p` names, if its rule is marked.
+fn mark_production(
+    w: &mut [u32],
+    src: &[u8],
+    names: &[u32],
+    z: Sort,
+    c: Counts,
+    prods: &[u32],
+    syms: &[u32],
+    p: u32,
+) -> bool
+    requires { ⌜ Fits z (now w) × Apart (now src) (named (now names) z) ⌝ }
+    ensures { λ r. ⌜ Added (Held (net (now (src .entry)) c (now (prods .entry)) (now (syms .entry))) (named (now (names .entry)) z) (now (w .entry)) p) (now (w .entry)) (now (w .exit)) r ⌝ }
+{
+    let wide = tables::PRODUCTION_WIDTH;
+    let rule = tables::cell(prods, wide, p, tables::RULE_ROW);
+    if !bits::test_bit(w, rule as usize) {
+        return false;
+    }
+    let from = tables::cell(prods, wide, p, tables::FIRST);
+    let to = tables::cell(prods, wide, p, tables::LAST);
+    mark_symbols(w, src, names, z, syms, from, to)
+}
+
+fn word_of(w: &[u32], i: usize) -> u32
+    ensures { λ r. ⌜ r ≡ getD (now (w .entry)) i 0 ⌝ }
+{
+    if i < w.len() { w[i] } else { 0 }
+}
+
+// The words of `w`, as far as `d` goes.
+fn copy_words(d: &mut [u32], w: &[u32])
+    ensures { λ r. ⌜ Within (now (d .exit)) (now (w .entry)) ⌝ }
+{
+    let mut i = 0;
+    while i < d.len() {
+        d[i] = word_of(w, i);
+        i += 1;
+    }
+}
+
+// The rules that production `p` names, if its rule is marked, and not done.
+fn visit(
+    w: &mut [u32],
+    done: &[u32],
+    src: &[u8],
+    names: &[u32],
+    z: Sort,
+    c: Counts,
+    prods: &[u32],
+    syms: &[u32],
+    p: u32,
+) -> bool
+    requires { ⌜ Fits z (now w) × Apart (now src) (named (now names) z) ⌝ }
+    ensures { λ r. ⌜ Visited (net (now (src .entry)) c (now (prods .entry)) (now (syms .entry))) (named (now (names .entry)) z) (now (done .entry)) p (now (w .entry)) (now (w .exit)) r ⌝ }
+{
+    let rule = tables::cell(prods, tables::PRODUCTION_WIDTH, p, tables::RULE_ROW);
+    if bits::test_bit(done, rule as usize) {
+        return false;
+    }
+    mark_production(w, src, names, z, c, prods, syms, p)
+}
+
+// One pass over the productions: what a marked rule names is marked. Says whether a mark is new.
+fn sweep(
+    w: &mut [u32],
+    done: &[u32],
+    src: &[u8],
+    c: Counts,
+    rules: &[u32],
+    prods: &[u32],
+    syms: &[u32],
+) -> bool
+    requires { ⌜ Fits (ruleSort c) (now w) × Apart (now src) (named (now rules) (ruleSort c)) × Done (net (now src) c (now prods) (now syms)) (named (now rules) (ruleSort c)) (now done) (now w) ⌝ }
+    ensures { λ r. ⌜ Swept (net (now (src .entry)) c (now (prods .entry)) (now (syms .entry))) (named (now (rules .entry)) (ruleSort c)) (now (w .entry)) (now (w .exit)) r ⌝ }
+{
+    let z = rule_sort(c);
+    let n = sound::rows_of(c, tables::PRODUCTIONS);
+    let mut news = false;
+    let mut p = 0;
+    while p < n {
+        let one = visit(w, done, src, rules, z, c, prods, syms, p);
+        news = either(one, news);
+        p += 1;
+    }
+    news
+}
+
+// A pass, after which the rules that were marked before it are done.
+fn round(
+    w: &mut [u32],
+    done: &mut [u32],
+    src: &[u8],
+    c: Counts,
+    rules: &[u32],
+    prods: &[u32],
+    syms: &[u32],
+) -> bool
+    requires { ⌜ Fits (ruleSort c) (now w) × Apart (now src) (named (now rules) (ruleSort c)) × Done (net (now src) c (now prods) (now syms)) (named (now rules) (ruleSort c)) (now done) (now w) ⌝ }
+    ensures { λ r. ⌜ Swept (net (now (src .entry)) c (now (prods .entry)) (now (syms .entry))) (named (now (rules .entry)) (ruleSort c)) (now (w .entry)) (now (w .exit)) r × Done (net (now (src .entry)) c (now (prods .entry)) (now (syms .entry))) (named (now (rules .entry)) (ruleSort c)) (now (done .exit)) (now (w .exit)) ⌝ }
+{
+    let mut before = [0u32; 512];
+    copy_words(&mut before, w);
+    let news = sweep(w, done, src, c, rules, prods, syms);
+    copy_words(done, &before);
+    news
+}
+
+// Passes until no mark is new. Rows past 16,384 are never done, which costs time alone: no source has so many rules.
+fn spread(w: &mut [u32], src: &[u8], c: Counts, rules: &[u32], prods: &[u32], syms: &[u32])
+    requires { ⌜ Fits (ruleSort c) (now w) × Apart (now src) (named (now rules) (ruleSort c)) ⌝ }
+    ensures { λ r. ⌜ Spread (net (now (src .entry)) c (now (prods .entry)) (now (syms .entry))) (named (now (rules .entry)) (ruleSort c)) (now (w .entry)) (now (w .exit)) ⌝ }
+{
+    let mut done = [0u32; 512];
+    while round(w, &mut done, src, c, rules, prods, syms) {}
+}
+
+// One pass that marks the tokens of productions of marked rules.
+fn mark_tokens(w: &mut [u32], src: &[u8], c: Counts, tokens: &[u32], prods: &[u32], syms: &[u32])
+    requires { ⌜ Fits (tokenSort c) (now w) × Apart (now src) (named (now tokens) (tokenSort c)) × Owned (net (now src) c (now prods) (now syms)) (ruleSort c .count) ⌝ }
+    ensures { λ r. ⌜ Adds (TokenOf (net (now (src .entry)) c (now (prods .entry)) (now (syms .entry))) (named (now (tokens .entry)) (tokenSort c)) (now (w .entry))) (now (w .entry)) (now (w .exit)) ⌝ }
+{
+    let z = token_sort(c);
+    let n = sound::rows_of(c, tables::PRODUCTIONS);
+    let mut p = 0;
+    while p < n {
+        mark_production(w, src, tokens, z, c, prods, syms, p);
+        p += 1;
+    }
+}
+
+// The start rule's bit.
+fn mark_start(w: &mut [u32], src: &[u8], c: Counts, start: Part, rules: &[u32])
+    requires { ⌜ Fits (ruleSort c) (now w) × Apart (now src) (named (now rules) (ruleSort c)) ⌝ }
+    ensures { λ r. ⌜ Adds (Begins (now (src .entry)) (named (now (rules .entry)) (ruleSort c)) start) (now (w .entry)) (now (w .exit)) ⌝ }
+{
+    let z = rule_sort(c);
+    match start {
+        Part::Absent => {}
+        Part::At(a, b) => {
+            mark_name(w, src, rules, z, a, b);
+        }
+    }
+}
+
+// The work bits: a 1 for each used row. False, and all zero, where there are too few words.
+pub fn mark_used(
+    w: &mut [u32],
+    src: &[u8],
+    c: Counts,
+    start: Part,
+    t1: &[u32],
+    t7: &[u32],
+    t8: &[u32],
+    t9: &[u32],
+) -> bool
+    requires { ⌜ Fair (grammarOf (now src) c start (now t1) (now t7) (now t8) (now t9)) ⌝ }
+    ensures { λ r. ⌜ Marks (grammarOf (now (src .entry)) c start (now (t1 .entry)) (now (t7 .entry)) (now (t8 .entry)) (now (t9 .entry))) r (now (w .entry)) (now (w .exit)) ⌝ }
+{
+    tables::zero(w);
+    let rules = words_for(sound::rows_of(c, tables::RULES));
+    let tokens = words_for(sound::rows_of(c, tables::TOKENS));
+    if w.len() < rules + tokens {
+        return false;
+    }
+    mark_start(w, src, c, start, t7);
+    spread(w, src, c, t7, t8, t9);
+    mark_tokens(w, src, c, t1, t8, t9);
+    true
+}

@@ -1,0 +1,216 @@
+// What the program `specreport` does: it reads a specification of kind 1 from standard input and prints what read or validate answers, or the rules and tokens that
+// nothing uses.
+use grammar::Counts;
+use grammar::Singles;
+use grammar::Told;
+use reader::Verdict;
+use usage::Listing;
+
+// A word and two numbers, on a line of their own.
+fn print_line(word: &[u8], from: u32, to: u32) {
+    io::write_all(1, word);
+    io::write_all(1, b" ");
+    io::print_decimal(1, from as u64);
+    io::write_all(1, b" ");
+    io::print_decimal(1, to as u64);
+    io::write_all(1, b"\n");
+}
+
+fn print_answer(t: Told) {
+    io::write_all(1, b"answer ");
+    io::print_decimal(1, t.number as u64);
+    print_line(b"", t.from, t.to);
+}
+
+// Row `row` of the report, with the place of the rule's or token's name.
+fn print_row(t1: &[u32], t7: &[u32], out: &[u32], row: u32) {
+    let kind = tables::cell(out, 2, row, 0);
+    let r = tables::cell(out, 2, row, 1);
+    if kind == 1 {
+        let w = tables::RULE_WIDTH;
+        print_line(
+            b"rule",
+            tables::cell(t7, w, r, 0),
+            tables::cell(t7, w, r, 1),
+        );
+    } else {
+        let w = tables::TOKEN_WIDTH;
+        print_line(
+            b"token",
+            tables::cell(t1, w, r, 0),
+            tables::cell(t1, w, r, 1),
+        );
+    }
+}
+
+fn print_rows(t1: &[u32], t7: &[u32], out: &[u32], count: usize) {
+    let mut row = 0u32;
+    while row < 4294967295 && (row as usize) < count {
+        print_row(t1, t7, out, row);
+        row += 1;
+    }
+}
+
+// What is left to say of a source that was read to its end.
+fn print_report(
+    src: &[u8],
+    v: Verdict,
+    c: Counts,
+    g: Singles,
+    t1: &[u32],
+    t2: &[u32],
+    t3: &[u32],
+    t4: &[u32],
+    t5: &[u32],
+    t6: &[u32],
+    t7: &[u32],
+    t8: &[u32],
+    t9: &[u32],
+    t10: &[u32],
+    work: &mut [u32],
+    out: &mut [u32],
+) {
+    let l = quiltrudder::report(
+        src,
+        c,
+        g,
+        t1,
+        t2,
+        t3,
+        t4,
+        t5,
+        t6,
+        t7,
+        t8,
+        t9,
+        t10,
+        work,
+        out,
+    );
+    match l {
+        Listing::Unused(n) => {
+            print_answer(numbers::of_verdict(v));
+            print_rows(t1, t7, out, n);
+        }
+        Listing::OfUnsound => print_answer(numbers::of_listing(l)),
+        Listing::OfInvalid(_) => print_answer(numbers::of_listing(l)),
+        Listing::NoWords => print_answer(numbers::of_listing(l)),
+        Listing::NoRoom => print_answer(numbers::of_listing(l)),
+    }
+}
+
+// Read's answer if it is a refusal, else what is left to say.
+fn print_reading(
+    src: &[u8],
+    v: Verdict,
+    c: Counts,
+    g: Singles,
+    t1: &[u32],
+    t2: &[u32],
+    t3: &[u32],
+    t4: &[u32],
+    t5: &[u32],
+    t6: &[u32],
+    t7: &[u32],
+    t8: &[u32],
+    t9: &[u32],
+    t10: &[u32],
+    work: &mut [u32],
+    out: &mut [u32],
+) {
+    match v {
+        Verdict::Accepted(_) => {
+            print_report(
+                src,
+                v,
+                c,
+                g,
+                t1,
+                t2,
+                t3,
+                t4,
+                t5,
+                t6,
+                t7,
+                t8,
+                t9,
+                t10,
+                work,
+                out,
+            );
+        }
+        Verdict::Rejected(_) => print_answer(numbers::of_verdict(v)),
+    }
+}
+
+fn run(
+    src: &[u8],
+    t1: &mut [u32],
+    t2: &mut [u32],
+    t3: &mut [u32],
+    t4: &mut [u32],
+    t5: &mut [u32],
+    t6: &mut [u32],
+    t7: &mut [u32],
+    t8: &mut [u32],
+    t9: &mut [u32],
+    t10: &mut [u32],
+    work: &mut [u32],
+    out: &mut [u32],
+) {
+    let r = quiltrudder::read(src, 1, t1, t2, t3, t4, t5, t6, t7, t8, t9, t10);
+    let v = r.answer;
+    let c = r.counts;
+    let g = r.singles;
+    print_reading(
+        src,
+        v,
+        c,
+        g,
+        t1,
+        t2,
+        t3,
+        t4,
+        t5,
+        t6,
+        t7,
+        t8,
+        t9,
+        t10,
+        work,
+        out,
+    );
+}
+
+// 1,024 rows a table, 2,048 for the report, and a byte more than a source may have.
+pub fn report_input() {
+    let mut text = [0u8; 65537];
+    let n = io::read_full(0, &mut text);
+    let mut t1 = [0u32; 3072];
+    let mut t2 = [0u32; 4096];
+    let mut t3 = [0u32; 2048];
+    let mut t4 = [0u32; 2048];
+    let mut t5 = [0u32; 6144];
+    let mut t6 = [0u32; 3072];
+    let mut t7 = [0u32; 5120];
+    let mut t8 = [0u32; 13312];
+    let mut t9 = [0u32; 3072];
+    let mut t10 = [0u32; 5120];
+    let mut work = [0u32; 64];
+    let mut out = [0u32; 4096];
+    run(
+        &text[..n],
+        &mut t1,
+        &mut t2,
+        &mut t3,
+        &mut t4,
+        &mut t5,
+        &mut t6,
+        &mut t7,
+        &mut t8,
+        &mut t9,
+        &mut t10,
+        &mut work,
+        &mut out,
+    );
+}

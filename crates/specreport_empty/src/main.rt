@@ -1,0 +1,4 @@
+// `specreport` on an empty source.
+fn main() {
+    reporting::report_input();
+}

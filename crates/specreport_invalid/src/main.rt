@@ -1,0 +1,4 @@
+// `specreport` on a source that validate refuses.
+fn main() {
+    reporting::report_input();
+}

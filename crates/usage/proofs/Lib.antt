@@ -1,0 +1,5 @@
+pub mod Excuses
+pub mod Picked
+pub mod Passes
+pub mod Outcome
+pub mod Standing

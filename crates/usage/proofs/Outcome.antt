@@ -1,0 +1,174 @@
+-- From the bits to chains; and that any two outcomes which the contract allows are equal. Assumes nothing.
+use Prim.Native.Nat.{ℕ, _+_, _*_, _<_, _≤_}
+use mathlib.Core.Path.{_≡_, refl, sym, ap, _∙_}
+use mathlib.Core.List.{List}
+use mathlib.Core.Bool.{Bool, true, false}
+use native.Mathlib.Omega.{arith}
+use lib.ListN.{length, replicate}
+use Rattle.tables.specs.Table.{zeroed}
+use Rattle.grammar.specs.declared.Counts.{Counts}
+use Rattle.grammar.specs.declared.Singles.{Singles}
+use Rattle.grammar.specs.Sound.{Tables}
+use Rattle.sound.proofs.Iff.{sound-iff}
+use Rattle.validation.specs.declared.Flaw.{Flaw}
+use Rattle.validation.specs.declared.Validity.{Validity}
+use Rattle.validation.specs.declared.Validity.the-variants.{Valid, UnsoundTables, Invalid}
+use Rattle.validation.specs.Faults.{validity}
+use Rattle.validation.proofs.Order.{validity-first}
+use Rattle.reach.specs.Reach.{Grammar, grammarOf, Fair, need, Work, Marks, Marked, rule, token, UsedRule, UsedToken}
+use Rattle.reach.proofs.Works.{work-one}
+use Rattle.reach.proofs.Fair.{fair-sound}
+use Rattle.usage.specs.declared.Listing.{Listing}
+use Rattle.usage.specs.declared.Listing.the-variants.{Unused, OfUnsound, OfInvalid, NoWords, NoRoom}
+use Rattle.usage.specs.Report.{Excuses, excusesOf, UnusedRule, UnusedToken, Free, Lists, Filled, Crowded, Accepted, Listed, Told, Reported, ByBits}
+use Rattle.usage.proofs.Picked.{picks-one, picks-same, picks-bound}
+
+-- what the marking says, by its answer
+pub marks-no : (g : Grammar) (b : Bool) (ws vs : List ℕ) → b ≡ false → Marks g b ws vs → (length ws < need g) × (vs ≡ zeroed ws)
+marks-no g true ws vs e m = let z : _≡_ {A = ℕ} 0 1 = cc in absurd (omega arith)
+marks-no g false ws vs e m = m
+
+pub marks-yes : (g : Grammar) (b : Bool) (ws vs : List ℕ) → b ≡ true → Marks g b ws vs → (need g ≤ length ws) × (length vs ≡ length ws) × Work g vs
+marks-yes g true ws vs e m = m
+marks-yes g false ws vs e m = let z : _≡_ {A = ℕ} 0 1 = cc in absurd (omega arith)
+
+-- ---- from the bits to chains: rules' bits are the first, and tokens' lie behind them
+
+module _ (g : Grammar) (x : Excuses) (ws : List ℕ) (first : g .rules .sort .base ≡ 0) (behind : g .rules .sort .count ≤ g .tokens .sort .base) (k : Work g ws) where
+  on-rule : (r : ℕ) → r < g .rules .sort .count → (m : ℕ) → m ≡ r → Marked g m → UsedRule g r
+  on-rule r h m e (rule l c) = rw e at c
+  on-rule r h m e (token t l f u) = absurd (omega arith)
+
+  on-token : (t : ℕ) → Marked g (g .tokens .sort .base + t) → UsedToken g t
+  on-token t (rule l c) = absurd (omega arith)
+  on-token t (token u l f m) = let e : u ≡ t = omega arith in rw e at m
+
+  free-rule : (r : ℕ) → r < g .rules .sort .count → Free ws x (g .rules) r → UnusedRule g x r
+  free-rule r h f =
+      let e : g .rules .sort .base + r ≡ r = omega arith in
+      record { unreached = λ c. f .off (k .all _ (rule (omega arith) (rw e c))); unexcused = f .unexcused }
+
+  rule-free : (r : ℕ) → r < g .rules .sort .count → UnusedRule g x r → Free ws x (g .rules) r
+  rule-free r h u = record { off = λ o. u .unreached (on-rule r h _ (omega arith) (k .only (g .rules .sort .base + r) o)); unexcused = u .unexcused }
+
+  free-token : (t : ℕ) → t < g .tokens .sort .count → Free ws x (g .tokens) t → UnusedToken g x t
+  free-token t h f = record { unreached = λ c. f .off (k .all _ (token t h refl c)); unexcused = f .unexcused }
+
+  token-free : (t : ℕ) → t < g .tokens .sort .count → UnusedToken g x t → Free ws x (g .tokens) t
+  token-free t h u = record { off = λ o. u .unreached (on-token t (k .only _ o)); unexcused = u .unexcused }
+
+  lists-are : Lists (Free ws x (g .rules)) (Free ws x (g .tokens)) (g .rules .sort .count) (g .tokens .sort .count) → Lists (UnusedRule g x) (UnusedToken g x) (g .rules .sort .count) (g .tokens .sort .count)
+  lists-are l = record { rules = l .rules; tokens = l .tokens; rules-are = picks-same free-rule rule-free (l .rules-are); tokens-are = picks-same free-token token-free (l .tokens-are) }
+
+  pub filled-are : {n : ℕ} {out₀ out : List ℕ} → Filled (Free ws x (g .rules)) (Free ws x (g .tokens)) (g .rules .sort .count) (g .tokens .sort .count) n out₀ out → Filled (UnusedRule g x) (UnusedToken g x) (g .rules .sort .count) (g .tokens .sort .count) n out₀ out
+  unfolding lists-are
+  filled-are f = record { lists = lists-are (f .lists); count-is = f .count-is; room = f .room; cells = f .cells }
+
+  pub crowded-are : {out₀ : List ℕ} → Crowded (Free ws x (g .rules)) (Free ws x (g .tokens)) (g .rules .sort .count) (g .tokens .sort .count) out₀ → Crowded (UnusedRule g x) (UnusedToken g x) (g .rules .sort .count) (g .tokens .sort .count) out₀
+  unfolding lists-are
+  crowded-are f = record { lists = lists-are (f .lists); room = f .room }
+
+-- what marking and then listing come to: the rows, or no room for them, and nothing else
+module _ (g : Grammar) (x : Excuses) (ws₀ ws : List ℕ) (first : g .rules .sort .base ≡ 0) (behind : g .rules .sort .count ≤ g .tokens .sort .base) (m : (need g ≤ length ws₀) × (length ws ≡ length ws₀) × Work g ws) (l : Listing) (out₀ out : List ℕ) (b : ByBits ws x (g .rules) (g .tokens) l out₀ out) where
+  pub listed-rows : (n : ℕ) → l ≡ Unused n → Listed g x l ws₀ ws out₀ out
+  listed-rows n e = rw e (record { words = m .0; size = m .1; work = m .2; filled = filled-are g x ws first behind (m .2) (rw e at b) })
+
+  pub listed-crowded : (vs : List ℕ) → l ≡ NoRoom → vs ≡ zeroed ws → Listed g x l ws₀ vs out₀ out
+  listed-crowded vs e z =
+      let c = rw e at b in
+      rw e (m .0, crowded-are g x ws first behind (m .2) (c .0), record { work = z ∙ ap (λ n. replicate n 0) (m .1); cells = c .1 })
+
+-- ---- any two outcomes are equal
+
+pub record Outcome : Type 0 where
+  pub answer : Listing
+  pub work : List ℕ
+  pub cells : List ℕ
+
+lists-one : {R T : ℕ → Type 0} {m n : ℕ} (l k : Lists R T m n) → (l .rules ≡ k .rules) × (l .tokens ≡ k .tokens)
+lists-one l k = (picks-one (l .rules-are) (k .rules-are), picks-one (l .tokens-are) (k .tokens-are))
+
+filled-one : {R T : ℕ → Type 0} {m n a b : ℕ} {out₀ out out' : List ℕ} → Filled R T m n a out₀ out → Filled R T m n b out₀ out' → (a ≡ b) × (out ≡ out')
+filled-one f h =
+    let e = lists-one (f .lists) (h .lists) in
+    (f .count-is ∙ rw (e .0, e .1) (sym (h .count-is)), f .cells ∙ rw (e .0, e .1) (sym (h .cells)))
+
+not-both : {R T : ℕ → Type 0} {m n a : ℕ} {out₀ out : List ℕ} → Filled R T m n a out₀ out → Crowded R T m n out₀ → ⊥
+not-both f h =
+    let e = lists-one (f .lists) (h .lists) in
+    omega (arith, f .room, h .room, ap length (e .0), ap length (e .1))
+
+module _ (g : Grammar) (x : Excuses) (ws₀ out₀ : List ℕ) where
+  -- of a valid reading
+  pub listed-one : (a b : Listing) (ws vs out out' : List ℕ) → Listed g x a ws₀ ws out₀ out → Listed g x b ws₀ vs out₀ out' → _≡_ {A = Outcome} (record { answer = a; work = ws; cells = out }) (record { answer = b; work = vs; cells = out' })
+  listed-one (Unused n) (Unused m) ws vs out out' p q =
+      let e = filled-one (p .filled) (q .filled) in
+      let w = work-one g ws vs (p .size ∙ sym (q .size)) (p .work) (q .work) in
+      rw (e .0, e .1, w)
+  listed-one NoWords NoWords ws vs out out' p q = rw (p .1 .work, q .1 .work, p .1 .cells, q .1 .cells)
+  listed-one NoRoom NoRoom ws vs out out' p q = rw (p .2 .work, q .2 .work, p .2 .cells, q .2 .cells)
+  listed-one (Unused n) NoWords ws vs out out' p q = absurd (omega (arith, p .words, q .0))
+  listed-one NoWords (Unused n) ws vs out out' p q = absurd (omega (arith, q .words, p .0))
+  listed-one NoRoom NoWords ws vs out out' p q = absurd (omega (arith, p .0, q .0))
+  listed-one NoWords NoRoom ws vs out out' p q = absurd (omega (arith, p .0, q .0))
+  listed-one (Unused n) NoRoom ws vs out out' p q = absurd (not-both (p .filled) (q .1))
+  listed-one NoRoom (Unused n) ws vs out out' p q = absurd (not-both (q .filled) (p .1))
+  listed-one OfUnsound b ws vs out out' p q = absurd p
+  listed-one (OfInvalid f) b ws vs out out' p q = absurd p
+  listed-one (Unused n) OfUnsound ws vs out out' p q = absurd q
+  listed-one (Unused n) (OfInvalid f) ws vs out out' p q = absurd q
+  listed-one NoWords OfUnsound ws vs out out' p q = absurd q
+  listed-one NoWords (OfInvalid f) ws vs out out' p q = absurd q
+  listed-one NoRoom OfUnsound ws vs out out' p q = absurd q
+  listed-one NoRoom (OfInvalid f) ws vs out out' p q = absurd q
+
+  -- of a reading that is valid or not
+  told-one : (v : Validity) (a b : Listing) (ws vs out out' : List ℕ) → Told v g x a ws₀ ws out₀ out → Told v g x b ws₀ vs out₀ out' → _≡_ {A = Outcome} (record { answer = a; work = ws; cells = out }) (record { answer = b; work = vs; cells = out' })
+  told-one Valid a b ws vs out out' p q = listed-one a b ws vs out out' p q
+  told-one UnsoundTables a b ws vs out out' p q = rw (p .0, q .0, p .1 .work, q .1 .work, p .1 .cells, q .1 .cells)
+  told-one (Invalid f) a b ws vs out out' p q = rw (p .0, q .0, p .1 .work, q .1 .work, p .1 .cells, q .1 .cells)
+
+  -- rows are listed of a valid reading only
+  told-rows : (v : Validity) (n : ℕ) (ws out : List ℕ) → Told v g x (Unused n) ws₀ ws out₀ out → Accepted g x n ws₀ ws out₀ out
+  told-rows Valid n ws out p = p
+  told-rows UnsoundTables n ws out p = let e = p .0 in let z : _≡_ {A = ℕ} 0 1 = cc in absurd (omega arith)
+  told-rows (Invalid f) n ws out p = let e = p .0 in let z : _≡_ {A = ℕ} 0 1 = cc in absurd (omega arith)
+
+  -- with words and room enough nothing else is answered
+  listed-room : (l : Listing) (ws out : List ℕ) → need g ≤ length ws₀ → (g .rules .sort .count + g .tokens .sort .count) * 2 ≤ length out₀ → Listed g x l ws₀ ws out₀ out → (n : ℕ) × (l ≡ Unused n)
+  listed-room (Unused n) ws out h k p = (n, refl)
+  listed-room OfUnsound ws out h k p = absurd p
+  listed-room (OfInvalid f) ws out h k p = absurd p
+  listed-room NoWords ws out h k p = absurd (omega (arith, p .0))
+  listed-room NoRoom ws out h k p = absurd (omega (arith, p .1 .room, picks-bound (p .1 .lists .rules-are), picks-bound (p .1 .lists .tokens-are)))
+
+module _ (src : List ℕ) (c : Counts) (g : Singles) (T : Tables) where
+  abbrev grammar : Grammar
+  grammar = grammarOf src c (g .start) (T .t1) (T .t7) (T .t8) (T .t9)
+
+  abbrev excuses : Excuses
+  excuses = excusesOf src c (T .t4) (T .t6)
+
+  -- validation first
+  pub fair-valid : validity src c g T ≡ Valid → Fair grammar
+  fair-valid v = fair-sound src c g T (sound-iff src c g T .0 (validity-first src c g T .0 .0 v .0))
+
+  pub reported-valid : (l : Listing) (ws₀ ws out₀ out : List ℕ) → validity src c g T ≡ Valid → Listed grammar excuses l ws₀ ws out₀ out → Reported src c g T l ws₀ ws out₀ out
+  reported-valid l ws₀ ws out₀ out v p = rw v p
+
+  pub reported-unsound : (ws₀ ws out₀ out : List ℕ) → validity src c g T ≡ UnsoundTables → ws ≡ zeroed ws₀ → out ≡ zeroed out₀ → Reported src c g T OfUnsound ws₀ ws out₀ out
+  reported-unsound ws₀ ws out₀ out v p q = rw v (refl, record { work = p; cells = q })
+
+  pub reported-flaw : (f : Flaw) (ws₀ ws out₀ out : List ℕ) → validity src c g T ≡ Invalid f → ws ≡ zeroed ws₀ → out ≡ zeroed out₀ → Reported src c g T (OfInvalid f) ws₀ ws out₀ out
+  reported-flaw f ws₀ ws out₀ out v p q = rw v (refl, record { work = p; cells = q })
+
+  -- the contract allows one outcome only
+  pub reported-one : (ws₀ out₀ : List ℕ) (a b : Listing) (ws vs out out' : List ℕ) → Reported src c g T a ws₀ ws out₀ out → Reported src c g T b ws₀ vs out₀ out' → _≡_ {A = Outcome} (record { answer = a; work = ws; cells = out }) (record { answer = b; work = vs; cells = out' })
+  reported-one ws₀ out₀ a b ws vs out out' = told-one grammar excuses ws₀ out₀ (validity src c g T) a b ws vs out out'
+
+  pub reported-rows : (n : ℕ) (ws₀ ws out₀ out : List ℕ) → Reported src c g T (Unused n) ws₀ ws out₀ out → Accepted grammar excuses n ws₀ ws out₀ out
+  reported-rows n ws₀ ws out₀ out = told-rows grammar excuses ws₀ out₀ (validity src c g T) n ws out
+
+  -- a valid reading, words and room enough for every row: the report is given
+  pub report-room : (l : Listing) (ws₀ ws out₀ out : List ℕ) → validity src c g T ≡ Valid → need grammar ≤ length ws₀ → (grammar .rules .sort .count + grammar .tokens .sort .count) * 2 ≤ length out₀ → Reported src c g T l ws₀ ws out₀ out → (n : ℕ) × (l ≡ Unused n)
+  report-room l ws₀ ws out₀ out v h k p = listed-room grammar excuses ws₀ out₀ l ws out h k (rw v at p)

@@ -1,0 +1,165 @@
+-- Demand 3: the rows of the report are exactly the unused rules and tokens, each once, rules first and rows ascending. Assumes nothing.
+use Prim.Native.Nat.{ℕ, zero, suc, _+_, _*_, _-_, _<_}
+use mathlib.Core.Path.{_≡_, refl, sym, ap, _∙_}
+use mathlib.Core.List.{List, [], _∷_, _++_, append-assoc, List·Memᴰ, List·Memᴰ·head, List·Memᴰ·tail}
+use mathlib.Core.Logic.{_↔_, _⊎_, inl, inr, ⊎-elim}
+use native.Mathlib.Omega.{arith}
+use native.Mathlib.Decide.{decLt}
+use lib.ListN.{length, getD, replicate}
+use lib.Seq.{getD-append-add}
+use Rattle.tables.specs.Table.{cell}
+use Rattle.grammar.specs.declared.Counts.{Counts}
+use Rattle.grammar.specs.declared.Singles.{Singles}
+use Rattle.grammar.specs.Sound.{Tables}
+use Rattle.reach.specs.Reach.{Grammar, grammarOf}
+use Rattle.usage.specs.declared.Listing.the-variants.{Unused}
+use Rattle.usage.specs.Report.{Excuses, excusesOf, rowsOf, total, Filled, Accepted, Reported}
+use Rattle.usage.specs.Standing.{StandsIn, UnusedRow, unused-rule, unused-token, Before, by-kind, by-row}
+use Rattle.usage.proofs.Picked.{rows-length, picks-has, picks-is, picks-rise}
+use Rattle.usage.proofs.Outcome.{reported-rows}
+
+-- ---- members by their places
+
+mem-at : (l : List ℕ) (i : ℕ) → i < length l → List·Memᴰ (getD l i 0) l
+mem-at [] i h = absurd (omega arith)
+mem-at (r ∷ l) zero h = List·Memᴰ·head refl
+mem-at (r ∷ l) (suc i) h = List·Memᴰ·tail (mem-at l i (omega arith))
+
+place-of : {r : ℕ} {l : List ℕ} → List·Memᴰ r l → (i : ℕ) × (i < length l) × (getD l i 0 ≡ r)
+place-of (List·Memᴰ·head e) = (0, omega arith, sym e)
+place-of (List·Memᴰ·tail m) = let p = place-of m in (suc (p .0), omega (arith, p .1), p .2)
+
+-- ---- rows of one kind, and what stands behind them
+
+rows-then : (kd : ℕ) (l s : List ℕ) (i : ℕ) → i < length l → (cell 2 (rowsOf kd l ++ s) i 0 ≡ kd) × (cell 2 (rowsOf kd l ++ s) i 1 ≡ getD l i 0)
+rows-then kd [] s i h = absurd (omega arith)
+rows-then kd (r ∷ l) s zero h = (refl, refl)
+rows-then kd (r ∷ l) s (suc i) h =
+    let e : suc i * 2 + 0 ≡ suc (suc (i * 2 + 0)) = omega arith in
+    let f : suc i * 2 + 1 ≡ suc (suc (i * 2 + 1)) = omega arith in
+    let p = rows-then kd l s i (omega arith) in
+    (rw e (p .0), rw f (p .1))
+
+rows-behind : (kd : ℕ) (l s : List ℕ) (i k : ℕ) → cell 2 (rowsOf kd l ++ s) (length l + i) k ≡ cell 2 s i k
+rows-behind kd l s i k =
+    let e : (length l + i) * 2 + k ≡ length (rowsOf kd l) + (i * 2 + k) = omega (arith, rows-length kd l) in
+    rw e (getD-append-add (rowsOf kd l) s (i * 2 + k) 0)
+
+-- ---- a report that is filled
+
+module _ {R T : ℕ → Type 0} {m n count : ℕ} {out₀ out : List ℕ} (f : Filled R T m n count out₀ out) where
+  abbrev lr : List ℕ
+  lr = f .lists .rules
+
+  abbrev lt : List ℕ
+  lt = f .lists .tokens
+
+  abbrev rest : List ℕ
+  rest = replicate (length out₀ - total (f .lists) * 2) 0
+
+  cell-is : (i k : ℕ) → cell 2 out i k ≡ cell 2 (rowsOf 1 lr ++ (rowsOf 2 lt ++ rest)) i k
+  cell-is i k = ap (λ o. cell 2 o i k) (f .cells ∙ append-assoc (rowsOf 1 lr) (rowsOf 2 lt) rest)
+
+  rule-at : (i : ℕ) → i < length lr → (cell 2 out i 0 ≡ 1) × (cell 2 out i 1 ≡ getD lr i 0)
+  rule-at i h =
+      let p = rows-then 1 lr (rowsOf 2 lt ++ rest) i h in
+      (cell-is i 0 ∙ p .0, cell-is i 1 ∙ p .1)
+
+  token-at : (i : ℕ) → i < length lt → (cell 2 out (length lr + i) 0 ≡ 2) × (cell 2 out (length lr + i) 1 ≡ getD lt i 0)
+  token-at i h =
+      let p = rows-then 2 lt rest i h in
+      let s = rowsOf 2 lt ++ rest in
+      (cell-is (length lr + i) 0 ∙ rows-behind 1 lr s i 0 ∙ p .0, cell-is (length lr + i) 1 ∙ rows-behind 1 lr s i 1 ∙ p .1)
+
+  -- a row of the report is one of the first list, or of the second
+  each-row {κ} : (C : ℕ → Type κ) (i : ℕ) → i < count → (i < length lr → C i) → ((j : ℕ) → j < length lt → C (length lr + j)) → C i
+  each-row C i h a b =
+      elim (decLt i (length lr)) [
+        | yes d ↦ a d
+        | no d ↦
+            let e : length lr + (i - length lr) ≡ i = omega arith in
+            rw e at (b (i - length lr) (omega (arith, f .count-is)))
+      ]
+
+  abbrev Held : ℕ → ℕ → Type 0
+  Held kd r = ((kd ≡ 1) × (r < m) × R r) ⊎ ((kd ≡ 2) × (r < n) × T r)
+
+  rule-held : (kd r i : ℕ) → i < length lr → cell 2 out i 0 ≡ kd → cell 2 out i 1 ≡ r → Held kd r
+  rule-held kd r i h a b =
+      let p = rule-at i h in
+      let e : getD lr i 0 ≡ r = sym (p .1) ∙ b in
+      let q = picks-is (f .lists .rules-are) r (rw e at (mem-at lr i h)) in
+      inl (sym a ∙ p .0, q .0, q .1)
+
+  token-held : (kd r i : ℕ) → i < length lt → cell 2 out (length lr + i) 0 ≡ kd → cell 2 out (length lr + i) 1 ≡ r → Held kd r
+  token-held kd r i h a b =
+      let p = token-at i h in
+      let e : getD lt i 0 ≡ r = sym (p .1) ∙ b in
+      let q = picks-is (f .lists .tokens-are) r (rw e at (mem-at lt i h)) in
+      inr (sym a ∙ p .0, q .0, q .1)
+
+  pub filled-is : (kd r : ℕ) → StandsIn out count kd r → Held kd r
+  filled-is kd r s = each-row (λ i. cell 2 out i 0 ≡ kd → cell 2 out i 1 ≡ r → Held kd r) (s .at) (s .there) (rule-held kd r (s .at)) (token-held kd r) (s .kind) (s .row)
+
+  pub filled-rule : (r : ℕ) → r < m → R r → StandsIn out count 1 r
+  filled-rule r h q =
+      let p = place-of (picks-has (f .lists .rules-are) r h q) in
+      let a = rule-at (p .0) (p .1) in
+      record { at = p .0; there = omega (arith, f .count-is, p .1); kind = a .0; row = a .1 ∙ p .2 }
+
+  pub filled-token : (t : ℕ) → t < n → T t → StandsIn out count 2 t
+  filled-token t h q =
+      let p = place-of (picks-has (f .lists .tokens-are) t h q) in
+      let a = token-at (p .0) (p .1) in
+      record { at = length lr + p .0; there = omega (arith, f .count-is, p .1); kind = a .0; row = a .1 ∙ p .2 }
+
+  rules-rise : (i j : ℕ) → i < j → j < length lr → Before out i j
+  rules-rise i j h k =
+      let p = rule-at i (omega arith) in
+      let q = rule-at j k in
+      by-row (p .0 ∙ sym (q .0)) (rw (p .1, q .1) (picks-rise (f .lists .rules-are) i j h k))
+
+  tokens-rise : (i j : ℕ) → i < j → j < length lt → Before out (length lr + i) (length lr + j)
+  tokens-rise i j h k =
+      let p = token-at i (omega arith) in
+      let q = token-at j k in
+      by-row (p .0 ∙ sym (q .0)) (rw (p .1, q .1) (picks-rise (f .lists .tokens-are) i j h k))
+
+  rule-first : (i j : ℕ) → i < length lr → j < length lt → Before out i (length lr + j)
+  rule-first i j h k =
+      let p = rule-at i h in
+      let q = token-at j k in
+      by-kind (omega (arith, p .0, q .0))
+
+  pub filled-rises : (i j : ℕ) → i < j → j < count → Before out i j
+  filled-rises i j h k = each-row (λ j. i < j → Before out i j) j k (λ b l. rules-rise i j l b) behind h
+    where
+      behind : (b : ℕ) → b < length lt → i < length lr + b → Before out i (length lr + b)
+      behind b l g = each-row (λ i. i < length lr + b → Before out i (length lr + b)) i (omega arith) (λ a g. rule-first i b a l) (λ a m g. tokens-rise a b (omega arith) l) g
+
+-- ---- the report of a reading
+
+module _ (src : List ℕ) (c : Counts) (g : Singles) (T : Tables) (n : ℕ) (ws₀ ws out₀ out : List ℕ) (p : Reported src c g T (Unused n) ws₀ ws out₀ out) where
+  abbrev grammar : Grammar
+  grammar = grammarOf src c (g .start) (T .t1) (T .t7) (T .t8) (T .t9)
+
+  abbrev excuses : Excuses
+  excuses = excusesOf src c (T .t4) (T .t6)
+
+  accepted : Accepted grammar excuses n ws₀ ws out₀ out
+  accepted = reported-rows src c g T n ws₀ ws out₀ out p
+
+  is-unused : (kd r : ℕ) → StandsIn out n kd r → UnusedRow grammar excuses kd r
+  is-unused kd r s = ⊎-elim (λ x. unused-rule (x .0) (x .1) (x .2)) (λ x. unused-token (x .0) (x .1) (x .2)) (filled-is (accepted .filled) kd r s)
+
+  is-listed : (kd r : ℕ) → UnusedRow grammar excuses kd r → StandsIn out n kd r
+  is-listed kd r (unused-rule e h u) = rw e (filled-rule (accepted .filled) r h u)
+  is-listed kd r (unused-token e h u) = rw e (filled-token (accepted .filled) r h u)
+
+  -- a row stands in the report exactly where it is unused
+  pub unused-listed : (kd r : ℕ) → StandsIn out n kd r ↔ UnusedRow grammar excuses kd r
+  unused-listed kd r = (is-unused kd r, is-listed kd r)
+
+  -- the rows stand in order, so that each stands once
+  pub report-rises : (i j : ℕ) → i < j → j < n → Before out i j
+  report-rises = filled-rises (accepted .filled)

@@ -1,0 +1,269 @@
+// The unused report: rules and tokens that no chain from the start rule reaches and no declaration excuses.
+use grammar::Counts;
+use grammar::Part;
+use grammar::Singles;
+use reach::Sort;
+use tables::Found;
+use validation::Flaw;
+use validation::Validity;
+ghost use mathlib.Core.Path.{_≡_};
+ghost use Prim.Native.Nat.{ℕ, _+_, _*_, _^_, _<_, _≤_};
+ghost use lib.ListN.{length};
+ghost use Rattle.grammar.specs.Sound.{Tables};
+ghost use Rattle.reach.specs.Reach.{named, ruleSort, tokenSort, grammarOf, Fair, need};
+ghost use Rattle.usage.specs.Report.{Says, Expects, Expected, Implicit, Excused, excusesOf, Free, Counted, Wrote, Room, Written, ByBits, Listed, Reported};
+
+pub enum Listing {
+    // How many rows the report has.
+    Unused(usize),
+    OfUnsound,
+    OfInvalid(Flaw),
+    // Too few words for the work bits, too little room for the report.
+    NoWords,
+    NoRoom,
+}
+
+// Whether row `e` of table 6 has the kind and the name.
+fn expects(src: &[u8], t6: &[u32], kind: u32, a: u32, b: u32, e: u32) -> bool
+    ensures { λ r. ⌜ Says r (Expects (now (src .entry)) (now (t6 .entry)) kind a b e) ⌝ }
+{
+    let w = tables::UNUSED_WIDTH;
+    if tables::cell(t6, w, e, 0) != kind {
+        return false;
+    }
+    let from = tables::cell(t6, w, e, 1);
+    let to = tables::cell(t6, w, e, 2);
+    tables::same_part(src, from, to, a, b)
+}
+
+// Whether one of the `n` rows has.
+fn is_expected(src: &[u8], t6: &[u32], n: u32, kind: u32, a: u32, b: u32) -> bool
+    ensures { λ r. ⌜ Says r (Expected (now (src .entry)) (now (t6 .entry)) n kind a b) ⌝ }
+{
+    let mut e = 0;
+    while e < n {
+        if expects(src, t6, kind, a, b, e) {
+            return true;
+        }
+        e += 1;
+    }
+    false
+}
+
+// Whether it is a token that one of the `n` rows of table 4 names.
+fn is_implicit(src: &[u8], t4: &[u32], n: u32, kind: u32, a: u32, b: u32) -> bool
+    ensures { λ r. ⌜ Says r (Implicit (now (src .entry)) (now (t4 .entry)) n kind a b) ⌝ }
+{
+    if kind != 2 {
+        return false;
+    }
+    match tables::find(src, t4, tables::NAME_WIDTH, tables::NAME, n, a, b) {
+        Found::RowAt(_) => true,
+        Found::NoRow => false,
+    }
+}
+
+// Whether a declaration excuses the name.
+fn is_excused(src: &[u8], c: Counts, t4: &[u32], t6: &[u32], kind: u32, a: u32, b: u32) -> bool
+    ensures { λ r. ⌜ Says r (Excused (excusesOf (now (src .entry)) c (now (t4 .entry)) (now (t6 .entry))) kind a b) ⌝ }
+{
+    if is_expected(src, t6, sound::rows_of(c, tables::UNUSED), kind, a, b) {
+        return true;
+    }
+    is_implicit(src, t4, sound::rows_of(c, tables::IMPLICIT), kind, a, b)
+}
+
+// Whether the row is to be listed.
+fn is_free(
+    w: &[u32],
+    src: &[u8],
+    c: Counts,
+    names: &[u32],
+    z: Sort,
+    t4: &[u32],
+    t6: &[u32],
+    row: u32,
+) -> bool
+    requires { ⌜ z .base < 2 ^ 40 ⌝ }
+    ensures { λ r. ⌜ Says r (Free (now (w .entry)) (excusesOf (now (src .entry)) c (now (t4 .entry)) (now (t6 .entry))) (named (now (names .entry)) z) row) ⌝ }
+{
+    if bits::test_bit(w, z.base + row as usize) {
+        return false;
+    }
+    let a = tables::cell(names, z.wide, row, 0);
+    let b = tables::cell(names, z.wide, row, 1);
+    !is_excused(src, c, t4, t6, z.kind, a, b)
+}
+
+// How many of the rows are to be listed.
+fn count_free(
+    w: &[u32],
+    src: &[u8],
+    c: Counts,
+    names: &[u32],
+    z: Sort,
+    t4: &[u32],
+    t6: &[u32],
+) -> usize
+    requires { ⌜ z .base < 2 ^ 40 ⌝ }
+    ensures { λ r. ⌜ Counted (Free (now (w .entry)) (excusesOf (now (src .entry)) c (now (t4 .entry)) (now (t6 .entry))) (named (now (names .entry)) z)) (z .count) r ⌝ }
+{
+    let mut found = 0;
+    let mut row = 0;
+    while row < z.count {
+        if is_free(w, src, c, names, z, t4, t6, row) {
+            found += 1;
+        }
+        row += 1;
+    }
+    found
+}
+
+// Lists the row as row `at` of the report, if it is to be listed, and says whether.
+fn write_one(
+    out: &mut [u32],
+    at: usize,
+    w: &[u32],
+    src: &[u8],
+    c: Counts,
+    names: &[u32],
+    z: Sort,
+    t4: &[u32],
+    t6: &[u32],
+    row: u32,
+) -> bool
+    requires { ⌜ (z .base < 2 ^ 40) × (Free (now w) (excusesOf (now src) c (now t4) (now t6)) (named (now names) z) row → at * 2 + 2 ≤ length (now out)) ⌝ }
+    ensures { λ r. ⌜ Wrote r (Free (now (w .entry)) (excusesOf (now (src .entry)) c (now (t4 .entry)) (now (t6 .entry))) (named (now (names .entry)) z) row) (z .kind) row at (now (out .entry)) (now (out .exit)) ⌝ }
+{
+    if !is_free(w, src, c, names, z, t4, t6, row) {
+        return false;
+    }
+    let to = at * 2;
+    out[to] = z.kind;
+    out[to + 1] = row;
+    true
+}
+
+// Lists the rows to be listed, from row `at` of the report on, and gives the next row of it.
+fn write_free(
+    out: &mut [u32],
+    at: usize,
+    w: &[u32],
+    src: &[u8],
+    c: Counts,
+    names: &[u32],
+    z: Sort,
+    t4: &[u32],
+    t6: &[u32],
+) -> usize
+    requires { ⌜ (z .base < 2 ^ 40) × Room (Free (now w) (excusesOf (now src) c (now t4) (now t6)) (named (now names) z)) (z .count) at (now out) ⌝ }
+    ensures { λ r. ⌜ Written (Free (now (w .entry)) (excusesOf (now (src .entry)) c (now (t4 .entry)) (now (t6 .entry))) (named (now (names .entry)) z)) (z .kind) (z .count) at r (now (out .entry)) (now (out .exit)) ⌝ }
+{
+    let mut next = at;
+    let mut row = 0;
+    while row < z.count {
+        if write_one(out, next, w, src, c, names, z, t4, t6, row) {
+            next += 1;
+        }
+        row += 1;
+    }
+    next
+}
+
+// The rows that the bits leave, rules first. The report is zero where it has no room.
+fn list_unused(
+    out: &mut [u32],
+    w: &[u32],
+    src: &[u8],
+    c: Counts,
+    t1: &[u32],
+    t4: &[u32],
+    t6: &[u32],
+    t7: &[u32],
+) -> Listing
+    ensures { λ r. ⌜ ByBits (now (w .entry)) (excusesOf (now (src .entry)) c (now (t4 .entry)) (now (t6 .entry))) (named (now (t7 .entry)) (ruleSort c)) (named (now (t1 .entry)) (tokenSort c)) r (now (out .entry)) (now (out .exit)) ⌝ }
+{
+    tables::zero(out);
+    let rules = reach::rule_sort(c);
+    let tokens = reach::token_sort(c);
+    let first = count_free(w, src, c, t7, rules, t4, t6);
+    let second = count_free(w, src, c, t1, tokens, t4, t6);
+    if out.len() / 2 < first + second {
+        return Listing::NoRoom;
+    }
+    let at = write_free(out, 0, w, src, c, t7, rules, t4, t6);
+    let all = write_free(out, at, w, src, c, t1, tokens, t4, t6);
+    Listing::Unused(all)
+}
+
+// The report of a valid reading.
+fn list_used(
+    work: &mut [u32],
+    out: &mut [u32],
+    src: &[u8],
+    c: Counts,
+    start: Part,
+    t1: &[u32],
+    t4: &[u32],
+    t6: &[u32],
+    t7: &[u32],
+    t8: &[u32],
+    t9: &[u32],
+) -> Listing
+    requires { ⌜ Fair (grammarOf (now src) c start (now t1) (now t7) (now t8) (now t9)) ⌝ }
+    ensures { λ r. ⌜ Listed (grammarOf (now (src .entry)) c start (now (t1 .entry)) (now (t7 .entry)) (now (t8 .entry)) (now (t9 .entry))) (excusesOf (now (src .entry)) c (now (t4 .entry)) (now (t6 .entry))) r (now (work .entry)) (now (work .exit)) (now (out .entry)) (now (out .exit)) ⌝ }
+{
+    if !reach::mark_used(work, src, c, start, t1, t7, t8, t9) {
+        tables::zero(out);
+        return Listing::NoWords;
+    }
+    let l = list_unused(out, work, src, c, t1, t4, t6, t7);
+    match l {
+        Listing::NoRoom => {
+            tables::zero(work);
+            l
+        }
+        Listing::Unused(_) => l,
+        Listing::OfUnsound => l,
+        Listing::OfInvalid(_) => l,
+        Listing::NoWords => l,
+    }
+}
+
+// The unused rules, then the unused tokens; 44 and validate's number come first, and a refusal leaves zeros.
+pub fn report(
+    src: &[u8],
+    c: Counts,
+    g: Singles,
+    t1: &[u32],
+    t2: &[u32],
+    t3: &[u32],
+    t4: &[u32],
+    t5: &[u32],
+    t6: &[u32],
+    t7: &[u32],
+    t8: &[u32],
+    t9: &[u32],
+    t10: &[u32],
+    work: &mut [u32],
+    out: &mut [u32],
+) -> Listing
+    ensures { λ r. ⌜ Reported (now (src .entry)) c g (record { t1 = now (t1 .entry); t2 = now (t2 .entry); t3 = now (t3 .entry); t4 = now (t4 .entry); t5 = now (t5 .entry); t6 = now (t6 .entry); t7 = now (t7 .entry); t8 = now (t8 .entry); t9 = now (t9 .entry); t10 = now (t10 .entry) }) r (now (work .entry)) (now (work .exit)) (now (out .entry)) (now (out .exit)) ⌝ }
+{
+    match validation::validate(src, c, g, t1, t2, t3, t4, t5, t6, t7, t8, t9, t10) {
+        Validity::Valid => {
+            let start = g.start;
+            list_used(work, out, src, c, start, t1, t4, t6, t7, t8, t9)
+        }
+        Validity::UnsoundTables => {
+            tables::zero(work);
+            tables::zero(out);
+            Listing::OfUnsound
+        }
+        Validity::Invalid(f) => {
+            tables::zero(work);
+            tables::zero(out);
+            Listing::OfInvalid(f)
+        }
+    }
+}
