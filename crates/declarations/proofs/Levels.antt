@@ -25,7 +25,7 @@ use Rattle.grammar.specs.declared.State.{State}
 use Rattle.grammar.specs.declared.Answer.the-variants.{Going}
 use Rattle.grammar.specs.State.{Out2, count, withAt}
 use Rattle.grammar.specs.Sound.{Tables, Far}
-use Rattle.lines.specs.Line.{Listed, In}
+use Rattle.lines.specs.Line.{LineWord, In}
 use Rattle.lines.specs.Precedences.{precDecl}
 use Rattle.lines.proofs.Grown.{RowOf}
 use Rattle.lines.proofs.Read.{precRow, RowFrom}
@@ -95,7 +95,7 @@ module _ {src : List ℕ} {done : ℕ} {s : State} {D : Declared} (T : Tables) (
 
     -- A `//` comment that ends with a line end, at the index e, stands behind a word of the first list, with blanks between them or none: that line end is
     -- counted, and the list ends with the spacing that it is part of.
-    pub comment-ends : (w : Listed) → In w (lists-differ .line .words) → (c e : ℕ) → w .end ≤ c → ((k : ℕ) → w .end ≤ k → k < c → isBlank (getD src k 0) ≡ true) → startsAt (47 ∷ 47 ∷ []) src c ≡ true → Runs (inClass LineByte) src c e → e < length src → (n : ℕ) × (0 < n) × (spacesAt true src (w .end) ≡ To (one .state .at) n)
+    pub comment-ends : (w : LineWord) → In w (lists-differ .line .words) → (c e : ℕ) → w .end ≤ c → ((k : ℕ) → w .end ≤ k → k < c → isBlank (getD src k 0) ≡ true) → startsAt (47 ∷ 47 ∷ []) src c ≡ true → Runs (inClass LineByte) src c e → e < length src → (n : ℕ) × (0 < n) × (spacesAt true src (w .end) ≡ To (one .state .at) n)
     comment-ends w x c e h blank starts run low = let y = comment-last src (w .end) c e h blank starts run low (lists-differ .line .line) w x refl in (lists-differ .line .counted, y .0, y .1)
 
     -- `%left 'a' // x`, a line end, and `%left` again: the first list is its one word, and the rows of the two have different levels.
@@ -109,8 +109,8 @@ module _ {src : List ℕ} {done : ℕ} {s : State} {D : Declared} (T : Tables) (
         only : lists-differ .line .words ≡ record { place = w; end = end } ∷ []
         only = comment-only src end c e h blank starts run low (lists-differ .line .line) w quoted (told (λ (j : ℕ). tokenAt src j ≡ Found w end quoted) (let x = lists-differ .line .gap in cc) token)
 
-        is : (v : Listed) → In v (record { place = w; end = end } ∷ []) → v .place ≡ w
-        is v (inl e) = ap (λ (z : Listed). z .place) e
+        is : (v : LineWord) → In v (record { place = w; end = end } ∷ []) → v .place ≡ w
+        is v (inl e) = ap (λ (z : LineWord). z .place) e
         is v (inr e) = absurd e
 
         row : {x : List ℕ} → RowOf (precRow (s .level) a) (lists-differ .line .words) x → x ≡ precRow (s .level) a w

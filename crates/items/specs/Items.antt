@@ -63,7 +63,7 @@ pub record Made3 : Type 0 where
   pub t9 : List ℕ
 
 -- what the items of a rule give
-pub record Listed : Type 0 where
+pub record Itemed : Type 0 where
   pub answer : Answer
   pub state : State
   pub t1 : List ℕ
@@ -323,9 +323,9 @@ itemOrEnd false o p = itemNext (p .answer) p
 unfoldable pub itemTurn : List ℕ → Made3 → Turn Made3
 itemTurn src o = itemOrEnd (leb (length src) (o .state .at)) o (itemStep src (o .state) (o .draft) (o .t1) (o .t8) (o .t9))
 
-abbrev pub listed : Made3 → Listed
+abbrev pub listed : Made3 → Itemed
 listed o = record { answer = o .answer; state = o .state; t1 = o .t1; t8 = o .t8; t9 = o .t9 }
 
 -- the items of a rule from where the state stands, the first production drafted
-unfoldable pub itemList : List ℕ → State → Production → List ℕ → List ℕ → List ℕ → Listed
+unfoldable pub itemList : List ℕ → State → Production → List ℕ → List ℕ → List ℕ → Itemed
 itemList src s d t1 t8 t9 = listed (turns (suc (length src)) (itemTurn src) (record { answer = Going; state = s; draft = d; t1 = t1; t8 = t8; t9 = t9 }))

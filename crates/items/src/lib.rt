@@ -16,7 +16,7 @@ ghost use mathlib.Core.Path.{_≡_};
 ghost use Prim.Native.Nat.{_≤_};
 ghost use lib.ListN.{length};
 ghost use Rattle.grammar.specs.State.{Out1, Out2, Here, Passed, Moves, Onward};
-ghost use Rattle.items.specs.Items.{Inside, sortAt, Spots, begun, withPrec, withAction, tokenSymbol, quotedRows, quotedItem, precName, precItem, mayEnd, afterAction, actionItem, mayFollow, emptyItem, symbolKind, bareItem, endProduction, barItem, endItem, Made0, Made1, Made2, Made3, itemStep, itemList, Listed};
+ghost use Rattle.items.specs.Items.{Inside, sortAt, Spots, begun, withPrec, withAction, tokenSymbol, quotedRows, quotedItem, precName, precItem, mayEnd, afterAction, actionItem, mayFollow, emptyItem, symbolKind, bareItem, endProduction, barItem, endItem, Made0, Made1, Made2, Made3, itemStep, itemList, Itemed};
 
 // What stands at a place in a production.
 pub enum Sort {
@@ -504,7 +504,7 @@ pub fn items(
     t9: &mut [u32],
 ) -> Step
     requires { ⌜ Here (now src) (s .at) ⌝ }
-    ensures is { λ r. ⌜ _≡_ {A = Listed} (record { answer = r .answer; state = r .state; t1 = now (t1 .exit); t8 = now (t8 .exit); t9 = now (t9 .exit) }) (itemList (now (src .entry)) s d (now (t1 .entry)) (now (t8 .entry)) (now (t9 .entry))) ⌝ }
+    ensures is { λ r. ⌜ _≡_ {A = Itemed} (record { answer = r .answer; state = r .state; t1 = now (t1 .exit); t8 = now (t8 .exit); t9 = now (t9 .exit) }) (itemList (now (src .entry)) s d (now (t1 .entry)) (now (t8 .entry)) (now (t9 .entry))) ⌝ }
     ensures moved { λ r. ⌜ Passed (now (src .entry)) (s .at) (r .state .at) ⌝ }
 {
     let mut st = s;

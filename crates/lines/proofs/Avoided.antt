@@ -28,7 +28,7 @@ use Rattle.grammar.specs.declared.Gap.{Gap}
 use Rattle.grammar.specs.declared.Gap.the-variants.{GapTo, GapRefused}
 use Rattle.grammar.specs.Cells.{tokenCells, nameCells}
 use Rattle.grammar.specs.State.{Out0, Out1, Out2, Out3, Passed, count, withAt, gapOf, gapAt, enterStep, onceStep, passOn, tied3, first2}
-use Rattle.lines.specs.Line.{Listed, Line, last, word, LineAt}
+use Rattle.lines.specs.Line.{LineWord, Line, last, word, LineAt}
 use Rattle.lines.specs.Avoided.{avoidEntered, avoidNamed, avoidFound, avoidItem, avoidEnd, avoidTurn, avoidList, avoidFrom, avoidDecl}
 use Rattle.lines.proofs.Far.{NameTable, third, fourth}
 use Rattle.lines.proofs.Line.{word-placed, gap-placed, line-at-one}
@@ -146,7 +146,7 @@ module _ (src : List ℕ) (k : ℕ) (nt : NameTable k) (what : Repeat) (s : Stat
 
 -- what a list that ends leaves, from where it was: its line of words, which ends with a line end, and their rows
 pub record Read (src : List ℕ) (k : ℕ) (o e : Out3) : Type 0 where
-  pub words : List Listed
+  pub words : List LineWord
   pub counted : ℕ
   pub some : 0 < counted
   pub line : Line src (o .state .at) (e .state .at) counted words
@@ -165,7 +165,7 @@ module _ (src : List ℕ) (k : ℕ) (nt : NameTable k) (what : Repeat) where
 
   -- a word more: its rows, and those of the words behind it
   module _ (o : Out3) (p : Place) (end : ℕ) (quoted : Bool) (i : ℕ) (v : Out1) (u : Out2) (e : tokenAt src (o .state .at) ≡ Found p end quoted) (x : Entered src (o .state) (o .a) (o .b) p v) (g : v .answer ≡ Going) (y : Given src k (o .b) p v u) (h : u .answer ≡ Going) where
-    abbrev here : Listed
+    abbrev here : LineWord
     here = record { place = p; end = end }
 
     abbrev behind : Out3

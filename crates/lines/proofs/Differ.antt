@@ -18,7 +18,7 @@ use Rattle.grammar.specs.declared.State.{State}
 use Rattle.grammar.specs.declared.Answer.the-variants.{Going}
 use Rattle.grammar.specs.State.{Out2, count, withAt}
 use Rattle.grammar.proofs.Steps.{level-up}
-use Rattle.lines.specs.Line.{Listed, In, LineAt}
+use Rattle.lines.specs.Line.{LineWord, In, LineAt}
 use Rattle.lines.specs.Precedences.{precDecl}
 use Rattle.lines.proofs.Levels.{levelAt}
 use Rattle.lines.proofs.Line.{word-placed, words-inside, counted-last}
@@ -31,7 +31,7 @@ pub record TwoLists (src : List ℕ) (at₁ a at₂ b : ℕ) (s₀ s₁ s₂ : S
   -- the first is a line as it stands in the source,
   pub line : LineAt src at₁ (s₁ .at)
   -- and where a line end is counted behind a word of it, it is at its end;
-  pub stops : (w : Listed) → In w (line .words) → (k n : ℕ) → spacesAt true src (w .end) ≡ To k n → 0 < n → k ≡ s₁ .at
+  pub stops : (w : LineWord) → In w (line .words) → (k n : ℕ) → spacesAt true src (w .end) ≡ To k n → 0 < n → k ≡ s₁ .at
   -- its rows are rows of its words, with its level and association,
   pub first : (r : ℕ) → count s₀ precedences ≤ r → r < count s₁ precedences → RowOf (precRow (s₀ .level) a) (line .words) (rowAt (width precedences) t r)
   -- and not of a token that stands behind it;

@@ -28,7 +28,7 @@ use Rattle.grammar.specs.declared.Repeat.{Repeat}
 use Rattle.grammar.specs.Cells.{tokenCells, repeatCells}
 use Rattle.grammar.specs.Refusals.{numberOfRepeat}
 use Rattle.grammar.specs.State.{Out0, Out2, Passed, count, withAt, withCount, gapOf, gapAt, pushed, pushRow, listRepeat, entered, enterStep, first2, second2, onceFound, onceStep, past, pastGap}
-use Rattle.lines.specs.Line.{Listed, In}
+use Rattle.lines.specs.Line.{LineWord, In}
 
 -- n rows of t have become m rows of u: those before stay, and P holds of each new one
 pub record Grown (P : List ℕ → Type 0) (w n : ℕ) (t : List ℕ) (m : ℕ) (u : List ℕ) : Type 0 where
@@ -75,29 +75,29 @@ has-on h x =
     record { row = h .row; inside = omega arith; same = rw (x .old (h .row) l) (h .same) }
 
 -- the row of one of the words
-pub record RowOf (cells : Place → List ℕ) (ws : List Listed) (x : List ℕ) : Type 0 where
-  pub word : Listed
+pub record RowOf (cells : Place → List ℕ) (ws : List LineWord) (x : List ℕ) : Type 0 where
+  pub word : LineWord
   pub listed : In word ws
   pub is : x ≡ cells (word .place)
 
 -- n rows of t have become m rows of u by the words of a line: those before stay, each new one is a row of a word, and each word has a row
-pub record Written (src : List ℕ) (cells : Place → List ℕ) (w : ℕ) (ws : List Listed) (n : ℕ) (t : List ℕ) (m : ℕ) (u : List ℕ) : Type 0 where
+pub record Written (src : List ℕ) (cells : Place → List ℕ) (w : ℕ) (ws : List LineWord) (n : ℕ) (t : List ℕ) (m : ℕ) (u : List ℕ) : Type 0 where
   pub rows : Grown (RowOf cells ws) w n t m u
-  pub has : (v : Listed) → In v ws → Has src w m u (v .place .from) (v .place .to)
+  pub has : (v : LineWord) → In v ws → Has src w m u (v .place .from) (v .place .to)
 
 module _ {src : List ℕ} {cells : Place → List ℕ} {w n : ℕ} {t : List ℕ} where
   pub written-none : Written src cells w [] n t n t
   written-none = record { rows = grown-none; has = λ v h. absurd h }
 
   -- a word, then those behind it
-  pub written-more : {m l : ℕ} {u z : List ℕ} (v : Listed) (ws : List Listed) → Grown (λ x. x ≡ cells (v .place)) w n t m u → Has src w m u (v .place .from) (v .place .to) → Written src cells w ws m u l z → Written src cells w (v ∷ ws) n t l z
+  pub written-more : {m l : ℕ} {u z : List ℕ} (v : LineWord) (ws : List LineWord) → Grown (λ x. x ≡ cells (v .place)) w n t m u → Has src w m u (v .place .from) (v .place .to) → Written src cells w ws m u l z → Written src cells w (v ∷ ws) n t l z
   written-more {m} {l} {u} {z} v ws x h y =
       record {
         rows = grown-then (grown-map (λ k e. record { word = v; listed = inl refl; is = e }) x) (grown-map (λ k e. record { word = e .word; listed = inr (e .listed); is = e .is }) (y .rows));
         has = all;
       }
     where
-      all : (b : Listed) → In b (v ∷ ws) → Has src w l z (b .place .from) (b .place .to)
+      all : (b : LineWord) → In b (v ∷ ws) → Has src w l z (b .place .from) (b .place .to)
       all b (inl q) = rw q (has-on h (y .rows))
       all b (inr q) = y .has b q
 

@@ -23,10 +23,10 @@ use Rattle.words.specs.declared.Token.the-variants.{Found}
 use Rattle.words.specs.Words.{tokenAt, Tokened}
 use Rattle.words.proofs.Words.{token-placed, token-end}
 use Rattle.grammar.specs.State.{Passed}
-use Rattle.lines.specs.Line.{Listed, In, Line, ended, last, word, LineAt}
+use Rattle.lines.specs.Line.{LineWord, In, Line, ended, last, word, LineAt}
 
 -- where a word lies in a line from i to j
-pub record Inside (i j : ℕ) (w : Listed) : Type 0 where
+pub record Inside (i j : ℕ) (w : LineWord) : Type 0 where
   pub begins : i ≤ w .place .from
   pub some : w .place .from < w .place .to
   pub ends : w .place .to ≤ w .end
@@ -55,7 +55,7 @@ module _ (src : List ℕ) where
   gap-placed end j n h e = told (Spaces src end) e (spaces true src end h)
 
   -- a line goes onward, and stays in the source
-  pub line-passed : {i j n : ℕ} {ws : List Listed} → i ≤ length src → Line src i j n ws → Passed src i j
+  pub line-passed : {i j n : ℕ} {ws : List LineWord} → i ≤ length src → Line src i j n ws → Passed src i j
   line-passed b (ended h) = record { onward = omega arith; inside = b }
   line-passed b (last {i} {j} {n} {end} {p} {quoted} e g h) =
       let a = word-placed i p end quoted e in
@@ -68,7 +68,7 @@ module _ (src : List ℕ) where
       record { onward = omega (arith, a .0, a .1, a .2, c .0, d .onward); inside = d .inside }
 
   -- its words lie in it
-  pub words-inside : {i j n : ℕ} {ws : List Listed} → Line src i j n ws → (w : Listed) → In w ws → Inside i j w
+  pub words-inside : {i j n : ℕ} {ws : List LineWord} → Line src i j n ws → (w : LineWord) → In w ws → Inside i j w
   words-inside (ended h) w x = absurd x
   words-inside (last {i} {j} {n} {end} {p} {quoted} e g h) w (inl q) =
       let a = word-placed i p end quoted e in
@@ -87,7 +87,7 @@ module _ (src : List ℕ) where
       record { begins = omega (arith, a .0, a .1, a .2, c .0, d .begins); some = d .some; ends = d .ends; before = d .before }
 
   -- A line end that is counted behind a word ends the line: it does not run on.
-  pub counted-last : {i j n : ℕ} {ws : List Listed} → Line src i j n ws → (w : Listed) → In w ws → (k m : ℕ) → spacesAt true src (w .end) ≡ To k m → 0 < m → (k ≡ j) × (m ≡ n)
+  pub counted-last : {i j n : ℕ} {ws : List LineWord} → Line src i j n ws → (w : LineWord) → In w ws → (k m : ℕ) → spacesAt true src (w .end) ≡ To k m → 0 < m → (k ≡ j) × (m ≡ n)
   counted-last (ended h) w x k m f c = absurd x
   counted-last (last e g h) w (inl q) k m f c = let f′ = rw q at f in (cc, cc)
   counted-last (last e g h) w (inr x) k m f c = absurd x
@@ -95,11 +95,11 @@ module _ (src : List ℕ) where
   counted-last (word e g l) w (inr x) k m f c = counted-last l w x k m f c
 
   -- the spacing behind a word, where it is known to count a line end
-  spaced-last : {i j n : ℕ} {ws : List Listed} → Line src i j n ws → (w : Listed) → In w ws → Counts 1 (spacesAt true src (w .end)) → (0 < n) × (spacesAt true src (w .end) ≡ To j n)
+  spaced-last : {i j n : ℕ} {ws : List LineWord} → Line src i j n ws → (w : LineWord) → In w ws → Counts 1 (spacesAt true src (w .end)) → (0 < n) × (spacesAt true src (w .end) ≡ To j n)
   spaced-last (ended h) w x c = absurd x
   spaced-last (last e g h) w (inl q) c = (h, rw q g)
   spaced-last (last e g h) w (inr x) c = absurd x
-  spaced-last (word {k = k} {end = end} e g l) w (inl q) c = let d : 1 ≤ 0 = told (Counts 1) g (told (λ (v : Listed). Counts 1 (spacesAt true src (v .end))) q c) in absurd (omega arith)
+  spaced-last (word {k = k} {end = end} e g l) w (inl q) c = let d : 1 ≤ 0 = told (Counts 1) g (told (λ (v : LineWord). Counts 1 (spacesAt true src (v .end))) q c) in absurd (omega arith)
   spaced-last (word e g l) w (inr x) c = spaced-last l w x c
 
   -- blanks pass
@@ -110,7 +110,7 @@ module _ (src : List ℕ) where
       rw e (sym (a-blank true src i n _ refl (omega arith) (blank-is _ (each i (omega arith) (omega arith)))) ∙ along m (i + 1) (omega arith) (λ k a b. each k (omega arith) (omega arith)) n)
 
   -- the word that a line begins with
-  begins-with : {i j n : ℕ} {ws : List Listed} → Line src i j n ws → (p : Place) (end : ℕ) (quoted : Bool) → tokenAt src i ≡ Found p end quoted → Counts 1 (spacesAt true src end) → ws ≡ record { place = p; end = end } ∷ []
+  begins-with : {i j n : ℕ} {ws : List LineWord} → Line src i j n ws → (p : Place) (end : ℕ) (quoted : Bool) → tokenAt src i ≡ Found p end quoted → Counts 1 (spacesAt true src end) → ws ≡ record { place = p; end = end } ∷ []
   begins-with (ended h) p end quoted q c = absurd (no-word _ p end quoted h q)
   begins-with (last e g h) p end quoted q c = cc
   begins-with (word {k = k} {end = end′} e g l) p end quoted q c = let z : spacesAt true src end ≡ To k 0 = cc in let d : 1 ≤ 0 = told (Counts 1) z c in absurd (omega arith)
@@ -125,15 +125,15 @@ module _ (src : List ℕ) where
         told (Counts 1) (sym q) (comment-counted true src c e starts run low)
 
     -- Behind a word of a line it is the end of the line;
-    pub comment-last : {i j n : ℕ} {ws : List Listed} → Line src i j n ws → (w : Listed) → In w ws → w .end ≡ end → (0 < n) × (spacesAt true src end ≡ To j n)
+    pub comment-last : {i j n : ℕ} {ws : List LineWord} → Line src i j n ws → (w : LineWord) → In w ws → w .end ≡ end → (0 < n) × (spacesAt true src end ≡ To j n)
     comment-last l w x q = rw q at (spaced-last l w x (rw q counts))
 
     -- and behind the first word that word is the whole line.
-    pub comment-only : {i j n : ℕ} {ws : List Listed} → Line src i j n ws → (p : Place) (quoted : Bool) → tokenAt src i ≡ Found p end quoted → ws ≡ record { place = p; end = end } ∷ []
+    pub comment-only : {i j n : ℕ} {ws : List LineWord} → Line src i j n ws → (p : Place) (quoted : Bool) → tokenAt src i ≡ Found p end quoted → ws ≡ record { place = p; end = end } ∷ []
     comment-only l p quoted q = begins-with l p end quoted q counts
 
   -- From where a line begins its words are known, where it ends, and how many line ends it counts.
-  pub line-one : {i j n : ℕ} {ws : List Listed} {j′ n′ : ℕ} {ws′ : List Listed} → Line src i j n ws → Line src i j′ n′ ws′ → (j ≡ j′) × (n ≡ n′) × (ws ≡ ws′)
+  pub line-one : {i j n : ℕ} {ws : List LineWord} {j′ n′ : ℕ} {ws′ : List LineWord} → Line src i j n ws → Line src i j′ n′ ws′ → (j ≡ j′) × (n ≡ n′) × (ws ≡ ws′)
   line-one (ended h) (ended h′) = (refl, refl, refl)
   line-one (ended h) (last e g k) = absurd (no-word _ _ _ _ h e)
   line-one (ended h) (word e g l) = absurd (no-word _ _ _ _ h e)

@@ -24,7 +24,7 @@ use Rattle.grammar.specs.declared.Refusal.{Refusal}
 use Rattle.grammar.specs.declared.Repeat.the-variants.{RepeatedPrecedence}
 use Rattle.grammar.specs.Cells.{precedenceCells}
 use Rattle.grammar.specs.State.{Out0, Out2, Passed, count, withAt, withLevel, nextLevel, gapOf, gapAt, onceStep, passOn, tied2}
-use Rattle.lines.specs.Line.{Listed, Line, ended, last, word, LineAt}
+use Rattle.lines.specs.Line.{LineWord, Line, ended, last, word, LineAt}
 use Rattle.lines.specs.Precedences.{precFound, precItem, lineEnd, afterEnd, precTurn, precList, precFrom, precDecl}
 use Rattle.lines.proofs.Line.{word-placed, gap-placed, line-at-one}
 use Rattle.lines.proofs.Grown.{Grown, grown-none, grown-then, grown-map, Written, written-none, written-more, Noted, once-noted, past-cases, Stands, before, Nears, turns-run}
@@ -35,7 +35,7 @@ precRow lev assoc p = precedenceCells (p .from) (p .to) lev assoc
 
 -- what a list that ends leaves, from where it was: its line of words and their rows
 pub record Read (src : List ℕ) (lev assoc : ℕ) (o e : Out2) : Type 0 where
-  pub words : List Listed
+  pub words : List LineWord
   pub counted : ℕ
   pub line : Line src (o .state .at) (e .state .at) counted words
   pub table : Written src (precRow lev assoc) (width precedences) words (count (o .state) precedences) (o .a) (count (e .state) precedences) (e .a)
@@ -155,7 +155,7 @@ module _ (src : List ℕ) (lev assoc : ℕ) where
 
   -- a word more: its row, and those of the words behind it
   module _ (o : Out2) (at : At o) (p : Place) (end : ℕ) (quoted : Bool) (i : ℕ) (u : Out2) (e : tokenAt src (o .state .at) ≡ Found p end quoted) (x : Noted src precedences (precRow lev assoc p) (p .from) (p .to) (o .state) (o .a) u) (g : u .answer ≡ Going) where
-    abbrev here : Listed
+    abbrev here : LineWord
     here = record { place = p; end = end }
 
     abbrev behind : Answer → Out2

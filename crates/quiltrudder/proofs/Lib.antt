@@ -1,1 +1,4 @@
 pub mod Operations
+pub mod Cells
+pub mod Answers
+pub mod Face

@@ -60,9 +60,6 @@ module _ (src : List ℕ) (kind : ℕ) (T : Tables) (full : Full (readAll src ki
       let q : Reported src (o .counts) (o .singles) (o .tables) (Unused (r .0)) ws₀ ws out₀ out = rw (r .1) at p in
       record { count = r .0; listed = r .1; exactly = unused-listed src (o .counts) (o .singles) (o .tables) (r .0) ws₀ ws out₀ out q; rises = report-rises src (o .counts) (o .singles) (o .tables) (r .0) ws₀ ws out₀ out q }
 
--- "Any two outcomes allowed by it are proved equal": of validation and of a name; `one-reading`, `reported-one` and `valued-one` say it of the others.
-pub validity-one : (src : List ℕ) (c : Counts) (g : Singles) (T : Tables) (v w : Validity) → v ≡ validity src c g T → w ≡ validity src c g T → v ≡ w
-validity-one src c g T v w p q = p ∙ sym q
-
+-- "Any two outcomes allowed by it are proved equal": of a name. `one-reading`, `validity-first`, `reported-one` and `valued-one` say it of the other operations.
 pub name-one : (src : List ℕ) (c : Counts) (g : Singles) (T : Tables) (table row : ℕ) (a b : List ℕ) → a ≡ nameOf src c g T table row → b ≡ nameOf src c g T table row → a ≡ b
 name-one src c g T table row a b p q = p ∙ sym q

@@ -1,2 +1,3 @@
 pub mod Cases
 pub mod Report
+pub mod Face

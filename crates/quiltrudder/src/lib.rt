@@ -1,18 +1,28 @@
 // Quiltrudder's operations: reading a Yacc specification, validating what was read, the unused report, the name of a row and the value of an `%epp` row. None of
 // them requires anything.
 use grammar::Counts;
+use grammar::Expect;
+use grammar::Param;
+use grammar::Part;
 use grammar::Singles;
+use grammar::Told;
 use reader::Reading;
+use reader::Verdict;
 use usage::Listing;
 use validation::Validity;
 use values::Valuation;
 ghost use mathlib.Core.Path.{_≡_};
+ghost use mathlib.Core.List.{List, [], _∷_, _++_};
+ghost use Rattle.tables.specs.Table.{put};
+ghost use Rattle.grammar.specs.Numbers.{paramNumbers};
 ghost use Rattle.grammar.specs.Sound.{Tables};
 ghost use Rattle.reader.specs.Read.{Result, readAll};
-ghost use Rattle.validation.specs.Faults.{validity};
+ghost use Rattle.validation.specs.Faults.{validityNumbers, validity};
 ghost use Rattle.usage.specs.Report.{Reported};
 ghost use Rattle.names.specs.Name.{nameOf};
 ghost use Rattle.values.specs.Value.{Valued, eppValue};
+ghost use Rattle.numbers.specs.Numbers.{toldNumbers};
+ghost use Rattle.quiltrudder.specs.Face.{halves, expectCells, singlesCells, readingCells, ReadFace, readFace, countsOf, partOf, expectOf, paramOf, singlesOf, ReportFace, nameAt, placeCells, ValueFace, valueFace};
 
 // Reads a source of kind 1, 2 or 3 into the lent tables.
 pub fn read(
@@ -154,4 +164,347 @@ pub fn epp_value(
     ensures { λ r. ⌜ _≡_ {A = Valued} (record { answer = r; out = now (out .exit) }) (eppValue (now (src .entry)) c g (record { t1 = now (t1 .entry); t2 = now (t2 .entry); t3 = now (t3 .entry); t4 = now (t4 .entry); t5 = now (t5 .entry); t6 = now (t6 .entry); t7 = now (t7 .entry); t8 = now (t8 .entry); t9 = now (t9 .entry); t10 = now (t10 .entry) }) row (now (out .entry))) ⌝ }
 {
     values::epp_value(src, c, g, t1, t2, t3, t4, t5, t6, t7, t8, t9, t10, row, out)
+}
+
+// Stores `cells` into `out` from cell `at` on, as far as there is room.
+fn put_cells(out: &mut [u32], at: usize, cells: &[u32])
+    ensures { λ r. ⌜ now (out .exit) ≡ put (now (out .entry)) at (now (cells .entry)) ⌝ }
+{
+    let mut i = 0;
+    let mut k = at;
+    while i < cells.len() && k < out.len() {
+        out[k] = cells[i];
+        i += 1;
+        k += 1;
+    }
+}
+
+// `%expect` or `%expect-rr`: a flag, the value's low and high half, and the place.
+fn expect_cells(e: Expect) -> [u32; 5]
+    ensures { λ r. ⌜ r ≡ expectCells e ⌝ }
+{
+    match e {
+        Expect::NotExpected => [0, 0, 0, 0, 0],
+        Expect::Expected(v, a, b) => [1, (v % 4294967296) as u32, (v / 4294967296) as u32, a, b],
+    }
+}
+
+// The parse parameter: a flag, and the places of its name and its type.
+fn param_cells(p: Param) -> [u32; 5]
+    ensures { λ r. ⌜ r ≡ paramNumbers p ⌝ }
+{
+    match p {
+        Param::NoParam => [0, 0, 0, 0, 0],
+        Param::ParamAt(a, b, c, d) => [1, a, b, c, d],
+    }
+}
+
+fn single_cells(g: Singles) -> [u32; 24]
+    ensures { λ r. ⌜ r ≡ singlesCells g ⌝ }
+{
+    let start = g.start;
+    let expect = g.expect;
+    let expect_rr = g.expect_rr;
+    let param = g.param;
+    let generics = g.generics;
+    let programs = g.programs;
+    let mut m = [0u32; 24];
+    put_cells(&mut m, 0, &grammar::part_cells(start));
+    put_cells(&mut m, 3, &expect_cells(expect));
+    put_cells(&mut m, 8, &expect_cells(expect_rr));
+    put_cells(&mut m, 13, &param_cells(param));
+    put_cells(&mut m, 18, &grammar::part_cells(generics));
+    put_cells(&mut m, 21, &grammar::part_cells(programs));
+    m
+}
+
+// What a read answers: number, place and table, the ten counts, the singles.
+fn reading_cells(v: Verdict, c: Counts, g: Singles) -> [u32; 38]
+    ensures { λ r. ⌜ r ≡ readingCells v c g ⌝ }
+{
+    let t = numbers::of_verdict(v);
+    let told = [t.number, t.from, t.to, t.table];
+    let counts = [
+        c.n[0],
+        c.n[1],
+        c.n[2],
+        c.n[3],
+        c.n[4],
+        c.n[5],
+        c.n[6],
+        c.n[7],
+        c.n[8],
+        c.n[9],
+    ];
+    let singles = single_cells(g);
+    let mut m = [0u32; 38];
+    put_cells(&mut m, 0, &told);
+    put_cells(&mut m, 4, &counts);
+    put_cells(&mut m, 14, &singles);
+    m
+}
+
+// A single that stands in the numbers of a reading: absent where its flag is 0.
+fn part_of(f: u32, a: u32, b: u32) -> Part
+    ensures { λ r. ⌜ r ≡ partOf f a b ⌝ }
+{
+    if f == 0 {
+        return Part::Absent;
+    }
+    Part::At(a, b)
+}
+
+fn expect_of(f: u32, low: u32, high: u32, a: u32, b: u32) -> Expect
+    ensures { λ r. ⌜ r ≡ expectOf f low high a b ⌝ }
+{
+    if f == 0 {
+        return Expect::NotExpected;
+    }
+    Expect::Expected((high as u64) * 4294967296 + (low as u64), a, b)
+}
+
+fn param_of(f: u32, a: u32, b: u32, c: u32, d: u32) -> Param
+    ensures { λ r. ⌜ r ≡ paramOf f a b c d ⌝ }
+{
+    if f == 0 {
+        return Param::NoParam;
+    }
+    Param::ParamAt(a, b, c, d)
+}
+
+// The ten counts of a reading's numbers.
+fn counts_of(m: &[u32; 38]) -> Counts
+    ensures { λ r. ⌜ r ≡ countsOf (now (m .entry)) ⌝ }
+{
+    Counts {
+        n: [
+            m[4],
+            m[5],
+            m[6],
+            m[7],
+            m[8],
+            m[9],
+            m[10],
+            m[11],
+            m[12],
+            m[13],
+        ],
+    }
+}
+
+fn singles_of(m: &[u32; 38]) -> Singles
+    ensures { λ r. ⌜ r ≡ singlesOf (now (m .entry)) ⌝ }
+{
+    Singles {
+        start: part_of(m[14], m[15], m[16]),
+        expect: expect_of(m[17], m[18], m[19], m[20], m[21]),
+        expect_rr: expect_of(m[22], m[23], m[24], m[25], m[26]),
+        param: param_of(m[27], m[28], m[29], m[30], m[31]),
+        generics: part_of(m[32], m[33], m[34]),
+        programs: part_of(m[35], m[36], m[37]),
+    }
+}
+
+// Number, place and table, and a count by its low and high half.
+fn counted_cells(t: Told, n: usize) -> [u32; 6]
+    ensures { λ r. ⌜ r ≡ toldNumbers t ++ halves n ⌝ }
+{
+    [
+        t.number,
+        t.from,
+        t.to,
+        t.table,
+        (n % 4294967296) as u32,
+        (n / 4294967296) as u32,
+    ]
+}
+
+// The place of a row's name; 0, 0 where the name is an empty part for another table, a row past its count or unsound tables.
+fn name_cells(
+    src: &[u8],
+    c: Counts,
+    g: Singles,
+    t1: &[u32],
+    t2: &[u32],
+    t3: &[u32],
+    t4: &[u32],
+    t5: &[u32],
+    t6: &[u32],
+    t7: &[u32],
+    t8: &[u32],
+    t9: &[u32],
+    t10: &[u32],
+    table: u32,
+    row: u32,
+) -> [u32; 2]
+    ensures { λ r. ⌜ r ≡ placeCells (nameAt (now (src .entry)) c g (record { t1 = now (t1 .entry); t2 = now (t2 .entry); t3 = now (t3 .entry); t4 = now (t4 .entry); t5 = now (t5 .entry); t6 = now (t6 .entry); t7 = now (t7 .entry); t8 = now (t8 .entry); t9 = now (t9 .entry); t10 = now (t10 .entry) }) table row) ⌝ }
+{
+    if !sound::sound(src, c, g, t1, t2, t3, t4, t5, t6, t7, t8, t9, t10) {
+        return [0, 0];
+    }
+    let p = names::name_place(c, t1, t7, table, row);
+    [p.from as u32, p.to as u32]
+}
+
+// Reads a source of kind 1, 2 or 3 into the lent tables.
+#[no_mangle]
+pub extern "C" fn quiltrudder_read(
+    src: &[u8],
+    kind: u32,
+    t1: &mut [u32],
+    t2: &mut [u32],
+    t3: &mut [u32],
+    t4: &mut [u32],
+    t5: &mut [u32],
+    t6: &mut [u32],
+    t7: &mut [u32],
+    t8: &mut [u32],
+    t9: &mut [u32],
+    t10: &mut [u32],
+    answer: &mut [u32; 38],
+)
+    ensures { λ r. ⌜ _≡_ {A = ReadFace} (record { answer = now (answer .exit); tables = record { t1 = now (t1 .exit); t2 = now (t2 .exit); t3 = now (t3 .exit); t4 = now (t4 .exit); t5 = now (t5 .exit); t6 = now (t6 .exit); t7 = now (t7 .exit); t8 = now (t8 .exit); t9 = now (t9 .exit); t10 = now (t10 .exit) } }) (readFace (now (src .entry)) kind (record { t1 = now (t1 .entry); t2 = now (t2 .entry); t3 = now (t3 .entry); t4 = now (t4 .entry); t5 = now (t5 .entry); t6 = now (t6 .entry); t7 = now (t7 .entry); t8 = now (t8 .entry); t9 = now (t9 .entry); t10 = now (t10 .entry) })) ⌝ }
+{
+    let r = read(src, kind, t1, t2, t3, t4, t5, t6, t7, t8, t9, t10);
+    let v = r.answer;
+    let c = r.counts;
+    let g = r.singles;
+    *answer = reading_cells(v, c, g);
+}
+
+// Whether a reading is valid, or the first that it lacks. `reading` is the array that `quiltrudder_read` wrote.
+#[no_mangle]
+pub extern "C" fn quiltrudder_validate(
+    src: &[u8],
+    reading: &[u32; 38],
+    t1: &[u32],
+    t2: &[u32],
+    t3: &[u32],
+    t4: &[u32],
+    t5: &[u32],
+    t6: &[u32],
+    t7: &[u32],
+    t8: &[u32],
+    t9: &[u32],
+    t10: &[u32],
+    answer: &mut [u32; 4],
+)
+    ensures { λ r. ⌜ now (answer .exit) ≡ validityNumbers (validity (now (src .entry)) (countsOf (now (reading .entry))) (singlesOf (now (reading .entry))) (record { t1 = now (t1 .entry); t2 = now (t2 .entry); t3 = now (t3 .entry); t4 = now (t4 .entry); t5 = now (t5 .entry); t6 = now (t6 .entry); t7 = now (t7 .entry); t8 = now (t8 .entry); t9 = now (t9 .entry); t10 = now (t10 .entry) })) ++ (0 ∷ []) ⌝ }
+{
+    let c = counts_of(reading);
+    let g = singles_of(reading);
+    let t = numbers::of_validity(validate(src, c, g, t1, t2, t3, t4, t5, t6, t7, t8, t9, t10));
+    *answer = [t.number, t.from, t.to, t.table];
+}
+
+// The unused rules and tokens of a valid reading, into `out`.
+#[no_mangle]
+pub extern "C" fn quiltrudder_report(
+    src: &[u8],
+    reading: &[u32; 38],
+    t1: &[u32],
+    t2: &[u32],
+    t3: &[u32],
+    t4: &[u32],
+    t5: &[u32],
+    t6: &[u32],
+    t7: &[u32],
+    t8: &[u32],
+    t9: &[u32],
+    t10: &[u32],
+    work: &mut [u32],
+    out: &mut [u32],
+    answer: &mut [u32; 6],
+)
+    ensures { λ r. ⌜ ReportFace (now (src .entry)) (now (reading .entry)) (record { t1 = now (t1 .entry); t2 = now (t2 .entry); t3 = now (t3 .entry); t4 = now (t4 .entry); t5 = now (t5 .entry); t6 = now (t6 .entry); t7 = now (t7 .entry); t8 = now (t8 .entry); t9 = now (t9 .entry); t10 = now (t10 .entry) }) (now (work .entry)) (now (work .exit)) (now (out .entry)) (now (out .exit)) (now (answer .exit)) ⌝ }
+{
+    let c = counts_of(reading);
+    let g = singles_of(reading);
+    let l = report(
+        src,
+        c,
+        g,
+        t1,
+        t2,
+        t3,
+        t4,
+        t5,
+        t6,
+        t7,
+        t8,
+        t9,
+        t10,
+        work,
+        out,
+    );
+    *answer = counted_cells(numbers::of_listing(l), numbers::listed(l));
+}
+
+// The place of the name of a row of table 1 or 7.
+#[no_mangle]
+pub extern "C" fn quiltrudder_name(
+    src: &[u8],
+    reading: &[u32; 38],
+    t1: &[u32],
+    t2: &[u32],
+    t3: &[u32],
+    t4: &[u32],
+    t5: &[u32],
+    t6: &[u32],
+    t7: &[u32],
+    t8: &[u32],
+    t9: &[u32],
+    t10: &[u32],
+    table: u32,
+    row: u32,
+    answer: &mut [u32; 2],
+)
+    ensures { λ r. ⌜ now (answer .exit) ≡ placeCells (nameAt (now (src .entry)) (countsOf (now (reading .entry))) (singlesOf (now (reading .entry))) (record { t1 = now (t1 .entry); t2 = now (t2 .entry); t3 = now (t3 .entry); t4 = now (t4 .entry); t5 = now (t5 .entry); t6 = now (t6 .entry); t7 = now (t7 .entry); t8 = now (t8 .entry); t9 = now (t9 .entry); t10 = now (t10 .entry) }) table row) ⌝ }
+{
+    let c = counts_of(reading);
+    let g = singles_of(reading);
+    *answer = name_cells(
+        src,
+        c,
+        g,
+        t1,
+        t2,
+        t3,
+        t4,
+        t5,
+        t6,
+        t7,
+        t8,
+        t9,
+        t10,
+        table,
+        row,
+    );
+}
+
+// The value of a row of table 5 without its quotes and escapes, into `out`.
+#[no_mangle]
+pub extern "C" fn quiltrudder_epp_value(
+    src: &[u8],
+    reading: &[u32; 38],
+    t1: &[u32],
+    t2: &[u32],
+    t3: &[u32],
+    t4: &[u32],
+    t5: &[u32],
+    t6: &[u32],
+    t7: &[u32],
+    t8: &[u32],
+    t9: &[u32],
+    t10: &[u32],
+    row: u32,
+    out: &mut [u8],
+    answer: &mut [u32; 6],
+)
+    ensures { λ r. ⌜ _≡_ {A = ValueFace} (record { answer = now (answer .exit); out = now (out .exit) }) (valueFace (now (src .entry)) (now (reading .entry)) (record { t1 = now (t1 .entry); t2 = now (t2 .entry); t3 = now (t3 .entry); t4 = now (t4 .entry); t5 = now (t5 .entry); t6 = now (t6 .entry); t7 = now (t7 .entry); t8 = now (t8 .entry); t9 = now (t9 .entry); t10 = now (t10 .entry) }) row (now (out .entry))) ⌝ }
+{
+    let c = counts_of(reading);
+    let g = singles_of(reading);
+    let v = epp_value(src, c, g, t1, t2, t3, t4, t5, t6, t7, t8, t9, t10, row, out);
+    *answer = counted_cells(numbers::of_valuation(v), numbers::written(v));
 }

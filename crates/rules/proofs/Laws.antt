@@ -38,7 +38,7 @@ use Rattle.grammar.specs.State.{Out0, Out1, Passed, Onward, Moves, passOn, coun
 use Rattle.grammar.proofs.Touch.{pass-going}
 use Rattle.settings.specs.Singles.{withStart}
 use Rattle.productions.specs.declared.Production.{Production}
-use Rattle.items.specs.Items.{Listed, begun, itemList}
+use Rattle.items.specs.Items.{Itemed, begun, itemList}
 use Rattle.rules.specs.Rules.{Typing, Heading, Ruled, markGap, passMark, firstStart, colonType, arrowType, ruleType, newRule, enterRule, namedHead, ruleHead, ruleBody, withBody, ruleStep, spacedOut, nextRule, percents, rulesTurn, rulesRun, rulesAll, withPrograms, programsFrom}
 
 -- a mark that stands at an index of the source ends in the source
@@ -175,7 +175,7 @@ module _ (src : List ℕ) (s : State) (b : Bool) (is : b ≡ startsAt percents s
 
 -- the colon, and the productions
 module _ (src : List ℕ) (s : State) (row : ℕ) (t1 t8 t9 : List ℕ) (o : Out0) (q : o ≡ passMark src s (58 ∷ []) MissingColon) where
-  pub body-going : (d : Production) (n : ℕ) (z : Listed) → o .answer ≡ Going → n ≡ count (o .state) symbols → d ≡ begun row (o .state .at) n → z ≡ itemList src (o .state) d t1 t8 t9 → z ≡ ruleBody src s row t1 t8 t9
+  pub body-going : (d : Production) (n : ℕ) (z : Itemed) → o .answer ≡ Going → n ≡ count (o .state) symbols → d ≡ begun row (o .state .at) n → z ≡ itemList src (o .state) d t1 t8 t9 → z ≡ ruleBody src s row t1 t8 t9
   unfolding ruleBody
   body-going d n z e c k h = rw (← q, e) (rw (k, c) at h)
 
@@ -189,7 +189,7 @@ module _ (src : List ℕ) (s : State) (row : ℕ) (t1 t8 t9 : List ℕ) (o : Out
 
 -- a rule
 module _ (src : List ℕ) (kind : ℕ) (s : State) (t1 t7 t8 t9 : List ℕ) (h : Heading) (q : h ≡ ruleHead src kind s t7) where
-  pub rule-going : (z : Listed) → h .answer ≡ Going → z ≡ ruleBody src (h .state) (h .row) t1 t8 t9 → withBody (h .t7) z ≡ ruleStep src kind s t1 t7 t8 t9
+  pub rule-going : (z : Itemed) → h .answer ≡ Going → z ≡ ruleBody src (h .state) (h .row) t1 t8 t9 → withBody (h .t7) z ≡ ruleStep src kind s t1 t7 t8 t9
   unfolding ruleStep
   rule-going z e k = rw (← q, e) (ap (withBody (h .t7)) k)
 

@@ -31,7 +31,7 @@ use Rattle.grammar.specs.declared.Gap.the-variants.{GapTo, GapRefused}
 use Rattle.grammar.specs.Cells.{ruleCells}
 use Rattle.grammar.specs.State.{Out0, Out1, count, withAt, withSingles, gapAt, pushRow, pastGap, passOn, refused, onward}
 use Rattle.settings.specs.Singles.{withStart}
-use Rattle.items.specs.Items.{Listed, begun, itemList}
+use Rattle.items.specs.Items.{Itemed, begun, itemList}
 
 -- the type of a rule, or why there is none
 pub record Typing : Type 0 where
@@ -127,19 +127,19 @@ unfoldable pub ruleHead : List ℕ → ℕ → State → List ℕ → Heading
 ruleHead src kind s t7 = headFound (nameAt src (s .at)) src kind s t7
 
 -- the colon, else 7, and the productions
-abbrev pub bodyPassed : Answer → List ℕ → State → ℕ → List ℕ → List ℕ → List ℕ → Listed
+abbrev pub bodyPassed : Answer → List ℕ → State → ℕ → List ℕ → List ℕ → List ℕ → Itemed
 bodyPassed Going src s row t1 t8 t9 = itemList src s (begun row (s .at) (count s symbols)) t1 t8 t9
 bodyPassed Done src s row t1 t8 t9 = record { answer = Done; state = s; t1 = t1; t8 = t8; t9 = t9 }
 bodyPassed (Refused f) src s row t1 t8 t9 = record { answer = Refused f; state = s; t1 = t1; t8 = t8; t9 = t9 }
 
-abbrev pub bodyOut : List ℕ → Out0 → ℕ → List ℕ → List ℕ → List ℕ → Listed
+abbrev pub bodyOut : List ℕ → Out0 → ℕ → List ℕ → List ℕ → List ℕ → Itemed
 bodyOut src o row t1 t8 t9 = bodyPassed (o .answer) src (o .state) row t1 t8 t9
 
-unfoldable pub ruleBody : List ℕ → State → ℕ → List ℕ → List ℕ → List ℕ → Listed
+unfoldable pub ruleBody : List ℕ → State → ℕ → List ℕ → List ℕ → List ℕ → Itemed
 ruleBody src s row t1 t8 t9 = bodyOut src (passMark src s (58 ∷ []) MissingColon) row t1 t8 t9
 
 -- a rule: its head, then its body
-abbrev pub withBody : List ℕ → Listed → Ruled
+abbrev pub withBody : List ℕ → Itemed → Ruled
 withBody t7 o = record { answer = o .answer; state = o .state; t1 = o .t1; t7 = t7; t8 = o .t8; t9 = o .t9 }
 
 abbrev pub ruleHeaded : Answer → List ℕ → Heading → List ℕ → List ℕ → List ℕ → Ruled

@@ -12,7 +12,7 @@ use texts::ColonText;
 use words::Name;
 ghost use mathlib.Core.Path.{_≡_};
 ghost use Rattle.grammar.specs.State.{Out0, Here, Passed, Moves, Onward};
-ghost use Rattle.items.specs.Items.{Listed};
+ghost use Rattle.items.specs.Items.{Itemed};
 ghost use Rattle.rules.specs.Rules.{passMark, firstStart, Typing, colonType, arrowType, ruleType, Heading, enterRule, namedHead, ruleHead, ruleBody, Ruled, ruleStep, nextRule, rulesRun, rulesAll, withPrograms, programsFrom};
 
 // The type of a rule, or why there is none.
@@ -218,7 +218,7 @@ pub fn rule_body(
     t9: &mut [u32],
 ) -> Step
     requires { ⌜ Here (now src) (s .at) ⌝ }
-    ensures is { λ r. ⌜ _≡_ {A = Listed} (record { answer = r .answer; state = r .state; t1 = now (t1 .exit); t8 = now (t8 .exit); t9 = now (t9 .exit) }) (ruleBody (now (src .entry)) s row (now (t1 .entry)) (now (t8 .entry)) (now (t9 .entry))) ⌝ }
+    ensures is { λ r. ⌜ _≡_ {A = Itemed} (record { answer = r .answer; state = r .state; t1 = now (t1 .exit); t8 = now (t8 .exit); t9 = now (t9 .exit) }) (ruleBody (now (src .entry)) s row (now (t1 .entry)) (now (t8 .entry)) (now (t9 .entry))) ⌝ }
     ensures moved { λ r. ⌜ Passed (now (src .entry)) (s .at) (r .state .at) ⌝ }
 {
     let c = pass_mark(src, s, b":", Cause::MissingColon);

@@ -11,10 +11,11 @@ use native.Mathlib.Decide.{decLt}
 use native.Mathlib.Nat.{suc-mul, mul-le-mul, le-div-iff-mul-le, div-zero, min-le-left, min-le-right, le-min, add-zero, sub-zero}
 use borrow.Author.Tests.{eq-eqb, ne-eqb, lt-leb, le-leb, lt-ltb, le-ltb, ltb-true, not-true, not-false}
 use lib.ListN.{length, getD, set, take, drop, replicate, length-set, drop-of-length-le, List·getD-eq-default}
-use lib.Seq.{slice, slice-cons, slice-empty, set-out}
+use lib.Seq.{slice, slice-cons, slice-empty, length-slice, set-out}
 use lib.Dec.{leb}
 use Rattle.scan.specs.Table.{same}
 use Rattle.scan.proofs.Bytes.{le-or-lt, within-true}
+use Rattle.scan.proofs.Table.{same-iff}
 use Rattle.tables.specs.Table.{cell, setCell, put, room, Added, added, addRow, lies, samePart, hasName, firstRow, findName, flag, enterToken}
 use Rattle.tables.specs.declared.Found.{Found}
 use Rattle.tables.specs.declared.Found.the-variants.{RowAt, NoRow}
@@ -123,6 +124,11 @@ module _ (src : List ℕ) (a b c d : ℕ) (p : Bool) (e : p ≡ lies src a b) wh
         let v = within-true c (length src) d y in
         (u .0, v .0, u .1, v .1, rw (x, y, samePart))
 
+-- places of different lengths do not hold the same bytes
+pub part-longer : (src : List ℕ) (a b c d : ℕ) (r : Bool) → b ≤ length src → d ≤ length src → same (slice a b src) (slice c d src) ≡ r → (b - a ≡ d - c → ⊥) → false ≡ r
+part-longer src a b c d true bl dl e ne = absurd (ne (sym (length-slice a b src bl) ∙ ap length (same-iff (slice a b src) (slice c d src) .0 e) ∙ length-slice c d src dl))
+part-longer src a b c d false bl dl e ne = refl
+
 -- what is left of both places, byte by byte
 module _ (src : List ℕ) (b d : ℕ) (bl : b ≤ length src) (dl : d ≤ length src) (i j : ℕ) (r : Bool) (inv : same (slice i b src) (slice j d src) ≡ r) where
   pub same-on : i < b → j < d → getD src i 0 ≡ getD src j 0 → same (slice (i + 1) b src) (slice (j + 1) d src) ≡ r
@@ -133,22 +139,9 @@ module _ (src : List ℕ) (b d : ℕ) (bl : b ≤ length src) (dl : d ≤ length
   unfolding same
   same-differ h k f = rw (slice-cons i b src 0 h bl, slice-cons j d src 0 k dl, ne-eqb _ _ f, same) at inv
 
-  pub same-short : i < b → j ≤ d → d ≤ j → false ≡ r
+  pub same-end : i ≡ b → j ≡ d → true ≡ r
   unfolding same
-  same-short h k l =
-      let e : j ≡ d = omega arith in
-      rw (slice-cons i b src 0 h bl, e, slice-empty d src) at inv
-
-  pub same-end : i ≤ b → b ≤ i → j ≤ d → leb d j ≡ r
-  unfolding same
-  same-end h k l =
-      let e : i ≡ b = omega arith in
-      elim (decLt j d) [
-        | yes m ↦ lt-leb d j m ∙ rw (e, slice-empty b src, slice-cons j d src 0 m dl) at inv
-        | no m ↦
-            let f : j ≡ d = omega arith in
-            le-leb d j (omega arith) ∙ rw (e, f, slice-empty b src, slice-empty d src) at inv
-      ]
+  same-end e f = rw (e, f, slice-empty b src, slice-empty d src) at inv
 
 -- the rows from row r on
 module _ (p : ℕ → Bool) (n r : ℕ) (o : Found) (inv : firstRow p (n - r) r ≡ o) where

@@ -158,21 +158,20 @@ pub fn same_part(src: &[u8], a: u32, b: u32, c: u32, d: u32) -> bool
     if !is_place(src, c, d) {
         return false;
     }
+    if b - a != d - c {
+        return false;
+    }
     let end = b as usize;
-    let other = d as usize;
     let mut i = a as usize;
     let mut j = c as usize;
     while i < end {
-        if other <= j {
-            return false;
-        }
         if src[i] != src[j] {
             return false;
         }
         i += 1;
         j += 1;
     }
-    other <= j
+    true
 }
 
 // The first of the `n` rows whose name, the place in its cells `k` and `k + 1`, has the bytes of the given place.

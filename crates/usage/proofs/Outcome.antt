@@ -20,7 +20,7 @@ use Rattle.reach.proofs.Works.{work-one}
 use Rattle.reach.proofs.Fair.{fair-sound}
 use Rattle.usage.specs.declared.Listing.{Listing}
 use Rattle.usage.specs.declared.Listing.the-variants.{Unused, OfUnsound, OfInvalid, NoWords, NoRoom}
-use Rattle.usage.specs.Report.{Excuses, excusesOf, UnusedRule, UnusedToken, Free, Lists, Filled, Crowded, Accepted, Listed, Told, Reported, ByBits}
+use Rattle.usage.specs.Report.{Excuses, excusesOf, UnusedRule, UnusedToken, Free, Lists, Filled, Crowded, Accepted, ValidReport, Told, Reported, ByBits}
 use Rattle.usage.proofs.Picked.{picks-one, picks-same, picks-bound}
 
 -- what the marking says, by its answer
@@ -70,10 +70,10 @@ module _ (g : Grammar) (x : Excuses) (ws : List ℕ) (first : g .rules .sort .ba
 
 -- what marking and then listing come to: the rows, or no room for them, and nothing else
 module _ (g : Grammar) (x : Excuses) (ws₀ ws : List ℕ) (first : g .rules .sort .base ≡ 0) (behind : g .rules .sort .count ≤ g .tokens .sort .base) (m : (need g ≤ length ws₀) × (length ws ≡ length ws₀) × Work g ws) (l : Listing) (out₀ out : List ℕ) (b : ByBits ws x (g .rules) (g .tokens) l out₀ out) where
-  pub listed-rows : (n : ℕ) → l ≡ Unused n → Listed g x l ws₀ ws out₀ out
+  pub listed-rows : (n : ℕ) → l ≡ Unused n → ValidReport g x l ws₀ ws out₀ out
   listed-rows n e = rw e (record { words = m .0; size = m .1; work = m .2; filled = filled-are g x ws first behind (m .2) (rw e at b) })
 
-  pub listed-crowded : (vs : List ℕ) → l ≡ NoRoom → vs ≡ zeroed ws → Listed g x l ws₀ vs out₀ out
+  pub listed-crowded : (vs : List ℕ) → l ≡ NoRoom → vs ≡ zeroed ws → ValidReport g x l ws₀ vs out₀ out
   listed-crowded vs e z =
       let c = rw e at b in
       rw e (m .0, crowded-are g x ws first behind (m .2) (c .0), record { work = z ∙ ap (λ n. replicate n 0) (m .1); cells = c .1 })
@@ -100,31 +100,31 @@ not-both f h =
 
 module _ (g : Grammar) (x : Excuses) (ws₀ out₀ : List ℕ) where
   -- of a valid reading
-  pub listed-one : (a b : Listing) (ws vs out out' : List ℕ) → Listed g x a ws₀ ws out₀ out → Listed g x b ws₀ vs out₀ out' → _≡_ {A = Outcome} (record { answer = a; work = ws; cells = out }) (record { answer = b; work = vs; cells = out' })
-  listed-one (Unused n) (Unused m) ws vs out out' p q =
+  pub valid-one : (a b : Listing) (ws vs out out' : List ℕ) → ValidReport g x a ws₀ ws out₀ out → ValidReport g x b ws₀ vs out₀ out' → _≡_ {A = Outcome} (record { answer = a; work = ws; cells = out }) (record { answer = b; work = vs; cells = out' })
+  valid-one (Unused n) (Unused m) ws vs out out' p q =
       let e = filled-one (p .filled) (q .filled) in
       let w = work-one g ws vs (p .size ∙ sym (q .size)) (p .work) (q .work) in
       rw (e .0, e .1, w)
-  listed-one NoWords NoWords ws vs out out' p q = rw (p .1 .work, q .1 .work, p .1 .cells, q .1 .cells)
-  listed-one NoRoom NoRoom ws vs out out' p q = rw (p .2 .work, q .2 .work, p .2 .cells, q .2 .cells)
-  listed-one (Unused n) NoWords ws vs out out' p q = absurd (omega (arith, p .words, q .0))
-  listed-one NoWords (Unused n) ws vs out out' p q = absurd (omega (arith, q .words, p .0))
-  listed-one NoRoom NoWords ws vs out out' p q = absurd (omega (arith, p .0, q .0))
-  listed-one NoWords NoRoom ws vs out out' p q = absurd (omega (arith, p .0, q .0))
-  listed-one (Unused n) NoRoom ws vs out out' p q = absurd (not-both (p .filled) (q .1))
-  listed-one NoRoom (Unused n) ws vs out out' p q = absurd (not-both (q .filled) (p .1))
-  listed-one OfUnsound b ws vs out out' p q = absurd p
-  listed-one (OfInvalid f) b ws vs out out' p q = absurd p
-  listed-one (Unused n) OfUnsound ws vs out out' p q = absurd q
-  listed-one (Unused n) (OfInvalid f) ws vs out out' p q = absurd q
-  listed-one NoWords OfUnsound ws vs out out' p q = absurd q
-  listed-one NoWords (OfInvalid f) ws vs out out' p q = absurd q
-  listed-one NoRoom OfUnsound ws vs out out' p q = absurd q
-  listed-one NoRoom (OfInvalid f) ws vs out out' p q = absurd q
+  valid-one NoWords NoWords ws vs out out' p q = rw (p .1 .work, q .1 .work, p .1 .cells, q .1 .cells)
+  valid-one NoRoom NoRoom ws vs out out' p q = rw (p .2 .work, q .2 .work, p .2 .cells, q .2 .cells)
+  valid-one (Unused n) NoWords ws vs out out' p q = absurd (omega (arith, p .words, q .0))
+  valid-one NoWords (Unused n) ws vs out out' p q = absurd (omega (arith, q .words, p .0))
+  valid-one NoRoom NoWords ws vs out out' p q = absurd (omega (arith, p .0, q .0))
+  valid-one NoWords NoRoom ws vs out out' p q = absurd (omega (arith, p .0, q .0))
+  valid-one (Unused n) NoRoom ws vs out out' p q = absurd (not-both (p .filled) (q .1))
+  valid-one NoRoom (Unused n) ws vs out out' p q = absurd (not-both (q .filled) (p .1))
+  valid-one OfUnsound b ws vs out out' p q = absurd p
+  valid-one (OfInvalid f) b ws vs out out' p q = absurd p
+  valid-one (Unused n) OfUnsound ws vs out out' p q = absurd q
+  valid-one (Unused n) (OfInvalid f) ws vs out out' p q = absurd q
+  valid-one NoWords OfUnsound ws vs out out' p q = absurd q
+  valid-one NoWords (OfInvalid f) ws vs out out' p q = absurd q
+  valid-one NoRoom OfUnsound ws vs out out' p q = absurd q
+  valid-one NoRoom (OfInvalid f) ws vs out out' p q = absurd q
 
   -- of a reading that is valid or not
   told-one : (v : Validity) (a b : Listing) (ws vs out out' : List ℕ) → Told v g x a ws₀ ws out₀ out → Told v g x b ws₀ vs out₀ out' → _≡_ {A = Outcome} (record { answer = a; work = ws; cells = out }) (record { answer = b; work = vs; cells = out' })
-  told-one Valid a b ws vs out out' p q = listed-one a b ws vs out out' p q
+  told-one Valid a b ws vs out out' p q = valid-one a b ws vs out out' p q
   told-one UnsoundTables a b ws vs out out' p q = rw (p .0, q .0, p .1 .work, q .1 .work, p .1 .cells, q .1 .cells)
   told-one (Invalid f) a b ws vs out out' p q = rw (p .0, q .0, p .1 .work, q .1 .work, p .1 .cells, q .1 .cells)
 
@@ -135,7 +135,7 @@ module _ (g : Grammar) (x : Excuses) (ws₀ out₀ : List ℕ) where
   told-rows (Invalid f) n ws out p = let e = p .0 in let z : _≡_ {A = ℕ} 0 1 = cc in absurd (omega arith)
 
   -- with words and room enough nothing else is answered
-  listed-room : (l : Listing) (ws out : List ℕ) → need g ≤ length ws₀ → (g .rules .sort .count + g .tokens .sort .count) * 2 ≤ length out₀ → Listed g x l ws₀ ws out₀ out → (n : ℕ) × (l ≡ Unused n)
+  listed-room : (l : Listing) (ws out : List ℕ) → need g ≤ length ws₀ → (g .rules .sort .count + g .tokens .sort .count) * 2 ≤ length out₀ → ValidReport g x l ws₀ ws out₀ out → (n : ℕ) × (l ≡ Unused n)
   listed-room (Unused n) ws out h k p = (n, refl)
   listed-room OfUnsound ws out h k p = absurd p
   listed-room (OfInvalid f) ws out h k p = absurd p
@@ -153,7 +153,7 @@ module _ (src : List ℕ) (c : Counts) (g : Singles) (T : Tables) where
   pub fair-valid : validity src c g T ≡ Valid → Fair grammar
   fair-valid v = fair-sound src c g T (sound-iff src c g T .0 (validity-first src c g T .0 .0 v .0))
 
-  pub reported-valid : (l : Listing) (ws₀ ws out₀ out : List ℕ) → validity src c g T ≡ Valid → Listed grammar excuses l ws₀ ws out₀ out → Reported src c g T l ws₀ ws out₀ out
+  pub reported-valid : (l : Listing) (ws₀ ws out₀ out : List ℕ) → validity src c g T ≡ Valid → ValidReport grammar excuses l ws₀ ws out₀ out → Reported src c g T l ws₀ ws out₀ out
   reported-valid l ws₀ ws out₀ out v p = rw v p
 
   pub reported-unsound : (ws₀ ws out₀ out : List ℕ) → validity src c g T ≡ UnsoundTables → ws ≡ zeroed ws₀ → out ≡ zeroed out₀ → Reported src c g T OfUnsound ws₀ ws out₀ out

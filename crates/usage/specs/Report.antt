@@ -128,16 +128,16 @@ pub record Zeroed (ws₀ ws out₀ out : List ℕ) : Type 0 where
   pub cells : out ≡ zeroed out₀
 
 -- of a reading that is valid: "42 for 11 (fewer words than the bits below need), then for its output"
-abbrev pub Listed : Grammar → Excuses → Listing → List ℕ → List ℕ → List ℕ → List ℕ → Type 0
-Listed g x (Unused n) ws₀ ws out₀ out = Accepted g x n ws₀ ws out₀ out
-Listed g x OfUnsound ws₀ ws out₀ out = ⊥
-Listed g x (OfInvalid f) ws₀ ws out₀ out = ⊥
-Listed g x NoWords ws₀ ws out₀ out = (length ws₀ < need g) × Zeroed ws₀ ws out₀ out
-Listed g x NoRoom ws₀ ws out₀ out = (need g ≤ length ws₀) × Crowded (UnusedRule g x) (UnusedToken g x) (g .rules .sort .count) (g .tokens .sort .count) out₀ × Zeroed ws₀ ws out₀ out
+abbrev pub ValidReport : Grammar → Excuses → Listing → List ℕ → List ℕ → List ℕ → List ℕ → Type 0
+ValidReport g x (Unused n) ws₀ ws out₀ out = Accepted g x n ws₀ ws out₀ out
+ValidReport g x OfUnsound ws₀ ws out₀ out = ⊥
+ValidReport g x (OfInvalid f) ws₀ ws out₀ out = ⊥
+ValidReport g x NoWords ws₀ ws out₀ out = (length ws₀ < need g) × Zeroed ws₀ ws out₀ out
+ValidReport g x NoRoom ws₀ ws out₀ out = (need g ≤ length ws₀) × Crowded (UnusedRule g x) (UnusedToken g x) (g .rules .sort .count) (g .tokens .sort .count) out₀ × Zeroed ws₀ ws out₀ out
 
 -- "44, then (report) validate's number", then what a valid reading gives
 abbrev pub Told : Validity → Grammar → Excuses → Listing → List ℕ → List ℕ → List ℕ → List ℕ → Type 0
-Told Valid g x l ws₀ ws out₀ out = Listed g x l ws₀ ws out₀ out
+Told Valid g x l ws₀ ws out₀ out = ValidReport g x l ws₀ ws out₀ out
 Told UnsoundTables g x l ws₀ ws out₀ out = (l ≡ OfUnsound) × Zeroed ws₀ ws out₀ out
 Told (Invalid f) g x l ws₀ ws out₀ out = (l ≡ OfInvalid f) × Zeroed ws₀ ws out₀ out
 

@@ -11,7 +11,7 @@ ghost use Prim.Native.Nat.{ℕ, _+_, _*_, _^_, _<_, _≤_};
 ghost use lib.ListN.{length};
 ghost use Rattle.grammar.specs.Sound.{Tables};
 ghost use Rattle.reach.specs.Reach.{named, ruleSort, tokenSort, grammarOf, Fair, need};
-ghost use Rattle.usage.specs.Report.{Says, Expects, Expected, Implicit, Excused, excusesOf, Free, Counted, Wrote, Room, Written, ByBits, Listed, Reported};
+ghost use Rattle.usage.specs.Report.{Says, Expects, Expected, Implicit, Excused, excusesOf, Free, Counted, Wrote, Room, Written, ByBits, ValidReport, Reported};
 
 pub enum Listing {
     // How many rows the report has.
@@ -211,7 +211,7 @@ fn list_used(
     t9: &[u32],
 ) -> Listing
     requires { ⌜ Fair (grammarOf (now src) c start (now t1) (now t7) (now t8) (now t9)) ⌝ }
-    ensures { λ r. ⌜ Listed (grammarOf (now (src .entry)) c start (now (t1 .entry)) (now (t7 .entry)) (now (t8 .entry)) (now (t9 .entry))) (excusesOf (now (src .entry)) c (now (t4 .entry)) (now (t6 .entry))) r (now (work .entry)) (now (work .exit)) (now (out .entry)) (now (out .exit)) ⌝ }
+    ensures { λ r. ⌜ ValidReport (grammarOf (now (src .entry)) c start (now (t1 .entry)) (now (t7 .entry)) (now (t8 .entry)) (now (t9 .entry))) (excusesOf (now (src .entry)) c (now (t4 .entry)) (now (t6 .entry))) r (now (work .entry)) (now (work .exit)) (now (out .entry)) (now (out .exit)) ⌝ }
 {
     if !reach::mark_used(work, src, c, start, t1, t7, t8, t9) {
         tables::zero(out);

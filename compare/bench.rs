@@ -1,0 +1,106 @@
+//! Times the crate against the library, in one process: parse, `complete_and_validate` and `unused_symbols` against read, validate and report.
+//! bench KIND:FILE.. prints, for each file, the best of several runs of each in microseconds and the ratio; tables are lent with a row more than the reading needs, and are cleared by `read` itself, which counts.
+
+mod header;
+mod span;
+mod yacc;
+
+pub use span::{Span, Spanned};
+
+use std::time::Instant;
+use yacc::parser::YaccParser;
+use yacc::{YaccKind, YaccOriginalActionKind};
+
+const WIDTH: [usize; 10] = [3, 4, 2, 2, 6, 3, 5, 13, 3, 5];
+
+type Tables = [Vec<u32>; 10];
+
+macro_rules! lent {
+    ($f:ident $t:ident ($($head:expr),*) ($($tail:expr),*)) => {
+        $f($($head,)*
+            $t[0].as_ptr(), $t[0].len(), $t[1].as_ptr(), $t[1].len(), $t[2].as_ptr(), $t[2].len(), $t[3].as_ptr(), $t[3].len(), $t[4].as_ptr(), $t[4].len(),
+            $t[5].as_ptr(), $t[5].len(), $t[6].as_ptr(), $t[6].len(), $t[7].as_ptr(), $t[7].len(), $t[8].as_ptr(), $t[8].len(), $t[9].as_ptr(), $t[9].len(),
+            $($tail),*)
+    };
+}
+
+type P = *const u32;
+
+#[rustfmt::skip]
+unsafe extern "C" {
+    fn quiltrudder_read(src: *const u8, len: usize, kind: u32, a: P, an: usize, b: P, bn: usize, c: P, cn: usize, d: P, dn: usize, e: P, en: usize,
+        f: P, fn_: usize, g: P, gn: usize, h: P, hn: usize, i: P, in_: usize, j: P, jn: usize, answer: *mut u32);
+    fn quiltrudder_validate(src: *const u8, len: usize, reading: *const u32, a: P, an: usize, b: P, bn: usize, c: P, cn: usize, d: P, dn: usize, e: P, en: usize,
+        f: P, fn_: usize, g: P, gn: usize, h: P, hn: usize, i: P, in_: usize, j: P, jn: usize, answer: *mut u32);
+    fn quiltrudder_report(src: *const u8, len: usize, reading: *const u32, a: P, an: usize, b: P, bn: usize, c: P, cn: usize, d: P, dn: usize, e: P, en: usize,
+        f: P, fn_: usize, g: P, gn: usize, h: P, hn: usize, i: P, in_: usize, j: P, jn: usize, work: *mut u32, wn: usize, out: *mut u32, on: usize, answer: *mut u32);
+}
+
+fn ours(kind: u32, src: &[u8], t: &mut Tables, work: &mut [u32], out: &mut [u32]) -> (u32, u32, u32, u32) {
+    let (mut o, mut v, mut r) = ([0u32; 38], [0u32; 4], [0u32; 6]);
+    unsafe {
+        lent!(quiltrudder_read t (src.as_ptr(), src.len(), kind) (o.as_mut_ptr()));
+        if o[0] == 0 {
+            lent!(quiltrudder_validate t (src.as_ptr(), src.len(), o.as_ptr()) (v.as_mut_ptr()));
+            lent!(quiltrudder_report t (src.as_ptr(), src.len(), o.as_ptr()) (work.as_mut_ptr(), work.len(), out.as_mut_ptr(), out.len(), r.as_mut_ptr()));
+        }
+    }
+    (o[0], v[0], r[0], r[4])
+}
+
+fn crates(kind: u32, src: &str) -> (bool, bool, usize) {
+    let which = match kind {
+        1 => YaccKind::Original(YaccOriginalActionKind::GenericParseTree),
+        2 => YaccKind::Grmtools,
+        _ => YaccKind::Eco,
+    };
+    let mut parser = YaccParser::new(which, src);
+    let read = parser.parse().is_ok();
+    let mut ast = parser.build();
+    if !read {
+        return (false, false, 0);
+    }
+    let valid = ast.complete_and_validate().is_ok();
+    let unused = if valid { ast.unused_symbols().count() } else { 0 };
+    (read, valid, unused)
+}
+
+fn best(mut f: impl FnMut()) -> f64 {
+    let mut least = f64::MAX;
+    let begun = Instant::now();
+    let mut runs = 0;
+    while runs < 3 || (runs < 200 && begun.elapsed().as_millis() < 300) {
+        let t = Instant::now();
+        f();
+        least = least.min(t.elapsed().as_secs_f64() * 1e6);
+        runs += 1;
+    }
+    least
+}
+
+fn main() {
+    println!("| Source | Bytes | crate, µs | library, µs | library / crate |\n|---|---|---|---|---|");
+    for word in std::env::args().skip(1) {
+        let (kind, file) = word.split_once(':').expect("KIND:FILE");
+        let kind: u32 = kind.parse().expect("a kind");
+        let src = std::fs::read_to_string(file).expect("a file");
+        let rows = src.len() + 2;
+        let mut t: Tables = WIDTH.map(|w| vec![0u32; w * rows]);
+        let (mut work, mut out) = (vec![0u32; rows / 16 + 2], vec![0u32; 4 * rows]);
+        let (a, b) = (crates(kind, &src), ours(kind, src.as_bytes(), &mut t, &mut work, &mut out));
+        // from here on as many rows are lent as the reading has, and one more
+        for (k, w) in WIDTH.iter().enumerate() {
+            let used = t[k].iter().rposition(|c| *c != 0).map_or(0, |i| i / w + 1);
+            t[k].truncate((used + 1) * w);
+        }
+        let agree = a.0 == (b.0 == 0) && (!a.0 || a.1 == (b.1 == 0)) && (!a.1 || a.2 as u32 == b.3);
+        let theirs = best(|| {
+            std::hint::black_box(crates(kind, &src));
+        });
+        let mine = best(|| {
+            std::hint::black_box(ours(kind, src.as_bytes(), &mut t, &mut work, &mut out));
+        });
+        let name = file.rsplit('/').next().unwrap();
+        println!("| {name}{} | {} | {theirs:.0} | {mine:.0} | {:.2} |", if agree { "" } else { " (ANSWERS DIFFER)" }, src.len(), mine / theirs);
+    }
+}

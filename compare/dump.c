@@ -1,0 +1,148 @@
+/* dump BOX [ROWS,..]: the comparison text of every input of a box, made from the C names of the library alone. ROWS are the rows lent for tables 1 to 10, one number for all or ten;
+   without them each table has a row for each byte. Tables are lent full of rubbish; a cell past a count that is not zero afterwards is told on standard error. */
+#include "../include/quiltrudder.h"
+#include <stdio.h>
+#include <stdlib.h>
+
+static const unsigned width[11] = {0, 3, 4, 2, 2, 6, 3, 5, 13, 3, 5};
+static uint32_t *t[11];
+static size_t n[11];
+static uint32_t o[QUILTRUDDER_READING_CELLS];
+static const uint8_t *src;
+static uint32_t len;
+
+#define TABLES t[1], n[1], t[2], n[2], t[3], n[3], t[4], n[4], t[5], n[5], t[6], n[6], t[7], n[7], t[8], n[8], t[9], n[9], t[10], n[10]
+
+static void text(const uint8_t *s, uint32_t from, uint32_t to) {
+    putchar('x');
+    for (uint32_t i = from; i < to; i++) printf("%02x", s[i]);
+}
+
+static void errors(void) {
+    uint32_t *r = t[10], count = o[13];
+    char *done = calloc(count + 1, 1);
+    if (o[0] < 40 || o[0] == 42)
+        for (uint32_t i = 0; i < count; i++) {
+            if (done[i]) continue;
+            printf("error %u %u %u", r[5 * i], r[5 * i + 1], r[5 * i + 2]);
+            for (uint32_t j = i; j < count; j++)
+                if (!done[j] && r[5 * j] == r[5 * i] && r[5 * j + 1] == r[5 * i + 1] && r[5 * j + 2] == r[5 * i + 2]) {
+                    done[j] = 1;
+                    printf(" %u %u", r[5 * j + 3], r[5 * j + 4]);
+                }
+            printf("\n");
+        }
+    free(done);
+    if (o[0] >= 1 && o[0] <= 15) printf("error %u %u %u\n", o[0], o[1], o[2]);
+}
+
+static void epp(uint32_t row) {
+    uint32_t *x = t[5] + 6 * row, a[6];
+    uint8_t *out = malloc(len + 1);
+    quiltrudder_epp_value(src, len, o, TABLES, row, out, len, a);
+    printf("t5 %u %u %u ", row, x[0], x[1]);
+    text(src, x[2], x[3]);
+    printf(" %u %u ", x[4], x[5]);
+    if (a[0] == 0) text(out, 0, a[4]); else printf("refused %u", a[0]);
+    printf("\n");
+    free(out);
+}
+
+static void tables(void) {
+    for (uint32_t i = 0; i < o[4]; i++) { uint32_t *x = t[1] + 3 * i; printf("t1 %u %u %u %u ", i, x[0], x[1], x[2]); text(src, x[0], x[1]); printf("\n"); }
+    for (uint32_t i = 0; i < o[5]; i++) { uint32_t *x = t[2] + 4 * i; printf("t2 %u %u %u %u %u ", i, x[0], x[1], x[2], x[3]); text(src, x[0], x[1]); printf("\n"); }
+    for (int k = 3; k <= 4; k++)
+        for (uint32_t i = 0; i < o[3 + k]; i++) { uint32_t *x = t[k] + 2 * i; printf("t%d %u %u %u ", k, i, x[0], x[1]); text(src, x[0], x[1]); printf("\n"); }
+    for (uint32_t i = 0; i < o[8]; i++) epp(i);
+    for (uint32_t i = 0; i < o[9]; i++) { uint32_t *x = t[6] + 3 * i; printf("t6 %u %u %u %u ", i, x[0], x[1], x[2]); text(src, x[1], x[2]); printf("\n"); }
+    for (uint32_t i = 0; i < o[10]; i++) { uint32_t *x = t[7] + 5 * i; printf("t7 %u %u %u ", i, x[0], x[1]); text(src, x[0], x[1]); printf(" "); if (x[2]) text(src, x[3], x[4]); else printf("-"); printf("\n"); }
+    for (uint32_t i = 0; i < o[11]; i++) {
+        uint32_t *x = t[8] + 13 * i;
+        printf("t8 %u %u %u %u %u %u ", i, x[0], x[1], x[2], x[3], x[4]);
+        if (x[5]) text(src, x[6], x[7]); else printf("-");
+        if (x[8]) { printf(" %u %u ", x[11], x[12]); text(src, x[9], x[10]); } else printf(" - - -");
+        printf("\n");
+    }
+    for (uint32_t i = 0; i < o[12]; i++) { uint32_t *x = t[9] + 3 * i; printf("t9 %u %u %u %u ", i, x[0], x[1], x[2]); text(src, x[1], x[2]); printf("\n"); }
+}
+
+static void part(const char *what, const uint32_t *x) {
+    printf("%s ", what);
+    if (x[0]) text(src, x[1], x[2]); else printf("-");
+    printf("\n");
+}
+
+static void singles(void) {
+    if (o[14]) { printf("start %u %u ", o[15], o[16]); text(src, o[15], o[16]); printf("\n"); } else printf("start - - -\n");
+    for (int k = 0; k < 2; k++) {
+        uint32_t *x = o + 17 + 5 * k;
+        const char *what = k ? "expect-rr" : "expect";
+        if (x[0]) printf("%s %llu %u %u\n", what, (unsigned long long)x[1] | (unsigned long long)x[2] << 32, x[3], x[4]); else printf("%s - - -\n", what);
+    }
+    if (o[27]) { printf("param "); text(src, o[28], o[29]); printf(" "); text(src, o[30], o[31]); printf("\n"); } else printf("param - -\n");
+    part("generics", o + 32);
+    part("programs", o + 35);
+}
+
+static void use(void) {
+    uint32_t v[4], a[6], words = (o[10] + 31) / 32 + (o[4] + 31) / 32;
+    quiltrudder_validate(src, len, o, TABLES, v);
+    printf("validate %u %u %u\n", v[0], v[1], v[2]);
+    if (v[0]) return;
+    size_t rows = 2 * ((size_t)o[10] + o[4]);
+    uint32_t *work = malloc(4 * (words + 1)), *out = malloc(4 * (rows + 1));
+    quiltrudder_report(src, len, o, TABLES, work, words, out, rows, a);
+    if (a[0]) printf("report refused %u\n", a[0]);
+    for (uint32_t i = 0; i < a[4]; i++) {
+        uint32_t kind = out[2 * i], r = out[2 * i + 1], p[2];
+        quiltrudder_name(src, len, o, TABLES, kind == 1 ? 7 : 1, r, p);
+        printf("unused %u %u %u %u\n", kind, r, p[0], p[1]);
+    }
+    printf("work");
+    for (uint32_t i = 0; i < words; i++) printf(" %08x", work[i]);
+    printf("\n");
+    free(work);
+    free(out);
+}
+
+int main(int argc, char **argv) {
+    unsigned rows[11];
+    for (int k = 1; k <= 10; k++) rows[k] = 70000;
+    if (argc > 2) {
+        int c = sscanf(argv[2], "%u,%u,%u,%u,%u,%u,%u,%u,%u,%u", rows + 1, rows + 2, rows + 3, rows + 4, rows + 5, rows + 6, rows + 7, rows + 8, rows + 9, rows + 10);
+        for (int k = 2; c == 1 && k <= 10; k++) rows[k] = rows[1];
+    }
+    FILE *f = argc > 1 ? fopen(argv[1], "rb") : NULL;
+    if (!f) return 2;
+    for (int k = 1; k <= 10; k++) t[k] = malloc(4 * (size_t)width[k] * 70000 + 4);
+    uint8_t head[5];
+    int bad = 0;
+    for (long index = 0; fread(head, 1, 5, f) == 5; index++) {
+        len = head[1] | head[2] << 8 | head[3] << 16 | (uint32_t)head[4] << 24;
+        uint8_t *s = malloc(len + 1);
+        if (fread(s, 1, len, f) != len) return 2;
+        src = s;
+        for (int k = 1; k <= 10; k++) {
+            size_t have = rows[k] > len + 2 && argc < 3 ? len + 2 : rows[k];
+            n[k] = have * width[k];
+            for (size_t i = 0; i < n[k]; i++) t[k][i] = 0xdeadbeef;
+        }
+        quiltrudder_read(src, len, head[0], TABLES, o);
+        int fatal = (o[0] >= 1 && o[0] <= 15) || o[0] >= 40;
+        printf("input %ld %u %u\nread %u %u %u", index, head[0], len, o[0], o[1], o[2]);
+        if (o[0] == 42) printf(" %u", o[3]);
+        printf("\n");
+        errors();
+        printf("counts");
+        for (int k = 1; k <= 10; k++) printf(" %u", o[3 + k]);
+        printf("\n");
+        if (!fatal) tables();
+        for (uint32_t i = 0; i < o[13]; i++) { uint32_t *x = t[10] + 5 * i; printf("t10 %u %u %u %u %u %u\n", i, x[0], x[1], x[2], x[3], x[4]); }
+        if (!fatal) { singles(); use(); }
+        for (int k = 1; k <= 10; k++)
+            for (size_t i = (size_t)o[3 + k] * width[k]; i < n[k]; i++)
+                if (t[k][i]) { bad++; fprintf(stderr, "input %ld: a cell of table %d past its count is not zero\n", index, k); break; }
+        free(s);
+    }
+    return bad != 0;
+}

@@ -1,0 +1,128 @@
+/* unsound BOX: every reading of the box that is full has each of its cells, counts and singles changed by itself (one less, one more, zero, one, two, the source's length and one more, the largest
+   number), and validate's 44 is held against a test of soundness that is written here from the rules and knows nothing of the library's. Prints `changed N, differences M`. */
+#include "../include/quiltrudder.h"
+#include <stdio.h>
+#include <stdlib.h>
+#include <string.h>
+
+static const unsigned width[11] = {0, 3, 4, 2, 2, 6, 3, 5, 13, 3, 5};
+static uint32_t *t[11];
+static size_t n[11];
+static uint32_t o[QUILTRUDDER_READING_CELLS];
+static const uint8_t *src;
+static uint32_t len;
+
+#define TABLES t[1], n[1], t[2], n[2], t[3], n[3], t[4], n[4], t[5], n[5], t[6], n[6], t[7], n[7], t[8], n[8], t[9], n[9], t[10], n[10]
+
+static int place(uint32_t from, uint32_t to) { return from <= to && to <= len; }
+
+static int given(const uint32_t *x, int places) {
+    if (x[0] > 1) return 0;
+    for (int i = 0; i < places; i++) {
+        if (x[0] == 0 && (x[1 + 2 * i] || x[2 + 2 * i])) return 0;
+        if (x[0] == 1 && !place(x[1 + 2 * i], x[2 + 2 * i])) return 0;
+    }
+    return 1;
+}
+
+static int row(int k, const uint32_t *x, uint32_t rules) {
+    switch (k) {
+    case 1: return place(x[0], x[1]) && x[2] <= 1;
+    case 2: return place(x[0], x[1]) && x[3] >= 1 && x[3] <= 3;
+    case 3: case 4: return place(x[0], x[1]);
+    case 5: return place(x[0], x[1]) && place(x[2], x[3]) && place(x[4], x[5]);
+    case 6: case 9: return (x[0] == 1 || x[0] == 2) && place(x[1], x[2]);
+    case 7: return place(x[0], x[1]) && given(x + 2, 1);
+    case 8: return x[0] < rules && place(x[1], x[2]) && given(x + 5, 1) && given(x + 8, 2);
+    default: return x[0] >= 20 && x[0] <= 27 && place(x[1], x[2]) && place(x[3], x[4]);
+    }
+}
+
+static int twice(int k) {
+    for (uint32_t i = 0; i < o[3 + k]; i++)
+        for (uint32_t j = 0; j < i; j++) {
+            uint32_t *a = t[k] + width[k] * i, *b = t[k] + width[k] * j;
+            if (a[1] - a[0] == b[1] - b[0] && !memcmp(src + a[0], src + b[0], a[1] - a[0])) return 1;
+        }
+    return 0;
+}
+
+static int single(const uint32_t *x, int skip, int places) {
+    for (int i = 0; i < places; i++)
+        if (x[0] && !place(x[1 + skip + 2 * i], x[2 + skip + 2 * i])) return 0;
+    return 1;
+}
+
+static int is_sound(void) {
+    if (len > 65536) return 0;
+    for (int k = 1; k <= 10; k++) {
+        if (o[3 + k] > n[k] / width[k]) return 0;
+        for (size_t i = (size_t)o[3 + k] * width[k]; i < n[k]; i++) if (t[k][i]) return 0;
+        for (uint32_t i = 0; i < o[3 + k]; i++) if (!row(k, t[k] + (size_t)width[k] * i, o[10])) return 0;
+    }
+    if (twice(1) || twice(7)) return 0;
+    uint32_t at = 0;
+    for (uint32_t i = 0; i < o[11]; i++) {
+        uint32_t *x = t[8] + 13 * (size_t)i;
+        if (x[3] != at || x[4] < at) return 0;
+        at = x[4];
+    }
+    if (at != o[12]) return 0;
+    return single(o + 14, 0, 1) && single(o + 17, 2, 1) && single(o + 22, 2, 1) && single(o + 27, 0, 2) && single(o + 32, 0, 1) && single(o + 35, 0, 1);
+}
+
+static unsigned long changed, wrong, refused;
+
+static void ask(const char *what, int k, size_t i) {
+    uint32_t v[4];
+    quiltrudder_validate(src, len, o, TABLES, v);
+    int s = is_sound();
+    changed++;
+    refused += !s;
+    if ((v[0] == 44) != !s) {
+        if (wrong++ < 10) printf("differs: %s %d cell %zu, validate %u, sound %d\n", what, k, i, v[0], s);
+    }
+}
+
+static void each(uint32_t *cell, const char *what, int k, size_t i) {
+    uint32_t was = *cell, to[9] = {was - 1, was + 1, 0, 1, 2, 3, len, len + 1, 4294967295u};
+    for (int j = 0; j < 9; j++) {
+        if (to[j] == was) continue;
+        *cell = to[j];
+        ask(what, k, i);
+    }
+    *cell = was;
+}
+
+int main(int argc, char **argv) {
+    FILE *f = argc > 1 ? fopen(argv[1], "rb") : NULL;
+    if (!f) return 2;
+    for (int k = 1; k <= 10; k++) t[k] = malloc(4 * (size_t)width[k] * 2000);
+    uint8_t head[5];
+    unsigned long full = 0;
+    while (fread(head, 1, 5, f) == 5) {
+        len = head[1] | head[2] << 8 | head[3] << 16 | (uint32_t)head[4] << 24;
+        uint8_t *s = malloc(len + 1);
+        if (fread(s, 1, len, f) != len) return 2;
+        src = s;
+        for (int k = 1; k <= 10; k++) n[k] = (size_t)width[k] * 1000;
+        quiltrudder_read(src, len, head[0], TABLES, o);
+        if (!((o[0] >= 1 && o[0] <= 15) || o[0] >= 40) && len < 2000) {
+            full++;
+            for (int k = 1; k <= 10; k++) n[k] = (size_t)width[k] * (o[3 + k] + 1) + 1;
+            ask("as read", 0, 0);
+            for (int k = 1; k <= 10; k++) {
+                for (size_t i = 0; i < n[k]; i++) each(t[k] + i, "table", k, i);
+                each(o + 3 + k, "count", k, 0);
+                size_t was = n[k];
+                for (size_t less = 0; less <= 3 && less <= was; less++) { n[k] = was - less * width[k] < was ? was - less * width[k] : 0; ask("length", k, n[k]); }
+                n[k] = was;
+            }
+            for (int i = 14; i < QUILTRUDDER_READING_CELLS; i++) each(o + i, "single", 0, i);
+        }
+        free(s);
+    }
+    printf("%lu readings, %lu of their changes unsound\n", full, refused);
+    printf("changed %lu, differences %lu\n", changed, wrong);
+    return wrong != 0;
+}

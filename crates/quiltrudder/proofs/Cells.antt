@@ -1,0 +1,99 @@
+-- What the C names' proofs cite: cells stored as far as there is room, and the numbers of a reading put together. Assumes nothing.
+use Prim.Native.Nat.{ℕ, zero, suc, _+_, _≤_, _<_}
+use mathlib.Core.Path.{_≡_, refl, sym, ap, _∙_}
+use mathlib.Core.List.{List, [], _∷_, _++_}
+use native.Mathlib.Omega.{arith}
+use native.Mathlib.Numerals.{add-one}
+use lib.ListN.{length, getD, set, take, replicate, length-set}
+use lib.Seq.{set-out}
+use Rattle.tables.specs.Table.{put}
+use Rattle.grammar.specs.declared.Part.{Part}
+use Rattle.grammar.specs.declared.Part.the-variants.{Absent, At}
+use Rattle.grammar.specs.declared.Expect.{Expect}
+use Rattle.grammar.specs.declared.Expect.the-variants.{NotExpected, Expected}
+use Rattle.grammar.specs.declared.Param.{Param}
+use Rattle.grammar.specs.declared.Param.the-variants.{NoParam, ParamAt}
+use Rattle.grammar.specs.declared.Counts.{Counts}
+use Rattle.grammar.specs.declared.Singles.{Singles}
+use Rattle.grammar.specs.declared.Told.{Told}
+use Rattle.grammar.specs.Numbers.{partNumbers, paramNumbers}
+use Rattle.reader.specs.declared.Verdict.{Verdict}
+use Rattle.reader.specs.Read.{verdictNumbers}
+use Rattle.numbers.specs.Numbers.{toldNumbers}
+use Rattle.quiltrudder.specs.Face.{expectCells, singlesCells, countsCells, readingCells}
+
+-- past the end nothing is stored
+pub put-past : (vs t : List ℕ) (at : ℕ) → length t ≤ at → put t at vs ≡ t
+put-past [] t at h = refl
+put-past (v ∷ vs) t at h = rw (set-out t at v h) (put-past vs t (at + 1) (omega arith))
+
+-- where the room ends with the first i values, the others are not stored
+pub put-front : (vs t : List ℕ) (at i : ℕ) → length t ≤ at + i → put t at (take i vs) ≡ put t at vs
+put-front [] t at zero h = refl
+put-front [] t at (suc i) h = refl
+put-front (v ∷ vs) t at zero h = sym (put-past (v ∷ vs) t at (omega arith))
+put-front (v ∷ vs) t at (suc i) h = put-front vs (set t at v) (at + 1) i (let e = length-set t at v in omega arith)
+
+-- cells before the first that is stored stay
+pub put-cons : (x : ℕ) (vs t : List ℕ) (at : ℕ) → put (x ∷ t) (at + 1) vs ≡ x ∷ put t at vs
+put-cons x [] t at = refl
+put-cons x (v ∷ vs) t at = rw (add-one at) (rw (← add-one at) (put-cons x vs (set t at v) (at + 1)))
+
+-- values for every cell
+pub put-all : (t vs : List ℕ) → length vs ≡ length t → put t 0 vs ≡ vs
+put-all [] [] h = refl
+put-all [] (v ∷ vs) h = absurd (omega arith)
+put-all (x ∷ t) [] h = absurd (omega arith)
+put-all (x ∷ t) (v ∷ vs) h = put-cons v vs t 0 ∙ ap (λ (l : List ℕ). v ∷ l) (put-all t vs (omega arith))
+
+-- the cells of a list by their numbers
+abbrev pub three : List ℕ → List ℕ
+three l = getD l 0 0 ∷ getD l 1 0 ∷ getD l 2 0 ∷ []
+
+abbrev pub five : List ℕ → List ℕ
+five l = getD l 0 0 ∷ getD l 1 0 ∷ getD l 2 0 ∷ getD l 3 0 ∷ getD l 4 0 ∷ []
+
+pub part-three : (p : Part) → partNumbers p ≡ three (partNumbers p)
+part-three Absent = refl
+part-three (At a b) = refl
+
+pub expect-five : (e : Expect) → expectCells e ≡ five (expectCells e)
+expect-five NotExpected = refl
+expect-five (Expected v a b) = refl
+
+pub param-five : (p : Param) → paramNumbers p ≡ five (paramNumbers p)
+param-five NoParam = refl
+param-five (ParamAt a b c d) = refl
+
+-- six lists stored one behind the other
+six : (a e r p n q : List ℕ) → a ≡ three a → e ≡ five e → r ≡ five r → p ≡ five p → n ≡ three n → q ≡ three q
+    → put (put (put (put (put (put (replicate 24 0) 0 a) 3 e) 8 r) 13 p) 18 n) 21 q ≡ a ++ e ++ r ++ p ++ n ++ q
+six a e r p n q ha he hr hp hn hq = rw (ha, he, hr, hp, hn, hq)
+
+-- the singles, stored one behind the other
+module _ (g : Singles) (a e r p n q m1 m2 m3 m4 m5 m6 : List ℕ) where
+  pub singles-put : a ≡ partNumbers (g .start) → e ≡ expectCells (g .expect) → r ≡ expectCells (g .«expect_rr») → p ≡ paramNumbers (g .param) → n ≡ partNumbers (g .generics) → q ≡ partNumbers (g .programs)
+      → m1 ≡ put (replicate 24 0) 0 a → m2 ≡ put m1 3 e → m3 ≡ put m2 8 r → m4 ≡ put m3 13 p → m5 ≡ put m4 18 n → m6 ≡ put m5 21 q → m6 ≡ singlesCells g
+  singles-put ha he hr hp hn hq k1 k2 k3 k4 k5 k6 =
+      rw (k6, k5, k4, k3, k2, k1, ha, he, hr, hp, hn, hq) (six _ _ _ _ _ _ (part-three (g .start)) (expect-five (g .expect)) (expect-five (g .«expect_rr»)) (param-five (g .param)) (part-three (g .generics)) (part-three (g .programs)))
+
+six-length : (a e r p n q : List ℕ) → a ≡ three a → e ≡ five e → r ≡ five r → p ≡ five p → n ≡ three n → q ≡ three q → length (a ++ e ++ r ++ p ++ n ++ q) ≡ 24
+six-length a e r p n q ha he hr hp hn hq = rw (ha, he, hr, hp, hn, hq)
+
+pub singles-length : (g : Singles) → length (singlesCells g) ≡ 24
+singles-length g =
+    six-length _ _ _ _ _ _ (part-three (g .start)) (expect-five (g .expect)) (expect-five (g .«expect_rr»)) (param-five (g .param)) (part-three (g .generics)) (part-three (g .programs))
+
+put-behind : (pre t vs : List ℕ) → put (pre ++ t) (length pre) vs ≡ pre ++ put t 0 vs
+put-behind [] t vs = refl
+put-behind (x ∷ pre) t vs = rw (← add-one (length pre)) (put-cons x vs (pre ++ t) (length pre) ∙ ap (λ (l : List ℕ). x ∷ l) (put-behind pre t vs))
+
+-- a reading's numbers, stored one behind the other
+module _ (v : Verdict) (c : Counts) (g : Singles) (t : Told) (s m1 m2 m3 : List ℕ) where
+  pub reading-put : toldNumbers t ≡ verdictNumbers v → s ≡ singlesCells g → m1 ≡ put (replicate 38 0) 0 (toldNumbers t) → m2 ≡ put m1 4 (countsCells c) → m3 ≡ put m2 14 s → m3 ≡ readingCells v c g
+  unfolding readingCells
+  reading-put ht hs k1 k2 k3 =
+      let e : m2 ≡ (toldNumbers t ++ countsCells c) ++ replicate 24 0 = rw (k2, k1) in
+      let f : put ((toldNumbers t ++ countsCells c) ++ replicate 24 0) 14 s ≡ (toldNumbers t ++ countsCells c) ++ s =
+      put-behind (toldNumbers t ++ countsCells c) (replicate 24 0) s ∙ ap (λ (l : List ℕ). (toldNumbers t ++ countsCells c) ++ l) (put-all (replicate 24 0) s (ap length hs ∙ singles-length g)) in
+      k3 ∙ ap (λ (l : List ℕ). put l 14 s) e ∙ f ∙ ap (λ (l : List ℕ). l ++ countsCells c ++ s) ht ∙ ap (λ (l : List ℕ). verdictNumbers v ++ countsCells c ++ l) hs

@@ -1,0 +1,113 @@
+-- Theorems about the C names. "Operations that take counts and singles take such an array": what a read wrote is what the others take. Assumes nothing.
+use Prim.Native.Nat.{ℕ, zero, suc, _+_, _*_, _/_, _%_, _<_}
+use mathlib.Core.Path.{_≡_, refl, sym, ap, _∙_}
+use mathlib.Core.List.{List, [], _∷_, _++_}
+use mathlib.Core.Bool.{Bool, true, false}
+use native.Mathlib.Omega.{arith}
+use native.Mathlib.Nat.{div-add-mod'}
+use lib.ListN.{length, getD}
+use lib.Seq.{ext-getD}
+use Rattle.grammar.specs.declared.Part.{Part}
+use Rattle.grammar.specs.declared.Part.the-variants.{Absent, At}
+use Rattle.grammar.specs.declared.Expect.{Expect}
+use Rattle.grammar.specs.declared.Expect.the-variants.{NotExpected, Expected}
+use Rattle.grammar.specs.declared.Param.{Param}
+use Rattle.grammar.specs.declared.Param.the-variants.{NoParam, ParamAt}
+use Rattle.grammar.specs.declared.Counts.{Counts}
+use Rattle.grammar.specs.declared.Singles.{Singles}
+use Rattle.grammar.specs.Numbers.{partNumbers, paramNumbers}
+use Rattle.grammar.specs.Sound.{Tables}
+use Rattle.reader.specs.declared.Verdict.{Verdict}
+use Rattle.reader.specs.declared.Verdict.the-variants.{Accepted, Rejected}
+use Rattle.reader.specs.Read.{Result, verdictNumbers}
+use Rattle.sound.specs.Test.{soundTest}
+use Rattle.usage.proofs.Outcome.{Outcome, reported-one}
+use Rattle.names.specs.Name.{nowhere, namePlace, partAt, nameOf}
+use Rattle.names.proofs.Laws.{part-none}
+use Rattle.quiltrudder.specs.Face.{expectCells, singlesCells, countsCells, readingCells, readingNumbers, countsOf, partOf, expectOf, paramOf, singlesOf, listingCells, ReportFace, nameAt}
+use Rattle.quiltrudder.proofs.Cells.{three, five, part-three, expect-five, param-five}
+
+-- each single by itself
+part-back : (p : Part) → let l = partNumbers p in partOf (getD l 0 0) (getD l 1 0) (getD l 2 0) ≡ p
+unfolding partOf
+part-back Absent = refl
+part-back (At a b) = refl
+
+expect-back : (e : Expect) → let l = expectCells e in expectOf (getD l 0 0) (getD l 1 0) (getD l 2 0) (getD l 3 0) (getD l 4 0) ≡ e
+unfolding expectOf
+expect-back NotExpected = refl
+expect-back (Expected v a b) = ap (λ (x : ℕ). Expected x a b) (div-add-mod' v 4294967296)
+
+param-back : (p : Param) → let l = paramNumbers p in paramOf (getD l 0 0) (getD l 1 0) (getD l 2 0) (getD l 3 0) (getD l 4 0) ≡ p
+unfolding paramOf
+param-back NoParam = refl
+param-back (ParamAt a b c d) = refl
+
+-- number, place and table are four numbers
+abbrev four : List ℕ → List ℕ
+four l = getD l 0 0 ∷ getD l 1 0 ∷ getD l 2 0 ∷ getD l 3 0 ∷ []
+
+verdict-four : (v : Verdict) → verdictNumbers v ≡ four (verdictNumbers v)
+verdict-four (Accepted i) = refl
+verdict-four (Rejected f) = refl
+
+-- where each number is looked for
+module _ (h a e r p n q : List ℕ) (c : Counts) (hh : h ≡ four h) where
+  looked-counts : (s : List ℕ) → countsOf (h ++ countsCells c ++ s) .n ≡ countsCells c
+  looked-counts s = rw hh
+
+  looked-singles : a ≡ three a → e ≡ five e → r ≡ five r → p ≡ five p → n ≡ three n → q ≡ three q → (g : Singles)
+      → partOf (getD a 0 0) (getD a 1 0) (getD a 2 0) ≡ g .start
+      → expectOf (getD e 0 0) (getD e 1 0) (getD e 2 0) (getD e 3 0) (getD e 4 0) ≡ g .expect
+      → expectOf (getD r 0 0) (getD r 1 0) (getD r 2 0) (getD r 3 0) (getD r 4 0) ≡ g .«expect_rr»
+      → paramOf (getD p 0 0) (getD p 1 0) (getD p 2 0) (getD p 3 0) (getD p 4 0) ≡ g .param
+      → partOf (getD n 0 0) (getD n 1 0) (getD n 2 0) ≡ g .generics
+      → partOf (getD q 0 0) (getD q 1 0) (getD q 2 0) ≡ g .programs
+      → singlesOf (h ++ countsCells c ++ (a ++ e ++ r ++ p ++ n ++ q)) ≡ g
+  looked-singles ha he hr hp hn hq g ks ke kr kp kn kq = rw (hh, ha, he, hr, hp, hn, hq) (rw (ks, ke, kr, kp, kn, kq))
+
+cells-at : (c : Counts) (k : ℕ) → k < 10 → getD (countsCells c) k 0 ≡ getD (c .n) k 0
+cells-at c zero h = refl
+cells-at c (suc zero) h = refl
+cells-at c (suc (suc zero)) h = refl
+cells-at c (suc (suc (suc zero))) h = refl
+cells-at c (suc (suc (suc (suc zero)))) h = refl
+cells-at c (suc (suc (suc (suc (suc zero))))) h = refl
+cells-at c (suc (suc (suc (suc (suc (suc zero)))))) h = refl
+cells-at c (suc (suc (suc (suc (suc (suc (suc zero))))))) h = refl
+cells-at c (suc (suc (suc (suc (suc (suc (suc (suc zero)))))))) h = refl
+cells-at c (suc (suc (suc (suc (suc (suc (suc (suc (suc zero))))))))) h = refl
+cells-at c (suc (suc (suc (suc (suc (suc (suc (suc (suc (suc k)))))))))) h = absurd (omega arith)
+
+-- What a read wrote is what the others take: the singles,
+pub singles-back : (o : Result) → singlesOf (readingNumbers o) ≡ o .singles
+unfolding readingCells
+singles-back o =
+    let g = o .singles in
+    looked-singles (verdictNumbers (o .answer)) (partNumbers (g .start)) (expectCells (g .expect)) (expectCells (g .«expect_rr»)) (paramNumbers (g .param)) (partNumbers (g .generics)) (partNumbers (g .programs)) (o .counts) (verdict-four (o .answer)) (part-three (g .start)) (expect-five (g .expect)) (expect-five (g .«expect_rr»)) (param-five (g .param)) (part-three (g .generics)) (part-three (g .programs)) g (part-back (g .start)) (expect-back (g .expect)) (expect-back (g .«expect_rr»)) (param-back (g .param)) (part-back (g .generics)) (part-back (g .programs))
+
+-- each of the ten counts,
+pub counts-back : (o : Result) (k : ℕ) → k < 10 → getD (countsOf (readingNumbers o) .n) k 0 ≡ getD (o .counts .n) k 0
+unfolding readingCells
+counts-back o k h = ap (λ (l : List ℕ). getD l k 0) (looked-counts _ [] [] [] [] [] [] (o .counts) (verdict-four (o .answer)) (singlesCells (o .singles))) ∙ cells-at (o .counts) k h
+
+-- and all together, being ten.
+pub all-counts-back : (o : Result) → length (o .counts .n) ≡ 10 → countsOf (readingNumbers o) ≡ o .counts
+all-counts-back o ten =
+    let e : countsOf (readingNumbers o) .n ≡ o .counts .n = ext-getD 0 _ _ (sym ten) (λ k h. counts-back o k h) in
+    ap (λ (l : List ℕ). record { n = l }) e
+
+-- The source's part at the place that `quiltrudder_name` gives is the row's name.
+pub name-part : (src : List ℕ) (c : Counts) (g : Singles) (T : Tables) (table row : ℕ) → partAt src (nameAt src c g T table row) ≡ nameOf src c g T table row
+unfolding nameAt nameOf
+name-part src c g T table row = go (soundTest src c g T)
+  where
+    go : (b : Bool) → partAt src (elim b [ true ↦ namePlace c (T .t1) (T .t7) table row | false ↦ nowhere ]) ≡ elim b [ true ↦ partAt src (namePlace c (T .t1) (T .t7) table row) | false ↦ [] ]
+    go true = refl
+    go false = sym (part-none src)
+
+-- "Any two outcomes allowed by it are proved equal": of the report; the contracts of the others are equations.
+pub report-face-one : (src m : List ℕ) (T : Tables) (ws₀ ws vs out₀ out out' a b : List ℕ) → ReportFace src m T ws₀ ws out₀ out a → ReportFace src m T ws₀ vs out₀ out' b → (ws ≡ vs) × (out ≡ out') × (a ≡ b)
+report-face-one src m T ws₀ ws vs out₀ out out' a b p q =
+    let e = reported-one src (countsOf m) (singlesOf m) T ws₀ out₀ (p .listing) (q .listing) ws vs out out' (p .reported) (q .reported) in
+    (ap (λ (o : Outcome). o .work) e, ap (λ (o : Outcome). o .cells) e, p .numbers ∙ ap (λ (o : Outcome). listingCells (o .answer)) e ∙ sym (q .numbers))

@@ -1,0 +1,126 @@
+-- The C names' numbers. "The same operations have C names [..]: numbers and slices only, [..] the answer written as 32-bit numbers into a lent array of fixed size".
+use Prim.Native.Nat.{ℕ, _+_, _*_, _/_, _%_, _<_, _^_}
+use mathlib.Core.Path.{_≡_}
+use mathlib.Core.Bool.{true, false}
+use mathlib.Core.List.{List, [], _∷_, _++_}
+use lib.Dec.{eqb}
+use lib.ListN.{getD, take}
+use Rattle.scan.specs.declared.Place.{Place}
+use Rattle.grammar.specs.declared.Part.{Part}
+use Rattle.grammar.specs.declared.Part.the-variants.{Absent, At}
+use Rattle.grammar.specs.declared.Expect.{Expect}
+use Rattle.grammar.specs.declared.Expect.the-variants.{NotExpected, Expected}
+use Rattle.grammar.specs.declared.Param.{Param}
+use Rattle.grammar.specs.declared.Param.the-variants.{NoParam, ParamAt}
+use Rattle.grammar.specs.declared.Counts.{Counts}
+use Rattle.grammar.specs.declared.Singles.{Singles}
+use Rattle.grammar.specs.Numbers.{partNumbers, paramNumbers}
+use Rattle.grammar.specs.Sound.{Tables}
+use Rattle.reader.specs.declared.Verdict.{Verdict}
+use Rattle.reader.specs.Read.{Result, verdictNumbers, readAll}
+use Rattle.sound.specs.Test.{soundTest}
+use Rattle.usage.specs.declared.Listing.{Listing}
+use Rattle.usage.specs.Report.{listingNumbers, Reported}
+use Rattle.names.specs.Name.{nowhere, namePlace}
+use Rattle.values.specs.declared.Valuation.{Valuation}
+use Rattle.values.specs.Value.{valuationNumbers, Valued, eppValue}
+
+-- a number of 64 bits "with the value's low half first"
+abbrev pub halves : ℕ → List ℕ
+halves v = v % 4294967296 ∷ v / 4294967296 ∷ []
+
+-- ---- what a read answers
+
+-- "each single led by 0 or 1": `%expect` and `%expect-rr` are "5 each", the value in halves and the place
+abbrev pub expectCells : Expect → List ℕ
+expectCells NotExpected = 0 ∷ 0 ∷ 0 ∷ 0 ∷ 0 ∷ []
+expectCells (Expected v a b) = 1 ∷ v % 4294967296 ∷ v / 4294967296 ∷ a ∷ b ∷ []
+
+-- "start 3 numbers, expect and expect-rr 5 each [..], parse parameter 5, generics 3, programs 3"
+abbrev pub singlesCells : Singles → List ℕ
+singlesCells g =
+    partNumbers (g .start) ++ expectCells (g .expect) ++ expectCells (g .«expect_rr») ++ paramNumbers (g .param) ++ partNumbers (g .generics) ++ partNumbers (g .programs)
+
+-- "the ten counts of tables 1 to 10"
+abbrev pub countsCells : Counts → List ℕ
+countsCells c =
+    getD (c .n) 0 0 ∷ getD (c .n) 1 0 ∷ getD (c .n) 2 0 ∷ getD (c .n) 3 0 ∷ getD (c .n) 4 0 ∷ getD (c .n) 5 0 ∷ getD (c .n) 6 0 ∷ getD (c .n) 7 0 ∷ getD (c .n) 8 0 ∷ getD (c .n) 9 0 ∷ []
+
+-- "in the order number, from, to, table, ten counts, then each single"
+unfoldable pub readingCells : Verdict → Counts → Singles → List ℕ
+readingCells v c g = verdictNumbers v ++ countsCells c ++ singlesCells g
+
+abbrev pub readingNumbers : Result → List ℕ
+readingNumbers o = readingCells (o .answer) (o .counts) (o .singles)
+
+-- a read's answer, and what it left in the tables
+pub record ReadFace : Type 0 where
+  pub answer : List ℕ
+  pub tables : Tables
+
+abbrev pub readFaceOf : Result → ReadFace
+readFaceOf o = record { answer = readingNumbers o; tables = o .tables }
+
+abbrev pub readFace : List ℕ → ℕ → Tables → ReadFace
+readFace src kind T = readFaceOf (readAll src kind T)
+
+-- ---- what the others take: "Operations that take counts and singles take such an array", of which only these are looked at
+
+-- the numbers behind number, place and table
+abbrev pub countsOf : List ℕ → Counts
+countsOf m =
+    record { n = getD m 4 0 ∷ getD m 5 0 ∷ getD m 6 0 ∷ getD m 7 0 ∷ getD m 8 0 ∷ getD m 9 0 ∷ getD m 10 0 ∷ getD m 11 0 ∷ getD m 12 0 ∷ getD m 13 0 ∷ [] }
+
+-- a single is absent where its flag is 0, and given where it is any other number
+unfoldable pub partOf : ℕ → ℕ → ℕ → Part
+partOf f a b = elim (eqb f 0) [ true ↦ Absent | false ↦ At a b ]
+
+unfoldable pub expectOf : ℕ → ℕ → ℕ → ℕ → ℕ → Expect
+expectOf f low high a b = elim (eqb f 0) [ true ↦ NotExpected | false ↦ Expected (high * 4294967296 + low) a b ]
+
+unfoldable pub paramOf : ℕ → ℕ → ℕ → ℕ → ℕ → Param
+paramOf f a b c d = elim (eqb f 0) [ true ↦ NoParam | false ↦ ParamAt a b c d ]
+
+abbrev pub singlesOf : List ℕ → Singles
+singlesOf m =
+    record {
+      start = partOf (getD m 14 0) (getD m 15 0) (getD m 16 0);
+      expect = expectOf (getD m 17 0) (getD m 18 0) (getD m 19 0) (getD m 20 0) (getD m 21 0);
+      «expect_rr» = expectOf (getD m 22 0) (getD m 23 0) (getD m 24 0) (getD m 25 0) (getD m 26 0);
+      param = paramOf (getD m 27 0) (getD m 28 0) (getD m 29 0) (getD m 30 0) (getD m 31 0);
+      generics = partOf (getD m 32 0) (getD m 33 0) (getD m 34 0);
+      programs = partOf (getD m 35 0) (getD m 36 0) (getD m 37 0);
+    }
+
+-- ---- what the others answer
+
+-- number, place, table number and the count in halves: "Each also answers a count"
+abbrev pub listingCells : Listing → List ℕ
+listingCells l = take 4 (listingNumbers l) ++ halves (getD (listingNumbers l) 4 0)
+
+-- the report, with its answer in numbers
+pub record ReportFace (src m : List ℕ) (T : Tables) (ws₀ ws out₀ out answer : List ℕ) : Type 0 where
+  pub listing : Listing
+  pub reported : Reported src (countsOf m) (singlesOf m) T listing ws₀ ws out₀ out
+  pub numbers : answer ≡ listingCells listing
+
+-- "`name` gives its place there": the place of a row's name; 0, 0 where "another table number, a row number not below its count or unsound tables give an empty part"
+unfoldable pub nameAt : List ℕ → Counts → Singles → Tables → ℕ → ℕ → Place
+nameAt src c g T table row = elim (soundTest src c g T) [ true ↦ namePlace c (T .t1) (T .t7) table row | false ↦ nowhere ]
+
+abbrev pub placeCells : Place → List ℕ
+placeCells p = p .from ∷ p .to ∷ []
+
+-- the value of an `%epp` row, with its answer in numbers
+pub record ValueFace : Type 0 where
+  pub answer : List ℕ
+  pub out : List ℕ
+
+abbrev pub valuationCells : Valuation → List ℕ
+valuationCells v = take 4 (valuationNumbers v) ++ halves (getD (valuationNumbers v) 4 0)
+
+abbrev pub valueFaceOf : Valued → ValueFace
+valueFaceOf o = record { answer = valuationCells (o .answer); out = o .out }
+
+abbrev pub valueFace : List ℕ → List ℕ → Tables → ℕ → List ℕ → ValueFace
+valueFace src m T row out = valueFaceOf (eppValue src (countsOf m) (singlesOf m) T row out)

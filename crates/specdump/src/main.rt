@@ -1,0 +1,4 @@
+// Prints what read, validate, report and epp_value make of each specification of a box, for comparison.
+fn main() {
+    dumping::dump_input();
+}

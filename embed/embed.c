@@ -1,0 +1,70 @@
+/* embed KIND FILE: reads a specification, validates it, and prints the rules and tokens that nothing uses, or the answer that refuses it. */
+#include <stdio.h>
+#include <stdlib.h>
+
+#include "quiltrudder.h"
+
+#define ROWS 1024
+
+static uint8_t src[QUILTRUDDER_SOURCE_BYTES + 1];
+static uint32_t t1[ROWS * QUILTRUDDER_T1_WIDTH];
+static uint32_t t2[ROWS * QUILTRUDDER_T2_WIDTH];
+static uint32_t t3[ROWS * QUILTRUDDER_T3_WIDTH];
+static uint32_t t4[ROWS * QUILTRUDDER_T4_WIDTH];
+static uint32_t t5[ROWS * QUILTRUDDER_T5_WIDTH];
+static uint32_t t6[ROWS * QUILTRUDDER_T6_WIDTH];
+static uint32_t t7[ROWS * QUILTRUDDER_T7_WIDTH];
+static uint32_t t8[ROWS * QUILTRUDDER_T8_WIDTH];
+static uint32_t t9[ROWS * QUILTRUDDER_T9_WIDTH];
+static uint32_t t10[ROWS * QUILTRUDDER_T10_WIDTH];
+static uint32_t work[2 * ROWS / 32];
+static uint32_t out[2 * ROWS * QUILTRUDDER_REPORT_WIDTH];
+
+/* A slice of a whole array, and all ten tables. */
+#define WHOLE(a) (a), sizeof(a) / sizeof((a)[0])
+#define TABLES WHOLE(t1), WHOLE(t2), WHOLE(t3), WHOLE(t4), WHOLE(t5), WHOLE(t6), WHOLE(t7), WHOLE(t8), WHOLE(t9), WHOLE(t10)
+
+static void print_answer(const uint32_t *answer)
+{
+    printf("answer %u %u %u\n", (unsigned)answer[QUILTRUDDER_NUMBER], (unsigned)answer[QUILTRUDDER_FROM], (unsigned)answer[QUILTRUDDER_TO]);
+}
+
+int main(int count, char **args)
+{
+    uint32_t reading[QUILTRUDDER_READING_CELLS];
+    uint32_t validity[QUILTRUDDER_VALIDITY_CELLS];
+    uint32_t listing[QUILTRUDDER_LISTING_CELLS];
+    FILE *file = count == 3 ? fopen(args[2], "rb") : NULL;
+
+    if (file == NULL) {
+        fprintf(stderr, "usage: embed KIND FILE\n");
+        return 1;
+    }
+    size_t length = fread(src, 1, sizeof src, file);
+    fclose(file);
+
+    quiltrudder_read(src, length, (uint32_t)atoi(args[1]), TABLES, reading);
+    if (reading[QUILTRUDDER_NUMBER] != 0) {
+        print_answer(reading);
+        return 0;
+    }
+    quiltrudder_validate(src, length, reading, TABLES, validity);
+    if (validity[QUILTRUDDER_NUMBER] != 0) {
+        print_answer(validity);
+        return 0;
+    }
+    quiltrudder_report(src, length, reading, TABLES, WHOLE(work), WHOLE(out), listing);
+    if (listing[QUILTRUDDER_NUMBER] != 0) {
+        print_answer(listing);
+        return 0;
+    }
+    print_answer(reading);
+    for (uint32_t i = 0; i < listing[QUILTRUDDER_COUNT_LOW]; i++) {
+        const uint32_t *row = out + i * QUILTRUDDER_REPORT_WIDTH;
+        uint32_t place[QUILTRUDDER_PLACE_CELLS];
+
+        quiltrudder_name(src, length, reading, TABLES, row[0] == 1 ? 7 : 1, row[1], place);
+        printf("%s %u %u\n", row[0] == 1 ? "rule" : "token", (unsigned)place[0], (unsigned)place[1]);
+    }
+    return 0;
+}

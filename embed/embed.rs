@@ -1,0 +1,228 @@
+//! embed KIND FILE: reads a specification, validates it, and prints the rules and tokens that nothing uses, or the answer that refuses it.
+
+/// Quiltrudder for Rust. Every function of the library takes any bytes, numbers and lengths, so the wrapper tests nothing: it makes the slices, and
+/// the types see to it that what a function writes is lent to it alone.
+#[allow(dead_code)]
+mod quiltrudder {
+    mod c {
+        // What `include/quiltrudder.h` declares: a slice is a pointer and a length.
+        macro_rules! declare {
+            ($($name:ident($($before:ident: $before_type:ty),*; $pointer:ty; $($after:ident: $after_type:ty),*);)*) => {
+                extern "C" {
+                    $(pub fn $name(
+                        src: *const u8, src_length: usize,
+                        $($before: $before_type,)*
+                        t1: $pointer, t1_length: usize,
+                        t2: $pointer, t2_length: usize,
+                        t3: $pointer, t3_length: usize,
+                        t4: $pointer, t4_length: usize,
+                        t5: $pointer, t5_length: usize,
+                        t6: $pointer, t6_length: usize,
+                        t7: $pointer, t7_length: usize,
+                        t8: $pointer, t8_length: usize,
+                        t9: $pointer, t9_length: usize,
+                        t10: $pointer, t10_length: usize,
+                        $($after: $after_type,)*
+                    );)*
+                }
+            };
+        }
+        declare! {
+            quiltrudder_read(kind: u32; *mut u32; answer: *mut [u32; 38]);
+            quiltrudder_validate(reading: *const [u32; 38]; *const u32; answer: *mut [u32; 4]);
+            quiltrudder_report(reading: *const [u32; 38]; *const u32; work: *mut u32, work_length: usize, out: *mut u32, out_length: usize, answer: *mut [u32; 6]);
+            quiltrudder_name(reading: *const [u32; 38]; *const u32; table: u32, row: u32, answer: *mut [u32; 2]);
+            quiltrudder_epp_value(reading: *const [u32; 38]; *const u32; row: u32, out: *mut u8, out_length: usize, answer: *mut [u32; 6]);
+        }
+    }
+
+    /// The widths of the rows of tables 1 to 10.
+    const WIDTHS: [usize; 10] = [3, 4, 2, 2, 6, 3, 5, 13, 3, 5];
+
+    /// Number, place and table number; the number is 0 unless it is a refusal's.
+    #[derive(Clone, Copy, Debug, PartialEq)]
+    pub struct Answer {
+        pub number: u32,
+        pub from: u32,
+        pub to: u32,
+        pub table: u32,
+    }
+
+    fn answer(cells: &[u32]) -> Answer {
+        Answer { number: cells[0], from: cells[1], to: cells[2], table: cells[3] }
+    }
+
+    fn count(cells: [u32; 6]) -> usize {
+        (u64::from(cells[4]) + (u64::from(cells[5]) << 32)) as usize
+    }
+
+    /// What is unused: a row of table 7 or of table 1.
+    #[derive(Clone, Copy, Debug, PartialEq)]
+    pub enum Unused {
+        Rule(u32),
+        Token(u32),
+    }
+
+    /// A source and what was read of it.
+    pub struct Reading<'a> {
+        src: &'a [u8],
+        cells: [u32; 38],
+        tables: [Vec<u32>; 10],
+    }
+
+    /// Calls a function of the library on a source, some arguments, ten tables and further arguments.
+    macro_rules! call {
+        ($name:ident, $src:expr, ($($before:expr),*), $tables:expr, $pointer:ident, ($($after:expr),*)) => {{
+            let [t1, t2, t3, t4, t5, t6, t7, t8, t9, t10] = $tables;
+            unsafe {
+                c::$name(
+                    $src.as_ptr(), $src.len(), $($before,)*
+                    t1.$pointer(), t1.len(), t2.$pointer(), t2.len(), t3.$pointer(), t3.len(), t4.$pointer(), t4.len(), t5.$pointer(), t5.len(),
+                    t6.$pointer(), t6.len(), t7.$pointer(), t7.len(), t8.$pointer(), t8.len(), t9.$pointer(), t9.len(), t10.$pointer(), t10.len(),
+                    $($after,)*
+                )
+            }
+        }};
+    }
+
+    /// Reads a source of kind 1, 2 or 3, with room for so many rows in each table.
+    pub fn read(src: &[u8], kind: u32, rows: usize) -> Reading<'_> {
+        let mut cells = [0; 38];
+        let mut tables = WIDTHS.map(|width| vec![0u32; rows * width]);
+        call!(quiltrudder_read, src, (kind), &mut tables, as_mut_ptr, (&mut cells));
+        Reading { src, cells, tables }
+    }
+
+    impl<'a> Reading<'a> {
+        pub fn answer(&self) -> Answer {
+            answer(&self.cells)
+        }
+
+        /// How many rows table 1 to 10 has.
+        pub fn rows(&self, table: usize) -> u32 {
+            self.cells[3 + table]
+        }
+
+        pub fn validate(&self) -> Answer {
+            let mut cells = [0; 4];
+            call!(quiltrudder_validate, self.src, (&self.cells), &self.tables, as_ptr, (&mut cells));
+            answer(&cells)
+        }
+
+        /// The rules and tokens that nothing uses, in order.
+        pub fn report(&self) -> Result<Vec<Unused>, Answer> {
+            let (rules, tokens) = (self.rows(7) as usize, self.rows(1) as usize);
+            let mut work = vec![0u32; rules.div_ceil(32) + tokens.div_ceil(32)];
+            let mut out = vec![0u32; (rules + tokens) * 2];
+            let mut cells = [0; 6];
+            call!(
+                quiltrudder_report, self.src, (&self.cells), &self.tables, as_ptr,
+                (work.as_mut_ptr(), work.len(), out.as_mut_ptr(), out.len(), &mut cells)
+            );
+            if cells[0] != 0 {
+                return Err(answer(&cells));
+            }
+            let unused = |row: &[u32]| if row[0] == 1 { Unused::Rule(row[1]) } else { Unused::Token(row[1]) };
+            Ok(out.chunks(2).take(count(cells)).map(unused).collect())
+        }
+
+        /// The place of the name of a row of table 1 or 7.
+        pub fn name_place(&self, table: u32, row: u32) -> (u32, u32) {
+            let mut cells = [0; 2];
+            call!(quiltrudder_name, self.src, (&self.cells), &self.tables, as_ptr, (table, row, &mut cells));
+            (cells[0], cells[1])
+        }
+
+        /// The name, as the part of the source that it is.
+        pub fn name(&self, table: u32, row: u32) -> &'a [u8] {
+            let (from, to) = self.name_place(table, row);
+            &self.src[from as usize..to as usize]
+        }
+
+        /// The value of a row of table 5 without its quotes and escapes.
+        pub fn epp_value(&self, row: u32) -> Result<Vec<u8>, Answer> {
+            let mut out = vec![0u8; self.src.len()];
+            let mut cells = [0; 6];
+            call!(quiltrudder_epp_value, self.src, (&self.cells), &self.tables, as_ptr, (row, out.as_mut_ptr(), out.len(), &mut cells));
+            if cells[0] != 0 {
+                return Err(answer(&cells));
+            }
+            out.truncate(count(cells));
+            Ok(out)
+        }
+    }
+}
+
+use quiltrudder::{Answer, Unused};
+
+fn print_answer(a: Answer) {
+    println!("answer {} {} {}", a.number, a.from, a.to);
+}
+
+fn print_report(src: &[u8], kind: u32) {
+    let reading = quiltrudder::read(src, kind, 1024);
+    if reading.answer().number != 0 {
+        return print_answer(reading.answer());
+    }
+    let validity = reading.validate();
+    if validity.number != 0 {
+        return print_answer(validity);
+    }
+    match reading.report() {
+        Err(refused) => print_answer(refused),
+        Ok(unused) => {
+            print_answer(reading.answer());
+            for row in unused {
+                let (word, (from, to)) = match row {
+                    Unused::Rule(r) => ("rule", reading.name_place(7, r)),
+                    Unused::Token(r) => ("token", reading.name_place(1, r)),
+                };
+                println!("{word} {from} {to}");
+            }
+        }
+    }
+}
+
+fn main() {
+    let args: Vec<String> = std::env::args().collect();
+    let given = match args.as_slice() {
+        [_, kind, file] => kind.parse().ok().zip(std::fs::read(file).ok()),
+        _ => None,
+    };
+    match given {
+        Some((kind, src)) => print_report(&src, kind),
+        None => eprintln!("usage: embed KIND FILE"),
+    }
+}
+
+#[cfg(test)]
+mod tests {
+    use super::quiltrudder::read;
+
+    #[test]
+    fn names_are_parts_of_the_source() {
+        let src = b"%token A%%s:A 'b c';";
+        let reading = read(src, 1, 8);
+        assert_eq!(reading.validate().number, 0);
+        assert_eq!(reading.name(1, 0), b"A");
+        assert_eq!(reading.name(1, 1), b"b c");
+        assert_eq!(reading.name(7, 0), b"s");
+        assert_eq!(reading.name(1, 2), b"");
+        assert_eq!(reading.name(8, 0), b"");
+    }
+
+    #[test]
+    fn values_are_without_quotes_and_escapes() {
+        let src = b"%epp A \"x\\\"y\"%%s:'A';";
+        let reading = read(src, 1, 8);
+        assert_eq!(reading.rows(5), 1);
+        assert_eq!(reading.epp_value(0).unwrap(), b"x\"y");
+        assert_eq!(reading.epp_value(1).unwrap_err().number, 44);
+    }
+
+    #[test]
+    fn a_table_without_room_is_named() {
+        let full = read(b"%%s:'a';", 1, 0).answer();
+        assert_eq!((full.number, full.table), (42, 7));
+    }
+}

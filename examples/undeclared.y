@@ -1,0 +1,3 @@
+%token NUMBER
+%%
+sum: NUMBER | sum plus NUMBER;

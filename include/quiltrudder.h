@@ -1,0 +1,174 @@
+/* Quiltrudder for C: reading a Yacc specification, validating what was read, the unused report, the name of a row and the value of an
+ * `%epp` row. Each function's contract is proved; the comments here say what the contracts say.
+ *
+ * A slice is a pointer and a length, the length counted in elements. A pointer is never null, also where the length is 0, and no memory that a
+ * function writes overlaps any other that it is lent. That is all a caller owes: every function takes any bytes, numbers and lengths, and ends. It
+ * keeps nothing, allocates nothing, and touches nothing but what it is lent.
+ *
+ * Places are byte offsets into the source, half open: from, to. */
+#ifndef QUILTRUDDER_H
+#define QUILTRUDDER_H
+
+#include <stddef.h>
+#include <stdint.h>
+
+#ifdef __cplusplus
+extern "C" {
+#endif
+
+/* Kinds of specification. */
+#define QUILTRUDDER_ORIGINAL 1
+#define QUILTRUDDER_GRMTOOLS 2
+#define QUILTRUDDER_ECO 3
+
+/* A source has at most so many bytes; a longer one is refused (41). */
+#define QUILTRUDDER_SOURCE_BYTES 65536
+
+/* How many numbers a row of each table has. A table holds whole rows from its first cell on; the cells behind them are zero. */
+#define QUILTRUDDER_T1_WIDTH 3 /* tokens: from, to, declared */
+#define QUILTRUDDER_T2_WIDTH 4 /* precedences: from, to, level, association (1 left, 2 right, 3 nonassoc) */
+#define QUILTRUDDER_T3_WIDTH 2 /* avoid: from, to */
+#define QUILTRUDDER_T4_WIDTH 2 /* implicit: from, to */
+#define QUILTRUDDER_T5_WIDTH 6 /* %epp: key as spelled from, to; name from, to; value with its quotes from, to */
+#define QUILTRUDDER_T6_WIDTH 3 /* expected unused: kind (1 rule, 2 token), from, to */
+#define QUILTRUDDER_T7_WIDTH 5 /* rules: name from, to; type flag, from, to */
+#define QUILTRUDDER_T8_WIDTH 13 /* productions: rule row; from, to; symbols from, to; %prec flag, from, to; action flag, text from, to, span from, to */
+#define QUILTRUDDER_T9_WIDTH 3 /* symbols: kind (1 rule, 2 token), from, to */
+#define QUILTRUDDER_T10_WIDTH 5 /* repeats: number; first from, to; repeated from, to */
+#define QUILTRUDDER_REPORT_WIDTH 2 /* report: kind (1 rule, 2 token), row */
+
+/* How many numbers each answer has. */
+#define QUILTRUDDER_READING_CELLS 38
+#define QUILTRUDDER_VALIDITY_CELLS 4
+#define QUILTRUDDER_LISTING_CELLS 6
+#define QUILTRUDDER_PLACE_CELLS 2
+#define QUILTRUDDER_VALUATION_CELLS 6
+
+/* Where they stand. Every answer but that of a name begins with number, place and table number; the table number is 0 unless the number is 42. */
+#define QUILTRUDDER_NUMBER 0
+#define QUILTRUDDER_FROM 1
+#define QUILTRUDDER_TO 2
+#define QUILTRUDDER_TABLE 3
+
+/* In a reading: the ten counts of tables 1 to 10, and then the singles. Each single is led by its flag: 0 absent, its numbers zero; 1 given. */
+#define QUILTRUDDER_COUNTS 4
+#define QUILTRUDDER_START 14 /* flag, from, to */
+#define QUILTRUDDER_EXPECT 17 /* flag, value's low half, value's high half, from, to */
+#define QUILTRUDDER_EXPECT_RR 22 /* as QUILTRUDDER_EXPECT */
+#define QUILTRUDDER_PARAM 27 /* parse parameter: flag, name from, to, type from, to */
+#define QUILTRUDDER_GENERICS 32 /* parse generics: flag, from, to */
+#define QUILTRUDDER_PROGRAMS 35 /* flag, from, to */
+
+/* In the answers of the report and of a value: the count, by its low and high 32 bits; 0 after a refusal. */
+#define QUILTRUDDER_COUNT_LOW 4
+#define QUILTRUDDER_COUNT_HIGH 5
+
+/* Reads a source of kind 1, 2 or 3 into the lent tables, whatever they held.
+ *
+ * Number 0: accepted, and the place is the end reached, twice. 20 to 27: all of it was read and something was given twice; the place is the
+ * first one's, table 10 lists the repeats, and the tables hold the full reading. 1 to 15, 40, 41, 43: refused at the place. 42: the table that
+ * is named has no room for the row at the place. After a refusal but 20 to 27, tables 1 to 9 and their counts are zero and the singles absent,
+ * and repeats met before stay listed. */
+void quiltrudder_read(
+    const uint8_t *src, size_t src_length,
+    uint32_t kind,
+    uint32_t *t1, size_t t1_length,
+    uint32_t *t2, size_t t2_length,
+    uint32_t *t3, size_t t3_length,
+    uint32_t *t4, size_t t4_length,
+    uint32_t *t5, size_t t5_length,
+    uint32_t *t6, size_t t6_length,
+    uint32_t *t7, size_t t7_length,
+    uint32_t *t8, size_t t8_length,
+    uint32_t *t9, size_t t9_length,
+    uint32_t *t10, size_t t10_length,
+    uint32_t answer[QUILTRUDDER_READING_CELLS]);
+
+/* The functions below take a reading: the numbers that quiltrudder_read wrote, and the tables as it left them. Of the numbers they look at the
+ * counts and the singles only; a flag of 0 is absent, any other is given. They test first whether these are sound, so numbers and tables made
+ * by hand are safe too: where they are not sound, number 44, or for a name an empty place. They change nothing lent but what is named. */
+
+/* Whether a reading is valid, or the first that it lacks: number 0, 30 to 35 or 44, with its place. The fourth number is 0. */
+void quiltrudder_validate(
+    const uint8_t *src, size_t src_length,
+    const uint32_t reading[QUILTRUDDER_READING_CELLS],
+    const uint32_t *t1, size_t t1_length,
+    const uint32_t *t2, size_t t2_length,
+    const uint32_t *t3, size_t t3_length,
+    const uint32_t *t4, size_t t4_length,
+    const uint32_t *t5, size_t t5_length,
+    const uint32_t *t6, size_t t6_length,
+    const uint32_t *t7, size_t t7_length,
+    const uint32_t *t8, size_t t8_length,
+    const uint32_t *t9, size_t t9_length,
+    const uint32_t *t10, size_t t10_length,
+    uint32_t answer[QUILTRUDDER_VALIDITY_CELLS]);
+
+/* The unused rules and tokens of a valid reading, into `out`: rows of kind and row number, rules first, each once, in ascending order; the cells
+ * behind them are zero. `work` holds a bit for each rule and token that a chain of productions from the start rule reaches, 32 to a word, the
+ * lowest first, rules' words before tokens' words; further words are zero.
+ *
+ * Number 0 with the count of rows; 44; validate's number and place; 42 with table 11 where `work` has too few words; 42 with table 12 where `out`
+ * has too few rows. After a refusal `work` and `out` are zero. */
+void quiltrudder_report(
+    const uint8_t *src, size_t src_length,
+    const uint32_t reading[QUILTRUDDER_READING_CELLS],
+    const uint32_t *t1, size_t t1_length,
+    const uint32_t *t2, size_t t2_length,
+    const uint32_t *t3, size_t t3_length,
+    const uint32_t *t4, size_t t4_length,
+    const uint32_t *t5, size_t t5_length,
+    const uint32_t *t6, size_t t6_length,
+    const uint32_t *t7, size_t t7_length,
+    const uint32_t *t8, size_t t8_length,
+    const uint32_t *t9, size_t t9_length,
+    const uint32_t *t10, size_t t10_length,
+    uint32_t *work, size_t work_length,
+    uint32_t *out, size_t out_length,
+    uint32_t answer[QUILTRUDDER_LISTING_CELLS]);
+
+/* The place of the name of a row of table 1 or 7: from, to. 0, 0 for another table, a row that is not below the table's count, or unsound
+ * tables. The source's bytes at that place are the name. */
+void quiltrudder_name(
+    const uint8_t *src, size_t src_length,
+    const uint32_t reading[QUILTRUDDER_READING_CELLS],
+    const uint32_t *t1, size_t t1_length,
+    const uint32_t *t2, size_t t2_length,
+    const uint32_t *t3, size_t t3_length,
+    const uint32_t *t4, size_t t4_length,
+    const uint32_t *t5, size_t t5_length,
+    const uint32_t *t6, size_t t6_length,
+    const uint32_t *t7, size_t t7_length,
+    const uint32_t *t8, size_t t8_length,
+    const uint32_t *t9, size_t t9_length,
+    const uint32_t *t10, size_t t10_length,
+    uint32_t table,
+    uint32_t row,
+    uint32_t answer[QUILTRUDDER_PLACE_CELLS]);
+
+/* The value of a row of table 5 without its quotes and escapes, into `out`; the bytes behind it are zero.
+ *
+ * Number 0 with the count of bytes; 44, also where the row is not below the count or its place is no string; 42 with table 13 where `out` is too
+ * short. After a refusal `out` is zero. */
+void quiltrudder_epp_value(
+    const uint8_t *src, size_t src_length,
+    const uint32_t reading[QUILTRUDDER_READING_CELLS],
+    const uint32_t *t1, size_t t1_length,
+    const uint32_t *t2, size_t t2_length,
+    const uint32_t *t3, size_t t3_length,
+    const uint32_t *t4, size_t t4_length,
+    const uint32_t *t5, size_t t5_length,
+    const uint32_t *t6, size_t t6_length,
+    const uint32_t *t7, size_t t7_length,
+    const uint32_t *t8, size_t t8_length,
+    const uint32_t *t9, size_t t9_length,
+    const uint32_t *t10, size_t t10_length,
+    uint32_t row,
+    uint8_t *out, size_t out_length,
+    uint32_t answer[QUILTRUDDER_VALUATION_CELLS]);
+
+#ifdef __cplusplus
+}
+#endif
+
+#endif
