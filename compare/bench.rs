@@ -1,5 +1,5 @@
 //! Times the crate against the library, in one process: parse, `complete_and_validate` and `unused_symbols` against read, validate and report.
-//! bench KIND:FILE.. prints, for each file, the best of several runs of each in microseconds and the ratio; tables are lent with a row more than the reading needs, and are cleared by `read` itself, which counts.
+//! bench KIND:FILE.. prints, for each file, the best of several runs of each in microseconds, the ratio, and for a file that follows its half the growth of both; tables are lent with a row more than the reading needs, and are cleared by `read` itself, which counts.
 
 mod header;
 mod span;
@@ -79,7 +79,8 @@ fn best(mut f: impl FnMut()) -> f64 {
 }
 
 fn main() {
-    println!("| Source | Bytes | crate, µs | library, µs | library / crate |\n|---|---|---|---|---|");
+    println!("| Source | Bytes | crate, µs | library, µs | library / crate | growth from half, crate | library |\n|---|---|---|---|---|---|---|");
+    let mut half = (String::new(), 0.0, 0.0);
     for word in std::env::args().skip(1) {
         let (kind, file) = word.split_once(':').expect("KIND:FILE");
         let kind: u32 = kind.parse().expect("a kind");
@@ -101,6 +102,8 @@ fn main() {
             std::hint::black_box(ours(kind, src.as_bytes(), &mut t, &mut work, &mut out));
         });
         let name = file.rsplit('/').next().unwrap();
-        println!("| {name}{} | {} | {theirs:.0} | {mine:.0} | {:.2} |", if agree { "" } else { " (ANSWERS DIFFER)" }, src.len(), mine / theirs);
+        let grown = if half.0 == name.replace(".y", "-half.y") { format!("{:.1} | {:.1}", theirs / half.1, mine / half.2) } else { " | ".to_string() };
+        println!("| {name}{} | {} | {theirs:.0} | {mine:.0} | {:.2} | {grown} |", if agree { "" } else { " (ANSWERS DIFFER)" }, src.len(), mine / theirs);
+        half = (name.to_string(), theirs, mine);
     }
 }
