@@ -106,4 +106,5 @@ fn main() {
         println!("| {name}{} | {} | {theirs:.0} | {mine:.0} | {:.2} | {grown} |", if agree { "" } else { " (ANSWERS DIFFER)" }, src.len(), mine / theirs);
         half = (name.to_string(), theirs, mine);
     }
+    println!("\nTables are lent as the last call left them, with a row more than the reading needs; read clears them itself, and that counts.");
 }
