@@ -1,17 +1,6 @@
 /* dump BOX [ROWS,..]: the comparison text of every input of a box, made from the C names of the library alone. ROWS are the rows lent for tables 1 to 10, one number for all or ten;
    without them each table has a row for each byte. Tables are lent full of rubbish; a cell past a count that is not zero afterwards is told on standard error. */
-#include "../include/quiltrudder.h"
-#include <stdio.h>
-#include <stdlib.h>
-
-static const unsigned width[11] = {0, 3, 4, 2, 2, 6, 3, 5, 13, 3, 5};
-static uint32_t *t[11];
-static size_t n[11];
-static uint32_t o[QUILTRUDDER_READING_CELLS];
-static const uint8_t *src;
-static uint32_t len;
-
-#define TABLES t[1], n[1], t[2], n[2], t[3], n[3], t[4], n[4], t[5], n[5], t[6], n[6], t[7], n[7], t[8], n[8], t[9], n[9], t[10], n[10]
+#include "lent.h"
 
 static void text(const uint8_t *s, uint32_t from, uint32_t to) {
     putchar('x');
@@ -115,21 +104,17 @@ int main(int argc, char **argv) {
     FILE *f = argc > 1 ? fopen(argv[1], "rb") : NULL;
     if (!f) return 2;
     for (int k = 1; k <= 10; k++) t[k] = malloc(4 * (size_t)width[k] * 70000 + 4);
-    uint8_t head[5];
-    int bad = 0;
-    for (long index = 0; fread(head, 1, 5, f) == 5; index++) {
-        len = head[1] | head[2] << 8 | head[3] << 16 | (uint32_t)head[4] << 24;
-        uint8_t *s = malloc(len + 1);
-        if (fread(s, 1, len, f) != len) return 2;
-        src = s;
+    uint8_t *s;
+    int bad = 0, kind;
+    for (long index = 0; (kind = next_input(f, &s)) >= 0; index++) {
         for (int k = 1; k <= 10; k++) {
             size_t have = rows[k] > len + 2 && argc < 3 ? len + 2 : rows[k];
             n[k] = have * width[k];
             for (size_t i = 0; i < n[k]; i++) t[k][i] = 0xdeadbeef;
         }
-        quiltrudder_read(src, len, head[0], TABLES, o);
-        int fatal = (o[0] >= 1 && o[0] <= 15) || o[0] >= 40;
-        printf("input %ld %u %u\nread %u %u %u", index, head[0], len, o[0], o[1], o[2]);
+        quiltrudder_read(src, len, kind, TABLES, o);
+        int fatal = is_fatal();
+        printf("input %ld %u %u\nread %u %u %u", index, kind, len, o[0], o[1], o[2]);
         if (o[0] == 42) printf(" %u", o[3]);
         printf("\n");
         errors();

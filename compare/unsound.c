@@ -1,18 +1,7 @@
 /* unsound BOX: every reading of the box that is full has each of its cells, counts and singles changed by itself (one less, one more, zero, one, two, the source's length and one more, the largest
    number), and validate's 44 is held against a test of soundness that is written here from the rules and knows nothing of the library's. Prints `changed N, differences M`. */
-#include "../include/quiltrudder.h"
-#include <stdio.h>
-#include <stdlib.h>
+#include "lent.h"
 #include <string.h>
-
-static const unsigned width[11] = {0, 3, 4, 2, 2, 6, 3, 5, 13, 3, 5};
-static uint32_t *t[11];
-static size_t n[11];
-static uint32_t o[QUILTRUDDER_READING_CELLS];
-static const uint8_t *src;
-static uint32_t len;
-
-#define TABLES t[1], n[1], t[2], n[2], t[3], n[3], t[4], n[4], t[5], n[5], t[6], n[6], t[7], n[7], t[8], n[8], t[9], n[9], t[10], n[10]
 
 static int place(uint32_t from, uint32_t to) { return from <= to && to <= len; }
 
@@ -98,16 +87,13 @@ int main(int argc, char **argv) {
     FILE *f = argc > 1 ? fopen(argv[1], "rb") : NULL;
     if (!f) return 2;
     for (int k = 1; k <= 10; k++) t[k] = malloc(4 * (size_t)width[k] * 2000);
-    uint8_t head[5];
+    uint8_t *s;
+    int kind;
     unsigned long full = 0;
-    while (fread(head, 1, 5, f) == 5) {
-        len = head[1] | head[2] << 8 | head[3] << 16 | (uint32_t)head[4] << 24;
-        uint8_t *s = malloc(len + 1);
-        if (fread(s, 1, len, f) != len) return 2;
-        src = s;
+    while ((kind = next_input(f, &s)) >= 0) {
         for (int k = 1; k <= 10; k++) n[k] = (size_t)width[k] * 1000;
-        quiltrudder_read(src, len, head[0], TABLES, o);
-        if (!((o[0] >= 1 && o[0] <= 15) || o[0] >= 40) && len < 2000) {
+        quiltrudder_read(src, len, kind, TABLES, o);
+        if (!is_fatal() && len < 2000) {
             full++;
             for (int k = 1; k <= 10; k++) n[k] = (size_t)width[k] * (o[3 + k] + 1) + 1;
             ask("as read", 0, 0);
