@@ -22,7 +22,8 @@ use Rattle.grammar.proofs.Far.{far-at}
 use Rattle.grammar.proofs.Kept.{gapped, onward-keep}
 use Rattle.settings.proofs.Far.{start-far, expect-far, actiontype-far, param-far, generics-far}
 use Rattle.lists.proofs.Far.{list-far}
-use Rattle.lines.proofs.Far.{third, fourth, prec-far, avoid-far}
+use Rattle.lines.specs.Grown.{third, fourth}
+use Rattle.lines.proofs.Far.{prec-far, avoid-far}
 use Rattle.epps.proofs.Far.{epp-far}
 use Rattle.declarations.specs.Declarations.{Declared, Out, byKeyword, bySeen, declStep, afterEnd, declTurn, declRun, allFrom, declAll}
 
@@ -34,7 +35,7 @@ abbrev pub FarAll : List ℕ → ℕ → Tables → Out → Type 0
 FarAll src done T o = Far src done (o .state) (all (o .tables) T)
 
 module _ {src : List ℕ} {done : ℕ} {s : State} {D : Declared} (T : Tables) (f : Far src done s (all D T)) where
-  by-keyword : (w : Keyword) (j : ℕ) → s .at ≤ j → j ≤ length src → ((w ≡ NoKeyword → ⊥) → s .at + 1 < j) → FarAll src done T (byKeyword w src s (withAt s j) D)
+  pub by-keyword : (w : Keyword) (j : ℕ) → s .at ≤ j → j ≤ length src → ((w ≡ NoKeyword → ⊥) → s .at + 1 < j) → FarAll src done T (byKeyword w src s (withAt s j) D)
   by-keyword Percents j h k b = f
   by-keyword TokenWord j h k b = list-far true (far-at f j h k)
   by-keyword ActiontypeWord j h k b = actiontype-far (far-at f j h k)

@@ -16,8 +16,6 @@ use Rattle.spacing.specs.Spacing.{isBlank, spacesAt}
 use Rattle.words.specs.declared.Token.the-variants.{Found}
 use Rattle.words.specs.Words.{tokenAt}
 use Rattle.keywords.specs.declared.Keyword.{Keyword}
-use Rattle.keywords.specs.declared.Keyword.the-variants.{LeftWord, RightWord, NonassocWord}
-use Rattle.keywords.specs.Keywords.{seenAt}
 use Rattle.keywords.proofs.Laws.{sees}
 use Rattle.tables.specs.Rows.{rowAt}
 use Rattle.tables.specs.Layout.{precedences, width}
@@ -26,26 +24,13 @@ use Rattle.grammar.specs.declared.Answer.the-variants.{Going}
 use Rattle.grammar.specs.State.{Out2, count, withAt}
 use Rattle.grammar.specs.Sound.{Tables, Far}
 use Rattle.lines.specs.Line.{LineWord, In}
+use Rattle.lines.specs.Grown.{RowOf, precRow, RowFrom, TwoLists}
 use Rattle.lines.specs.Precedences.{precDecl}
-use Rattle.lines.proofs.Grown.{RowOf}
-use Rattle.lines.proofs.Read.{precRow, RowFrom}
 use Rattle.lines.proofs.Line.{comment-last, comment-only}
-use Rattle.lines.proofs.Differ.{TwoLists, left-lists-differ}
+use Rattle.lines.proofs.Differ.{left-lists-differ}
+use Rattle.declarations.specs.Levels.{Precedence, left, right, nonassoc, keyword, behind}
 use Rattle.declarations.specs.Declarations.{Declared, Out, in2-10, byKeyword, declStep}
 use Rattle.declarations.proofs.Far.{all, step-far}
-
--- the keywords of precedence lists, with "1 left, 2 right, 3 nonassoc"
-pub data Precedence : Keyword → ℕ → Type 0 where
-  left : Precedence LeftWord 1
-  right : Precedence RightWord 2
-  nonassoc : Precedence NonassocWord 3
-
--- what stands at an index: a keyword, and the index behind it
-abbrev pub keyword : ℕ → List ℕ → ℕ → Keyword
-keyword kind src at = seenAt kind src at .word
-
-abbrev pub behind : ℕ → List ℕ → ℕ → ℕ
-behind kind src at = seenAt kind src at .end
 
 -- at a precedence keyword, the step is its line's
 prec-step : (src : List ℕ) (kind : ℕ) (s : State) (D : Declared) (a : ℕ) → Precedence (keyword kind src (s .at)) a → declStep src kind s D ≡ in2-10 D (precDecl src (withAt s (behind kind src (s .at))) a (D .t2) (D .t10))

@@ -66,7 +66,7 @@ in1-3-10 D o = record { answer = o .answer; state = o .state; tables = record { 
 abbrev pub in1-4-10 : Declared → Out3 → Out
 in1-4-10 D o = record { answer = o .answer; state = o .state; tables = record { t1 = o .a; t2 = D .t2; t3 = D .t3; t4 = o .b; t5 = D .t5; t6 = D .t6; t10 = o .c } }
 
--- The declaration of a keyword: s is where it stands, n behind it. "10 at the source end; the answer names the place of `%%`"; no keyword is 12.
+-- The declaration of a keyword: s is where it stands, n behind it. The section is done where `%%` stands; no keyword is 12.
 abbrev pub byKeyword : Keyword → List ℕ → State → State → Declared → Out
 byKeyword Percents src s n D = in0 D (record { answer = Done; state = s })
 byKeyword TokenWord src s n D = in1 D (listDecl src n true (D .t1))

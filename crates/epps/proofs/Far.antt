@@ -34,7 +34,7 @@ module _ {src : List ℕ} {done : ℕ} {s : State} {T : Tables} (f : Far src don
   given-far : (i j from to v e : ℕ) → Passed src i j → Passed src from to → Passed src v e → stringAt src v ≡ Closed e → s .at ≤ e → Far2 src done T epps repeats (eppGiven src s i j from to v e (T .t5) (T .t10))
   unfolding eppGiven
   given-far i j from to v e p q w c h =
-      behind2-far false e _ h (w .inside) (once-held f epps (omega arith) (λ z. omega arith) keyName from to RepeatedEpp i j (eppCells i j from to v e) refl (record { key = p; name = q; text = w; closed = c }) (λ r l. tt) first p)
+      behind2-far false e _ h (w .inside) (once-held f epps (omega arith) (λ z. omega arith) keyName RepeatedEpp (eppCells i j from to v e) refl (record { key = p; name = q; text = w; closed = c }) (λ r l. tt) first p)
 
   text-far : (i j from to v : ℕ) → Passed src i j → Passed src from to → s .at ≤ v → Far2 src done T epps repeats (eppText src s i j from to v (T .t5) (T .t10))
   unfolding eppText

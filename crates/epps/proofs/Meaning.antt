@@ -42,10 +42,10 @@ module _ (src : List ℕ) (s : State) (t5 t10 : List ℕ) (ten : length (s .coun
     again r = repeatCells 27 (cell (width epps) t5 r 0) (cell (width epps) t5 r 1) (key .from) (key .to)
 
     abbrev met : Row → Out2
-    met y = onceFound y s epps (width epps) RepeatedEpp (key .from) (key .to) row t5 t10
+    met y = onceFound y s epps (width epps) RepeatedEpp row t5 t10
 
     abbrev once : Out2
-    once = onceStep src s epps (width epps) keyName (name .from) (name .to) RepeatedEpp (key .from) (key .to) row t5 t10
+    once = onceStep src s epps (width epps) keyName RepeatedEpp row t5 t10
 
     once-entry : once .answer ≡ Going → Entry once
     unfolding onceStep listRepeat
@@ -56,22 +56,22 @@ module _ (src : List ℕ) (s : State) (t5 t10 : List ℕ) (ten : length (s .coun
           row = r;
           first = record { inside = l; named = e; earlier = earlier };
           stays = refl;
-          rows = push-more s repeats (again r) (key .from) (key .to) t10 (rw ten (omega arith)) g .rows;
-          others = push-apart s repeats (again r) (key .from) (key .to) t10 .count;
+          rows = push-more s repeats (again r) t10 (rw ten (omega arith)) g .rows;
+          others = push-apart s repeats (again r) t10 .count;
         }))
         (λ none g. inl (record {
           none = none;
-          rows = push-more s epps row (key .from) (key .to) t5 (rw ten (omega arith)) g .rows;
+          rows = push-more s epps row t5 (rw ten (omega arith)) g .rows;
           repeats = refl;
-          others = push-apart s epps row (key .from) (key .to) t5 .count;
+          others = push-apart s epps row t5 .count;
         }))
 
     once-goes : room (width epps) (count s epps) t5 ≡ true → room (width repeats) (count s repeats) t10 ≡ true → once .answer ≡ Going
     unfolding onceStep listRepeat
     once-goes r q =
         find-cases (λ (y : Row). met y .answer ≡ Going) src (width epps) keyName (count s epps) t5 (name .from) (name .to)
-        (λ i l e earlier. push-goes s repeats (again i) (key .from) (key .to) t10 q)
-        (λ none. push-goes s epps row (key .from) (key .to) t5 r)
+        (λ i l e earlier. push-goes s repeats (again i) t10 q)
+        (λ none. push-goes s epps row t5 r)
 
     -- spacing behind it changes neither rows nor counts
     moved : (o : Out2) (a : Answer) (u : State) → u .counts ≡ o .state .counts → Entry o → Entry (record { answer = a; state = u; a = o .a; b = o .b })

@@ -22,7 +22,7 @@ use Rattle.grammar.specs.State.{Out2, gapAt, onceStep, behind2, tied2, refused}
 -- a key is given its text once: the first stays, a later one is a repeat with the keys' places
 unfoldable pub eppGiven : List ℕ → State → ℕ → ℕ → ℕ → ℕ → ℕ → ℕ → List ℕ → List ℕ → Out2
 eppGiven src s i j from to v e t5 t10 =
-    behind2 src false e (onceStep src s epps (width epps) keyName from to RepeatedEpp i j (eppCells i j from to v e) t5 t10)
+    behind2 src false e (onceStep src s epps (width epps) keyName RepeatedEpp (eppCells i j from to v e) t5 t10)
 
 -- "14 InvalidString": a cause for each way a string fails
 abbrev pub eppString : Quote → List ℕ → State → ℕ → ℕ → ℕ → ℕ → ℕ → List ℕ → List ℕ → Out2

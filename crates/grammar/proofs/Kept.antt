@@ -7,7 +7,7 @@ use native.Mathlib.Omega.{arith}
 use lib.ListN.{length, getD, set}
 use Rattle.tables.specs.Table.{Added, Inserted, setCell, marked, flag, hasName, samePart, cell, findName}
 use Rattle.tables.specs.Rows.{rowAt, Rows}
-use Rattle.tables.specs.Layout.{tokens, productions, repeats, declared, width}
+use Rattle.tables.specs.Layout.{tokens, productions, repeats, declared, rowPlace, width}
 use Rattle.tables.proofs.Cases.{add-cases, find-cases, enter-cases}
 use Rattle.tables.specs.declared.Found.{Found}
 use Rattle.spacing.specs.declared.Spaced.{Spaced}
@@ -18,7 +18,6 @@ use Rattle.scan.proofs.Loop.{Either}
 use Rattle.tables.proofs.Rows.{row-cell, rows-set}
 use Rattle.grammar.specs.declared.State.{State}
 use Rattle.grammar.specs.declared.Repeat.{Repeat}
-use Rattle.grammar.specs.declared.Repeat.the-variants.{RepeatedPrecedence, RepeatedAvoidInsert, RepeatedImplicitTokens, RepeatedExpect, RepeatedExpectRr, RepeatedStart, RepeatedActiontype, RepeatedEpp}
 use Rattle.grammar.specs.Refusals.{numberOfRepeat}
 use Rattle.grammar.specs.Cells.{repeatCells, tokenCells}
 use Rattle.grammar.specs.declared.Answer.{Answer}
@@ -27,6 +26,7 @@ use Rattle.grammar.specs.declared.Gap.{Gap}
 use Rattle.grammar.specs.declared.Gap.the-variants.{GapTo, GapRefused}
 use Rattle.grammar.specs.State.{Out1, Out2, Out3, Passed, count, withCount, gapOf, gapAt, Gapped, pushed, pushRow, listRepeat, entered, enterStep, first2, second2, onceFound, onceStep, past, pastGap, passOn, onward, behind1, behind2}
 use Rattle.grammar.specs.Sound.{Tables, tab, setTab, each, pairs, view, Table, TokenRow, RepeatRow, Differ, Far}
+use Rattle.grammar.proofs.Repeats.{repeat-least, repeat-most}
 use Rattle.grammar.proofs.Far.{set-tab, tab-other, far-at, far-add, far-table}
 
 -- where spacing leads
@@ -60,27 +60,6 @@ pub record Held2 (src : List ℕ) (done : ℕ) (T : Tables) (k l : ℕ) (s : Sta
   pub stays : o .state .at ≡ s .at
   pub level : o .state .level ≡ s .level
 
--- numbers of repeats
-repeat-least : (what : Repeat) → 20 ≤ numberOfRepeat what
-repeat-least RepeatedPrecedence = omega arith
-repeat-least RepeatedAvoidInsert = omega arith
-repeat-least RepeatedImplicitTokens = omega arith
-repeat-least RepeatedExpect = omega arith
-repeat-least RepeatedExpectRr = omega arith
-repeat-least RepeatedStart = omega arith
-repeat-least RepeatedActiontype = omega arith
-repeat-least RepeatedEpp = omega arith
-
-repeat-most : (what : Repeat) → numberOfRepeat what ≤ 27
-repeat-most RepeatedPrecedence = omega arith
-repeat-most RepeatedAvoidInsert = omega arith
-repeat-most RepeatedImplicitTokens = omega arith
-repeat-most RepeatedExpect = omega arith
-repeat-most RepeatedExpectRr = omega arith
-repeat-most RepeatedStart = omega arith
-repeat-most RepeatedActiontype = omega arith
-repeat-most RepeatedEpp = omega arith
-
 -- a token's row that is marked is a token's row, with the same name
 mark-row : (src x : List ℕ) → TokenRow src x → TokenRow src (set x declared 1)
 mark-row src [] p = p
@@ -106,10 +85,10 @@ flag-low false = omega arith
 
 module _ {src : List ℕ} {done : ℕ} {s : State} {T : Tables} (f : Far src done s T) where
   -- a row more,
-  pub push-held : (k : ℕ) → k < 10 → (k ≡ productions → ⊥) → (row : List ℕ) (a b : ℕ) → length row ≡ width k → each src (view s) k row → ((r : ℕ) → r < count s k → pairs src k (rowAt (width k) (tab T k) r) row) → Held src done T k s (pushRow s k row a b (tab T k))
+  pub push-held : (k : ℕ) → k < 10 → (k ≡ productions → ⊥) → (row : List ℕ) → length row ≡ width k → each src (view s) k row → ((r : ℕ) → r < count s k → pairs src k (rowAt (width k) (tab T k) r) row) → Held src done T k s (pushRow s k row (tab T k))
   unfolding pushRow
-  push-held k h d row a b wide p q =
-      add-cases (λ (o : Added). Held src done T k s (pushed (o .ok) s k a b (o .cells))) (count s k) row (tab T k)
+  push-held k h d row wide p q =
+      add-cases (λ (o : Added). Held src done T k s (pushed (o .ok) s k row (o .cells))) (count s k) row (tab T k)
       (λ room low. record { far = rw wide (far-add f k h d row wide (rw wide at room) p q); stays = refl; level = refl })
       (λ full. record { far = rw (set-tab T k) f; stays = refl; level = refl })
 
@@ -117,7 +96,7 @@ module _ {src : List ℕ} {done : ℕ} {s : State} {T : Tables} (f : Far src don
   pub repeat-held : (what : Repeat) (a b c d : ℕ) → Passed src a b → Passed src c d → Held src done T repeats s (listRepeat s what a b c d (T .t10))
   unfolding listRepeat
   repeat-held what a b c d p q =
-      push-held repeats (omega arith) (λ e. omega arith) (repeatCells (numberOfRepeat what) a b c d) c d refl
+      push-held repeats (omega arith) (λ e. omega arith) (repeatCells (numberOfRepeat what) a b c d) refl
       (record { least = repeat-least what; most = repeat-most what; first = p; again = q })
       (λ r l. tt)
 
@@ -134,18 +113,18 @@ module _ {src : List ℕ} {done : ℕ} {s : State} {T : Tables} (f : Far src don
   pub enter-held : (a b : ℕ) (d : Bool) → Passed src a b → Held src done T tokens s (enterStep src s a b d (T .t1))
   unfolding enterStep
   enter-held a b d p =
-      enter-cases (λ (o : Inserted). Held src done T tokens s (entered (o .entered) s a b (o .cells))) src (count s tokens) a b d (T .t1)
+      enter-cases (λ (o : Inserted). Held src done T tokens s (entered (o .entered) s (tokenCells a b (flag d)) (o .cells))) src (count s tokens) a b d (T .t1)
       (λ r l e. record { far = far-table f tokens (omega arith) (count s tokens) (omega arith) (marked d r (T .t1)) (λ z. omega arith) (marked-rows d r l); stays = refl; level = refl })
       (λ none room low. record { far = far-add f tokens (omega arith) (λ z. omega arith) (tokenCells a b (flag d)) refl room (record { name = p; flag = flag-low d }) (λ r l. new-name a b d r (none r l)); stays = refl; level = refl })
       (λ none full. record { far = f; stays = refl; level = refl })
 
   -- what may be given once to a name,
-  pub once-held : (k : ℕ) → k < repeats → (k ≡ productions → ⊥) → (name from to : ℕ) (what : Repeat) (a b : ℕ) (row : List ℕ) → length row ≡ width k → each src (view s) k row → ((r : ℕ) → r < count s k → pairs src k (rowAt (width k) (tab T k) r) row) → ((r : ℕ) → r < count s k → Passed src (cell (width k) (tab T k) r 0) (cell (width k) (tab T k) r 1)) → Passed src a b → Held2 src done T k repeats s (onceStep src s k (width k) name from to what a b row (tab T k) (T .t10))
+  pub once-held : (k : ℕ) → k < repeats → (k ≡ productions → ⊥) → (name : ℕ) (what : Repeat) (row : List ℕ) → length row ≡ width k → each src (view s) k row → ((r : ℕ) → r < count s k → pairs src k (rowAt (width k) (tab T k) r) row) → ((r : ℕ) → r < count s k → Passed src (cell (width k) (tab T k) r (rowPlace k)) (cell (width k) (tab T k) r (rowPlace k + 1))) → Passed src (getD row (rowPlace k) 0) (getD row (rowPlace k + 1) 0) → Held2 src done T k repeats s (onceStep src s k (width k) name what row (tab T k) (T .t10))
   unfolding onceStep
-  once-held k h d name from to what a b row wide p q first z =
-      find-cases (λ (x : Found). Held2 src done T k repeats s (onceFound x s k (width k) what a b row (tab T k) (T .t10))) src (width k) name (count s k) (tab T k) from to
-      (λ r l e none. found _ (repeat-held what (cell (width k) (tab T k) r 0) (cell (width k) (tab T k) r 1) a b (first r l) z))
-      (λ none. new _ (push-held k (omega arith) d row a b wide p q))
+  once-held k h d name what row wide p q first z =
+      find-cases (λ (x : Found). Held2 src done T k repeats s (onceFound x s k (width k) what row (tab T k) (T .t10))) src (width k) name (count s k) (tab T k) (getD row name 0) (getD row (name + 1) 0)
+      (λ r l e none. found _ (repeat-held what _ _ _ _ (first r l) z))
+      (λ none. new _ (push-held k (omega arith) d row wide p q))
     where
       other : (x : List ℕ) → setTab (setTab T k x) repeats (T .t10) ≡ setTab T k x
       other x = ap (λ (y : List ℕ). setTab (setTab T k x) repeats y) (sym (tab-other T k repeats x (λ e. omega arith))) ∙ set-tab (setTab T k x) repeats

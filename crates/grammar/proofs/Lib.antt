@@ -1,4 +1,5 @@
 pub mod Steps
 pub mod Far
+pub mod Repeats
 pub mod Kept
 pub mod Touch

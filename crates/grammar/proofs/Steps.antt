@@ -1,18 +1,19 @@
 -- The small steps: counts, spacing with its refusal, a row more. One law for each answer. Assumes nothing.
 use Prim.Native.Nat.{ℕ, _+_, _≤_, _<_}
 use mathlib.Core.Path.{_≡_, sym, ap}
-use mathlib.Core.List.{List}
+use mathlib.Core.List.{List, [], _∷_}
 use mathlib.Core.Bool.{Bool, true, false, _&&_, not}
 use lib.Dec.{eqb}
 use native.Mathlib.Omega.{arith}
 use mir.Syntax.{w32}
 use mir.Val.{Fits}
-use lib.ListN.{length, List·getD-eq-default}
+use lib.ListN.{length, getD, List·getD-eq-default}
 use lib.Seq.{set-out}
 use borrow.Author.Tests.{lt-ltb, le-ltb}
 use Rattle.spacing.specs.declared.Spaced.{Spaced}
 use Rattle.spacing.specs.declared.Spaced.the-variants.{To, LineEnd, OpenComment}
 use Rattle.spacing.specs.Spacing.{spacesAt, Spaces}
+use Rattle.tables.specs.Layout.{tokens, rowPlace}
 use Rattle.tables.specs.Table.{addRow, enterToken, cell, findName}
 use Rattle.tables.specs.declared.Found.{Found}
 use Rattle.tables.specs.declared.Found.the-variants.{RowAt, NoRow}
@@ -23,11 +24,11 @@ use Rattle.grammar.specs.declared.Answer.{Answer}
 use Rattle.grammar.specs.declared.Answer.the-variants.{Going, Done, Refused}
 use Rattle.grammar.specs.declared.Cause.the-variants.{ReachedEol, IncompleteComment}
 use Rattle.grammar.specs.declared.Refusal.{Refusal}
-use Rattle.grammar.specs.declared.Refusal.the-variants.{Fault, NoRoom}
+use Rattle.grammar.specs.declared.Refusal.the-variants.{Fault}
 use Rattle.grammar.specs.declared.Repeat.{Repeat}
 use Rattle.grammar.specs.declared.Gap.{Gap}
 use Rattle.grammar.specs.declared.Gap.the-variants.{GapTo, GapRefused}
-use Rattle.grammar.specs.State.{count, withCount, Here, gapOf, gapAt, Gapped, pushRow, enterStep, nextLevel, withAt, Out0, Out1, Out2, pastGap, passOn, tied1, tied2, behind1, behind2, Onward, Moves, listRepeat, first2, second2, onceStep, Passed}
+use Rattle.grammar.specs.State.{count, withCount, noRoom, Here, gapOf, gapAt, Gapped, pushRow, enterStep, nextLevel, withAt, Out0, Out1, Out2, pastGap, passOn, tied1, tied2, behind1, behind2, Onward, Moves, listRepeat, first2, second2, onceStep, Passed}
 
 -- past the tenth table there is nothing to count
 module _ (s : State) (k : ℕ) (ten : length (s .counts .n) ≡ 10) (h : 10 ≤ k) where
@@ -62,14 +63,14 @@ module _ (src : List ℕ) (at : ℕ) (r : Spaced) (x : Spaces src at r) where
   comment-inside i e = (rw e at x) .1
 
 -- a row more
-module _ (s : State) (k a b n : ℕ) (row t cells : List ℕ) (q : Bool) (c : n ≡ count s k) (e : record { ok = q; cells = cells } ≡ addRow n row t) where
-  pub push-ok : (next : State) → q ≡ true → next ≡ withCount s k (n + 1) → record { answer = Going; state = next; a = cells } ≡ pushRow s k row a b t
+module _ (s : State) (k n : ℕ) (row t cells : List ℕ) (q : Bool) (c : n ≡ count s k) (e : record { ok = q; cells = cells } ≡ addRow n row t) where
+  pub push-ok : (next : State) → q ≡ true → next ≡ withCount s k (n + 1) → record { answer = Going; state = next; a = cells } ≡ pushRow s k row t
   unfolding pushRow
   push-ok next h w = let o = rw c at e in rw (w, c, ← o, h)
 
-  pub push-full : q ≡ false → record { answer = Refused (NoRoom (k + 1) a b); state = s; a = cells } ≡ pushRow s k row a b t
+  pub push-full : (f : Refusal) → q ≡ false → f ≡ noRoom k row → record { answer = Refused f; state = s; a = cells } ≡ pushRow s k row t
   unfolding pushRow
-  push-full h = rw (← c, ← e, h)
+  push-full f h w = rw (← c, ← e, h, w)
 
 -- a token entered
 module _ (src : List ℕ) (s : State) (a b n : ℕ) (d : Bool) (t cells : List ℕ) (o : Entered) (c : n ≡ count s 0) (e : record { entered = o; cells = cells } ≡ enterToken src n a b d t) where
@@ -77,9 +78,9 @@ module _ (src : List ℕ) (s : State) (a b n : ℕ) (d : Bool) (t cells : List �
   unfolding enterStep
   enter-rows m next h w = rw (← c, ← e, h, w)
 
-  pub enter-full : o ≡ Full → record { answer = Refused (NoRoom 1 a b); state = s; a = cells } ≡ enterStep src s a b d t
+  pub enter-full : (f : Refusal) → o ≡ Full → f ≡ noRoom tokens (a ∷ b ∷ 0 ∷ []) → record { answer = Refused f; state = s; a = cells } ≡ enterStep src s a b d t
   unfolding enterStep
-  enter-full h = rw (← c, ← e, h)
+  enter-full f h w = rw (← c, ← e, h, w)
 
 -- the next level
 pub level-up : (n : ℕ) → n < 4294967295 → n + 1 ≡ nextLevel n
@@ -154,14 +155,17 @@ module _ (src : List ℕ) (line : Bool) (j : ℕ) (a : Answer) (s : State) where
     behind-two t u o e = rw (← e) (ap (λ (y : Out0). tied2 y t u) h)
 
 -- what may be given once to a name
-module _ (src : List ℕ) (s : State) (k w name from to : ℕ) (what : Repeat) (a b : ℕ) (row t t10 : List ℕ) (n : ℕ) (f : Found) (c : n ≡ count s k) (q : f ≡ findName src w name n t from to) where
-  pub once-repeat : (r x y : ℕ) (o : Out1) → f ≡ RowAt r → x ≡ cell w t r 0 → y ≡ cell w t r 1 → o ≡ listRepeat s what x y a b t10 → second2 t o ≡ onceStep src s k w name from to what a b row t t10
-  unfolding onceStep
-  once-repeat r x y o e g h d = let p = rw c at q in rw (← p, e) (ap (second2 t) (rw (g, h) at d))
+module _ (src : List ℕ) (s : State) (k w name from to : ℕ) (what : Repeat) (row t t10 : List ℕ) (n : ℕ) (f : Found) (c : n ≡ count s k) (l : from ≡ getD row name 0) (m : to ≡ getD row (name + 1) 0) (q : f ≡ findName src w name n t from to) where
+  found-row : f ≡ findName src w name (count s k) t (getD row name 0) (getD row (name + 1) 0)
+  found-row = rw (c, l, m) at q
 
-  pub once-new : (o : Out1) → f ≡ NoRow → o ≡ pushRow s k row a b t → first2 o t10 ≡ onceStep src s k w name from to what a b row t t10
+  pub once-repeat : (r p x y z u : ℕ) (o : Out1) → f ≡ RowAt r → p ≡ rowPlace k → x ≡ cell w t r p → y ≡ cell w t r (p + 1) → z ≡ getD row p 0 → u ≡ getD row (p + 1) 0 → o ≡ listRepeat s what x y z u t10 → second2 t o ≡ onceStep src s k w name what row t t10
   unfolding onceStep
-  once-new o e d = let p = rw c at q in rw (← p, e) (ap (λ (x : Out1). first2 x t10) d)
+  once-repeat r p x y z u o e g hx hy hz hu d = rw (← found-row, e) (ap (second2 t) (rw (hx, hy, hz, hu, g) at d))
+
+  pub once-new : (o : Out1) → f ≡ NoRow → o ≡ pushRow s k row t → first2 o t10 ≡ onceStep src s k w name what row t t10
+  unfolding onceStep
+  once-new o e d = rw (← found-row, e) (ap (λ (x : Out1). first2 x t10) d)
 
 -- positions behind a position: where spacing ends, where a further part ends, where a step comes to stand
 module _ (src : List ℕ) (at : ℕ) where

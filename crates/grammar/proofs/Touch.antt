@@ -38,19 +38,19 @@ pub record More (k : ℕ) (row : List ℕ) (s : State) (t : List ℕ) (u : State
   pub counted : count u k ≡ count s k + 1
   pub rows : rowsOf (length row) (count u k) x ≡ rowsOf (length row) (count s k) t ++ (row ∷ [])
 
-module _ (s : State) (k : ℕ) (row : List ℕ) (a b : ℕ) (t : List ℕ) where
-  pub push-apart : Apart k s (pushRow s k row a b t .state)
+module _ (s : State) (k : ℕ) (row : List ℕ) (t : List ℕ) where
+  pub push-apart : Apart k s (pushRow s k row t .state)
   unfolding pushRow
   push-apart =
-      add-cases (λ (o : Added). Apart k s (pushed (o .ok) s k a b (o .cells) .state)) (count s k) row t
+      add-cases (λ (o : Added). Apart k s (pushed (o .ok) s k row (o .cells) .state)) (count s k) row t
       (λ room low. record { ten = length-set (s .counts .n) k (count s k + 1); level = refl; count = λ j d. getD-set-other (s .counts .n) k j (count s k + 1) 0 d })
       (λ full. record { ten = refl; level = refl; count = λ j d. refl })
 
   -- where it goes on, there is that row more
-  pub push-more : k < length (s .counts .n) → pushRow s k row a b t .answer ≡ Going → More k row s t (pushRow s k row a b t .state) (pushRow s k row a b t .a)
+  pub push-more : k < length (s .counts .n) → pushRow s k row t .answer ≡ Going → More k row s t (pushRow s k row t .state) (pushRow s k row t .a)
   unfolding pushRow
   push-more h =
-      add-cases (λ (o : Added). pushed (o .ok) s k a b (o .cells) .answer ≡ Going → More k row s t (pushed (o .ok) s k a b (o .cells) .state) (pushed (o .ok) s k a b (o .cells) .a)) (count s k) row t
+      add-cases (λ (o : Added). pushed (o .ok) s k row (o .cells) .answer ≡ Going → More k row s t (pushed (o .ok) s k row (o .cells) .state) (pushed (o .ok) s k row (o .cells) .a)) (count s k) row t
       (λ room low g. record { counted = same; rows = rw (same, add-one) (rows-of-add (length row) (count s k) row t refl room) })
       (λ full g. absurd (refused-going _ g))
     where
@@ -58,7 +58,7 @@ module _ (s : State) (k : ℕ) (row : List ℕ) (a b : ℕ) (t : List ℕ) where
       same = getD-set-same (s .counts .n) k (count s k + 1) 0 h
 
   -- and it goes on where there is room
-  pub push-goes : room (length row) (count s k) t ≡ true → pushRow s k row a b t .answer ≡ Going
+  pub push-goes : room (length row) (count s k) t ≡ true → pushRow s k row t .answer ≡ Going
   unfolding pushRow addRow
   push-goes h = rw h
 

@@ -3,3 +3,4 @@ pub mod Numbers
 pub mod State
 pub mod Sound
 pub mod Cells
+pub mod Places

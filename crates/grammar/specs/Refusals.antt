@@ -1,5 +1,8 @@
 -- Document 01, "Numbers given back": the number, place and table of each refusal.
 use Prim.Native.Nat.{ℕ}
+use mathlib.Core.List.{List, [], _∷_}
+use mathlib.Core.Bool.{true, false}
+use lib.Dec.{eqb}
 use Rattle.grammar.specs.declared.Cause.{Cause}
 use Rattle.grammar.specs.declared.Cause.the-variants.{IntegerEmpty, IntegerTooLarge, IllegalName, IllegalString, IncompleteRule, IncompleteComment, IncompleteAction, MissingColon, MissingRightArrow, NonEmptyProduction, PrematureEnd, NotTerminated, UnknownDeclaration, ReachedEol, ReachedEnd, StringNotOpened, StringLineEnd, StringEscape, StringNotClosed, UnknownSymbol, NotUtf8}
 use Rattle.grammar.specs.declared.Refusal.{Refusal}
@@ -43,10 +46,22 @@ numberOfRepeat RepeatedStart = 25
 numberOfRepeat RepeatedActiontype = 26
 numberOfRepeat RepeatedEpp = 27
 
+abbrev pub repeatsInOrder : List Repeat
+repeatsInOrder = RepeatedPrecedence ∷ RepeatedAvoidInsert ∷ RepeatedImplicitTokens ∷ RepeatedExpect ∷ RepeatedExpectRr ∷ RepeatedStart ∷ RepeatedActiontype ∷ []
+
+-- the first of some repeats that has the number
+unfoldable pub ofNumber : ℕ → List Repeat → Repeat
+ofNumber n [] = RepeatedEpp
+ofNumber n (what ∷ rest) = elim (eqb n (numberOfRepeat what)) [ true ↦ what | false ↦ ofNumber n rest ]
+
+-- the repeat that has a number, as a row of table 10 holds it; 27 is what is left
+unfoldable pub repeatOf : ℕ → Repeat
+repeatOf n = ofNumber n repeatsInOrder
+
 -- "41 too long", "42 no room", "43 bad kind"
 abbrev pub numberOf : Refusal → ℕ
 numberOf (Fault c i) = numberOfCause c
-numberOf (Repeated n a b) = n
+numberOf (Repeated what a b) = numberOfRepeat what
 numberOf (NoRoom t a b) = 42
 numberOf TooLong = 41
 numberOf BadKind = 43
@@ -54,14 +69,14 @@ numberOf BadKind = 43
 -- where the place begins, and where it ends: "a single offset stands twice"; "41 too long, 43 bad kind: 0..0"
 abbrev pub fromOf : Refusal → ℕ
 fromOf (Fault c i) = i
-fromOf (Repeated n a b) = a
+fromOf (Repeated what a b) = a
 fromOf (NoRoom t a b) = a
 fromOf TooLong = 0
 fromOf BadKind = 0
 
 abbrev pub toOf : Refusal → ℕ
 toOf (Fault c i) = i
-toOf (Repeated n a b) = b
+toOf (Repeated what a b) = b
 toOf (NoRoom t a b) = b
 toOf TooLong = 0
 toOf BadKind = 0
@@ -69,7 +84,7 @@ toOf BadKind = 0
 -- "table number (0 unless 42)"
 abbrev pub tableOf : Refusal → ℕ
 tableOf (Fault c i) = 0
-tableOf (Repeated n a b) = 0
+tableOf (Repeated what a b) = 0
 tableOf (NoRoom t a b) = t
 tableOf TooLong = 0
 tableOf BadKind = 0

@@ -14,7 +14,7 @@ use Rattle.tables.specs.declared.Entered.{Entered}
 use Rattle.tables.specs.declared.Entered.the-variants.{Rows, Full}
 use Rattle.tables.specs.declared.Found.{Found}
 use Rattle.tables.specs.declared.Found.the-variants.{RowAt, NoRow}
-use Rattle.tables.specs.Table.{Added, addRow, Inserted, enterToken, cell, findName}
+use Rattle.tables.specs.Table.{Added, addRow, Inserted, flag, enterToken, cell, findName}
 use Rattle.grammar.specs.declared.Counts.{Counts}
 use Rattle.grammar.specs.declared.Singles.{Singles}
 use Rattle.grammar.specs.declared.State.{State}
@@ -30,9 +30,9 @@ use Rattle.grammar.specs.declared.Answer.the-variants.{Going, Done, Refu
 use Rattle.grammar.specs.declared.Repeat.{Repeat}
 use Rattle.grammar.specs.declared.Gap.{Gap}
 use Rattle.grammar.specs.declared.Gap.the-variants.{GapTo, GapRefused}
-use Rattle.tables.specs.Layout.{tokens, repeats}
+use Rattle.tables.specs.Layout.{tokens, repeats, rowPlace}
 use Rattle.grammar.specs.Refusals.{numberOfRepeat}
-use Rattle.grammar.specs.Cells.{repeatCells}
+use Rattle.grammar.specs.Cells.{tokenCells, repeatCells}
 
 -- what a step on no table, on one, on two and on three gives
 pub record Out0 : Type 0 where
@@ -103,27 +103,30 @@ abbrev pub Gapped : List ℕ → ℕ → Gap → Type 0
 Gapped src from (GapTo i n) = (from + n ≤ i) × (i ≤ length src) × Edge src from i
 Gapped src from (GapRefused f) = Unit {0}
 
--- "42 no room: first place of the row that didn't fit, for 10 its repeated one, and table number"
-abbrev pub pushed : Bool → State → ℕ → ℕ → ℕ → List ℕ → Out1
-pushed true s k a b t = record { answer = Going; state = withCount s k (count s k + 1); a = t }
-pushed false s k a b t = record { answer = Refused (NoRoom (k + 1) a b); state = s; a = t }
+-- "42 no room: first place of the row that didn't fit, for 10 its repeated one, and table number": all of it comes from the table and the row
+abbrev pub noRoom : ℕ → List ℕ → Refusal
+noRoom k row = NoRoom (k + 1) (getD row (rowPlace k) 0) (getD row (rowPlace k + 1) 0)
 
--- a row is added to table k + 1, whose place is a to b
-unfoldable pub pushRow : State → ℕ → List ℕ → ℕ → ℕ → List ℕ → Out1
-pushRow s k row a b t = pushed (addRow (count s k) row t .ok) s k a b (addRow (count s k) row t .cells)
+abbrev pub pushed : Bool → State → ℕ → List ℕ → List ℕ → Out1
+pushed true s k row t = record { answer = Going; state = withCount s k (count s k + 1); a = t }
+pushed false s k row t = record { answer = Refused (noRoom k row); state = s; a = t }
+
+-- a row is added to table k + 1
+unfoldable pub pushRow : State → ℕ → List ℕ → List ℕ → Out1
+pushRow s k row t = pushed (addRow (count s k) row t .ok) s k row (addRow (count s k) row t .cells)
 
 -- "10 repeats (number, first place, repeated place)"
 unfoldable pub listRepeat : State → Repeat → ℕ → ℕ → ℕ → ℕ → List ℕ → Out1
-listRepeat s what a b c d t = pushRow s repeats (repeatCells (numberOfRepeat what) a b c d) c d t
+listRepeat s what a b c d t = pushRow s repeats (repeatCells (numberOfRepeat what) a b c d) t
 
-abbrev pub entered : Entered → State → ℕ → ℕ → List ℕ → Out1
-entered (Rows m) s a b t = record { answer = Going; state = withCount s tokens m; a = t }
-entered Full s a b t = record { answer = Refused (NoRoom (tokens + 1) a b); state = s; a = t }
+abbrev pub entered : Entered → State → List ℕ → List ℕ → Out1
+entered (Rows m) s row t = record { answer = Going; state = withCount s tokens m; a = t }
+entered Full s row t = record { answer = Refused (noRoom tokens row); state = s; a = t }
 
 -- a token joins table 1, declared by `%token` or not
 unfoldable pub enterStep : List ℕ → State → ℕ → ℕ → Bool → List ℕ → Out1
 enterStep src s a b d t =
-    entered (enterToken src (count s tokens) a b d t .entered) s a b (enterToken src (count s tokens) a b d t .cells)
+    entered (enterToken src (count s tokens) a b d t .entered) s (tokenCells a b (flag d)) (enterToken src (count s tokens) a b d t .cells)
 
 -- "Levels start at 0", one a line; they stop where 32 bits do, which no reading comes near
 unfoldable pub nextLevel : ℕ → ℕ
@@ -188,13 +191,16 @@ first2 o b = record { answer = o .answer; state = o .state; a = o .a; b = b }
 abbrev pub second2 : List ℕ → Out1 → Out2
 second2 a o = record { answer = o .answer; state = o .state; a = a; b = o .a }
 
-abbrev pub onceFound : Found → State → ℕ → ℕ → Repeat → ℕ → ℕ → List ℕ → List ℕ → List ℕ → Out2
-onceFound (RowAt r) s k w what a b row t t10 = second2 t (listRepeat s what (cell w t r 0) (cell w t r 1) a b t10)
-onceFound NoRow s k w what a b row t t10 = first2 (pushRow s k row a b t) t10
+abbrev pub onceFound : Found → State → ℕ → ℕ → Repeat → List ℕ → List ℕ → List ℕ → Out2
+onceFound (RowAt r) s k w what row t t10 =
+    second2 t (listRepeat s what (cell w t r (rowPlace k)) (cell w t r (rowPlace k + 1)) (getD row (rowPlace k) 0) (getD row (rowPlace k + 1) 0) t10)
+onceFound NoRow s k w what row t t10 = first2 (pushRow s k row t) t10
 
--- What may be given once to a name: a row more, or a repeat with "first place, repeated place".
-unfoldable pub onceStep : List ℕ → State → ℕ → ℕ → ℕ → ℕ → ℕ → Repeat → ℕ → ℕ → List ℕ → List ℕ → List ℕ → Out2
-onceStep src s k w name from to what a b row t t10 = onceFound (findName src w name (count s k) t from to) s k w what a b row t t10
+-- What may be given once to a name, which a row has in its cells `name` and `name + 1`: a row more, or a repeat with "first place, repeated place", that of the
+-- row that has the name and that of this one.
+unfoldable pub onceStep : List ℕ → State → ℕ → ℕ → ℕ → Repeat → List ℕ → List ℕ → List ℕ → Out2
+onceStep src s k w name what row t t10 =
+    onceFound (findName src w name (count s k) t (getD row name 0) (getD row (name + 1) 0)) s k w what row t t10
 
 -- a loop goes on behind a step that goes on
 abbrev pub onward : {X : Type 0} → Answer → X → Turn X

@@ -5,9 +5,9 @@ use tables::Found;
 ghost use mathlib.Core.Path.{_≡_};
 ghost use mathlib.Core.List.{List, [], _∷_};
 ghost use lib.ListN.{length};
-ghost use Rattle.grammar.specs.Refusals.{numberOfCause, numberOfRepeat, told};
+ghost use Rattle.grammar.specs.Refusals.{numberOfCause, numberOfRepeat, repeatOf, told};
 ghost use Rattle.grammar.specs.Numbers.{partNumbers};
-ghost use Rattle.grammar.specs.State.{count, withCount, Out1, Here, gapAt, Gapped, pushRow, listRepeat, enterStep, nextLevel, Out0, Out2, Onward, pastGap, passOn, onceStep};
+ghost use Rattle.grammar.specs.State.{count, withCount, noRoom, Out1, Here, gapAt, Gapped, pushRow, listRepeat, enterStep, nextLevel, Out0, Out2, Onward, pastGap, passOn, onceStep};
 
 // The rows of tables 1 to 10.
 pub struct Counts {
@@ -79,8 +79,8 @@ pub enum Cause {
 
 pub enum Refusal {
     Fault(Cause, u32),
-    // The first repeat's number and first place.
-    Repeated(u32, u32, u32),
+    // The first repeat, and its first place.
+    Repeated(Repeat, u32, u32),
     // The table without room, and the row's place.
     NoRoom(u32, u32, u32),
     TooLong,
@@ -163,8 +163,8 @@ pub fn tell(f: Refusal) -> Told
             to: i,
             table: 0,
         },
-        Refusal::Repeated(number, from, to) => Told {
-            number,
+        Refusal::Repeated(what, from, to) => Told {
+            number: repeat_number(what),
             from,
             to,
             table: 0,
@@ -202,6 +202,22 @@ pub fn repeat_number(what: Repeat) -> u32
         Repeat::RepeatedStart => 25,
         Repeat::RepeatedActiontype => 26,
         Repeat::RepeatedEpp => 27,
+    }
+}
+
+// The repeat that has this number, which a row of table 10 holds.
+pub fn repeat_of(number: u32) -> Repeat
+    ensures { λ r. ⌜ r ≡ repeatOf number ⌝ }
+{
+    match number {
+        20 => Repeat::RepeatedPrecedence,
+        21 => Repeat::RepeatedAvoidInsert,
+        22 => Repeat::RepeatedImplicitTokens,
+        23 => Repeat::RepeatedExpect,
+        24 => Repeat::RepeatedExpectRr,
+        25 => Repeat::RepeatedStart,
+        26 => Repeat::RepeatedActiontype,
+        _ => Repeat::RepeatedEpp,
     }
 }
 
@@ -254,9 +270,21 @@ pub fn with_count(s: State, k: u8, n: u32) -> State
     s
 }
 
-// A row is added to table `k + 1`, or 42 with the row's place.
-pub fn push(s: State, k: u8, row: &[u32], from: u32, to: u32, t: &mut [u32]) -> Step
-    ensures is { λ r. ⌜ _≡_ {A = Out1} (record { answer = r .answer; state = r .state; a = now (t .exit) }) (pushRow s k (now (row .entry)) from to (now (t .entry))) ⌝ }
+// No room for this row of table `k + 1`.
+pub fn no_room(k: u8, row: &[u32]) -> Refusal
+    ensures { λ r. ⌜ r ≡ noRoom k (now (row .entry)) ⌝ }
+{
+    let p = tables::row_place(k);
+    Refusal::NoRoom(
+        k as u32 + 1,
+        tables::cell_in_row(row, p),
+        tables::cell_in_row(row, p + 1),
+    )
+}
+
+// A row is added to table `k + 1`, or there is no room for it.
+pub fn push(s: State, k: u8, row: &[u32], t: &mut [u32]) -> Step
+    ensures is { λ r. ⌜ _≡_ {A = Out1} (record { answer = r .answer; state = r .state; a = now (t .exit) }) (pushRow s k (now (row .entry)) (now (t .entry))) ⌝ }
     ensures kept { λ r. ⌜ r .state .at ≡ s .at ⌝ }
 {
     let n = count_of(s, k);
@@ -267,7 +295,7 @@ pub fn push(s: State, k: u8, row: &[u32], from: u32, to: u32, t: &mut [u32]) -> 
         }
     } else {
         Step {
-            answer: Answer::Refused(Refusal::NoRoom(k as u32 + 1, from, to)),
+            answer: Answer::Refused(no_room(k, row)),
             state: s,
         }
     }
@@ -279,7 +307,7 @@ pub fn list_repeat(s: State, what: Repeat, a: u32, b: u32, c: u32, d: u32, t: &m
     ensures kept { λ r. ⌜ r .state .at ≡ s .at ⌝ }
 {
     let row = [repeat_number(what), a, b, c, d];
-    push(s, tables::REPEATS, &row, c, d, t)
+    push(s, tables::REPEATS, &row, t)
 }
 
 // A token is entered into table 1.
@@ -293,10 +321,13 @@ pub fn enter(src: &[u8], s: State, from: u32, to: u32, declared: bool, t: &mut [
             answer: Answer::Going,
             state: with_count(s, tables::TOKENS, m),
         },
-        Entered::Full => Step {
-            answer: Answer::Refused(Refusal::NoRoom(tables::TOKENS as u32 + 1, from, to)),
-            state: s,
-        },
+        Entered::Full => {
+            let row = [from, to, 0];
+            Step {
+                answer: Answer::Refused(no_room(tables::TOKENS, &row)),
+                state: s,
+            }
+        }
     }
 }
 
@@ -356,33 +387,34 @@ pub fn pass_on(src: &[u8], r: Step, j: usize, line: bool) -> Step
     }
 }
 
-// What may be given once to a name: a row of table `k + 1`, `w` wide, whose name is at `name`; or a repeat of the row that has the name from `from` to `to`.
-// Rows and repeats have the place from `a` to `b`.
+// What may be given once to a name: a row of table `k + 1`, `w` wide, whose name is at `name`; or a repeat of the row that has this row's name.
 pub fn once(
     src: &[u8],
     s: State,
     k: u8,
     w: u32,
     name: u8,
-    from: u32,
-    to: u32,
     what: Repeat,
-    a: u32,
-    b: u32,
     row: &[u32],
     t: &mut [u32],
     t10: &mut [u32],
 ) -> Step
-    ensures is { λ r. ⌜ _≡_ {A = Out2} (record { answer = r .answer; state = r .state; a = now (t .exit); b = now (t10 .exit) }) (onceStep (now (src .entry)) s k w name from to what a b (now (row .entry)) (now (t .entry)) (now (t10 .entry))) ⌝ }
+    ensures is { λ r. ⌜ _≡_ {A = Out2} (record { answer = r .answer; state = r .state; a = now (t .exit); b = now (t10 .exit) }) (onceStep (now (src .entry)) s k w name what (now (row .entry)) (now (t .entry)) (now (t10 .entry))) ⌝ }
     ensures kept { λ r. ⌜ r .state .at ≡ s .at ⌝ }
 {
     let n = count_of(s, k);
+    let first = name as u32;
+    let from = tables::cell_in_row(row, first);
+    let to = tables::cell_in_row(row, first + 1);
     match tables::find(src, t, w, name, n, from, to) {
         Found::RowAt(r) => {
-            let c = tables::cell(t, w, r, 0);
-            let d = tables::cell(t, w, r, 1);
-            list_repeat(s, what, c, d, a, b, t10)
+            let p = tables::row_place(k);
+            let a = tables::cell(t, w, r, p);
+            let b = tables::cell(t, w, r, p + 1);
+            let c = tables::cell_in_row(row, p);
+            let d = tables::cell_in_row(row, p + 1);
+            list_repeat(s, what, a, b, c, d, t10)
         }
-        Found::NoRow => push(s, k, row, a, b, t),
+        Found::NoRow => push(s, k, row, t),
     }
 }

@@ -1,17 +1,13 @@
 -- Document 01, "Readings to be ruled out": "A dotted rule name accepted in a production." Assumes nothing.
-use Prim.Native.Nat.{ℕ, _+_, _≤_, _<_}
+use Prim.Native.Nat.{ℕ, _≤_, _<_}
 use mathlib.Core.Path.{_≡_, refl}
 use mathlib.Core.List.{List}
-use mathlib.Core.Bool.{Bool, false, false≢true}
-use native.Mathlib.Omega.{arith}
-use native.Mathlib.Decide.{ℕ-discrete}
+use mathlib.Core.Bool.{false}
 use lib.ListN.{getD}
-use Rattle.scan.specs.declared.Class.the-variants.{TokenStart, TokenByte}
-use Rattle.scan.specs.Scan.{isLetter, isDigit, inClass}
 use Rattle.words.specs.declared.Token.{Token}
 use Rattle.words.specs.declared.Token.the-variants.{Found, NoToken}
-use Rattle.words.specs.Words.{isQuote, tokenAt, IsWord}
-use Rattle.words.proofs.Meaning.{bare-is}
+use Rattle.words.specs.Words.{isQuote, tokenAt}
+use Rattle.words.proofs.Meaning.{bare-is, no-dot}
 use Rattle.grammar.specs.declared.State.{State}
 use Rattle.grammar.specs.declared.Cause.the-variants.{IllegalString}
 use Rattle.grammar.specs.declared.Refusal.{Refusal}
@@ -19,15 +15,6 @@ use Rattle.grammar.specs.declared.Refusal.the-variants.{Fault}
 use Rattle.grammar.specs.declared.Answer.the-variants.{Refused}
 use Rattle.productions.specs.declared.Production.{Production}
 use Rattle.items.specs.Items.{bareFound, bareItem}
-
--- no byte of a bare token is a dot
-no-dot : (src : List ℕ) (from to i : ℕ) → IsWord TokenStart TokenByte src from to → from ≤ i → i < to → getD src i 0 ≡ 46 → ⊥
-unfolding inClass isLetter isDigit
-no-dot src from to i w h l e =
-    elim (ℕ-discrete i from) [
-      | yes q ↦ false≢true (rw (← q, e) at (w .begins))
-      | no q ↦ false≢true (rw e at (w .goes-on .each i (omega arith) l))
-    ]
 
 -- A bare symbol that is not refused has no dot, from where it was sought up to its end, which is the drafted production's end.
 pub bare-plain : (src : List ℕ) (s : State) (d : Production) (t1 t9 : List ℕ) → isQuote (getD src (s .at) 0) ≡ false

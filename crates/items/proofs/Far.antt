@@ -23,7 +23,7 @@ use Rattle.tables.specs.declared.Found.{Found as Row}
 use Rattle.tables.specs.declared.Found.the-variants.{RowAt, NoRow}
 use Rattle.tables.specs.declared.Entered.{Entered}
 use Rattle.tables.specs.declared.Entered.the-variants.{Rows, Full}
-use Rattle.tables.specs.Table.{Added, addRow, enterToken, cell, findName}
+use Rattle.tables.specs.Table.{Added, addRow, flag, enterToken, cell, findName}
 use Rattle.tables.specs.Layout.{tokens, rules, productions, symbols, declared, width}
 use Rattle.tables.proofs.Cases.{add-cases}
 use Rattle.grammar.specs.declared.State.{State}
@@ -32,7 +32,7 @@ use Rattle.grammar.specs.declared.Answer.{Answer}
 use Rattle.grammar.specs.declared.Answer.the-variants.{Going, Done, Refused}
 use Rattle.grammar.specs.declared.Gap.{Gap}
 use Rattle.grammar.specs.declared.Gap.the-variants.{GapTo, GapRefused}
-use Rattle.grammar.specs.Cells.{kindCells}
+use Rattle.grammar.specs.Cells.{kindCells, tokenCells}
 use Rattle.grammar.specs.State.{Out1, Out2, Passed, Onward, count, withAt, gapAt, Gapped, pushed, pushRow, entered, enterStep, past, pastGap, passOn}
 use Rattle.grammar.specs.Sound.{Tables, setTab, Given, GivenAction, Far}
 use Rattle.grammar.proofs.Far.{far-at, far-production}
@@ -96,11 +96,11 @@ going-undone e = let z : _≡_ {A = ℕ} 0 1 = cc in omega arith
 refused-undone : (f : Refusal) → Refused f ≡ Done → ⊥
 refused-undone f e = let z : _≡_ {A = ℕ} 0 1 = cc in omega arith
 
-quiet-push : (s : State) (k : ℕ) (row : List ℕ) (a b : ℕ) (t : List ℕ) → (rules ≡ k → ⊥) → Quiet s (pushRow s k row a b t .answer) (pushRow s k row a b t .state)
+quiet-push : (s : State) (k : ℕ) (row : List ℕ) (t : List ℕ) → (rules ≡ k → ⊥) → Quiet s (pushRow s k row t .answer) (pushRow s k row t .state)
 unfolding pushRow
-quiet-push s k row a b t h = go (addRow (count s k) row t .ok) (addRow (count s k) row t .cells)
+quiet-push s k row t h = go (addRow (count s k) row t .ok) (addRow (count s k) row t .cells)
   where
-    go : (q : Bool) (x : List ℕ) → Quiet s (pushed q s k a b x .answer) (pushed q s k a b x .state)
+    go : (q : Bool) (x : List ℕ) → Quiet s (pushed q s k row x .answer) (pushed q s k row x .state)
     go true x = record { rules = getD-set-other (s .counts .n) k rules (count s k + 1) 0 h; undone = going-undone }
     go false x = record { rules = refl; undone = refused-undone _ }
 
@@ -108,7 +108,7 @@ quiet-enter : (src : List ℕ) (s : State) (a b : ℕ) (d : Bool) (t : List ℕ)
 unfolding enterStep
 quiet-enter src s a b d t = go (enterToken src (count s tokens) a b d t .entered) (enterToken src (count s tokens) a b d t .cells)
   where
-    go : (q : Entered) (x : List ℕ) → Quiet s (entered q s a b x .answer) (entered q s a b x .state)
+    go : (q : Entered) (x : List ℕ) → Quiet s (entered q s (tokenCells a b (flag d)) x .answer) (entered q s (tokenCells a b (flag d)) x .state)
     go (Rows m) x = record { rules = getD-set-other (s .counts .n) tokens rules m 0 (λ e. omega arith); undone = going-undone }
     go Full x = record { rules = refl; undone = refused-undone _ }
 
@@ -186,8 +186,8 @@ pub record Rowed (src : List ℕ) (done : ℕ) (T : Tables) (s : State) (o : Out
   pub held : Held2 src done T tokens symbols s o
   pub quiet : Quiet s (o .answer) (o .state)
 
-symbol-held : {src : List ℕ} {done : ℕ} {s : State} {T : Tables} → Far src done s T → (kind from to : ℕ) → 1 ≤ kind → kind ≤ 2 → Passed src from to → Held src done T symbols s (pushRow s symbols (kindCells kind from to) from to (T .t9))
-symbol-held f kind from to l m p = push-held f symbols (omega arith) (λ e. omega arith) (kindCells kind from to) from to refl (record { least = l; most = m; name = p }) (λ r l. tt)
+symbol-held : {src : List ℕ} {done : ℕ} {s : State} {T : Tables} → Far src done s T → (kind from to : ℕ) → 1 ≤ kind → kind ≤ 2 → Passed src from to → Held src done T symbols s (pushRow s symbols (kindCells kind from to) (T .t9))
+symbol-held f kind from to l m p = push-held f symbols (omega arith) (λ e. omega arith) (kindCells kind from to) refl (record { least = l; most = m; name = p }) (λ r l. tt)
 
 pub token-symbol-far : {src : List ℕ} {done : ℕ} {s : State} {T : Tables} → Far src done s T → (from to : ℕ) → Passed src from to → Rowed src done T s (tokenSymbol src s from to (T .t1) (T .t9))
 unfolding tokenSymbol
@@ -198,7 +198,7 @@ token-symbol-far {src} {done} {s} {T} f from to p =
     go : (a : Answer) (o : Out1) → Held src done T tokens s o → count (o .state) rules ≡ count s rules → (a ≡ Done → ⊥) → Rowed src done T s (symbolEntered a o from to (T .t9))
     go Going o x q h =
         let y = symbol-held (x .far) 2 from to (omega arith) (omega arith) p in
-        let z = quiet-push (o .state) symbols (kindCells 2 from to) from to (T .t9) (λ e. omega arith) in
+        let z = quiet-push (o .state) symbols (kindCells 2 from to) (T .t9) (λ e. omega arith) in
         record { held = record { far = y .far; stays = y .stays ∙ x .stays; level = y .level ∙ x .level }; quiet = record { rules = z .rules ∙ q; undone = z .undone } }
     go Done o x q h = absurd (h refl)
     go (Refused e) o x q h = record { held = record { far = x .far; stays = x .stays; level = x .level }; quiet = record { rules = q; undone = refused-undone e } }
@@ -285,10 +285,10 @@ module _ {src : List ℕ} {done : ℕ} {s : State} {T : Tables} {d : Production}
           let c = y .2 in
           let z : Passed src (p .from) (p .to) = record { onward = omega arith; inside = omega arith } in
           let k = symbolKind src (count s tokens) (T .t1) (p .from) (p .to) in
-          let e = pushRow s symbols (kindCells k (p .from) (p .to)) (p .from) (p .to) (T .t9) in
+          let e = pushRow s symbols (kindCells k (p .from) (p .to)) (T .t9) in
           let r = kind-listed src (count s tokens) (T .t1) (p .from) (p .to) in
           let w = symbol-held f k (p .from) (p .to) (r .0) (r .1) z in
-          item-sooner (s .at + 1) (omega arith) (item-behind end (e .answer) (e .state) (w .far) (w .stays) (quiet-push s symbols (kindCells k (p .from) (p .to)) (p .from) (p .to) (T .t9) (λ e. omega arith)) (draft-to x end (omega arith) (y .3)) (omega arith) (y .3))
+          item-sooner (s .at + 1) (omega arith) (item-behind end (e .answer) (e .state) (w .far) (w .stays) (quiet-push s symbols (kindCells k (p .from) (p .to)) (T .t9) (λ e. omega arith)) (draft-to x end (omega arith) (y .3)) (omega arith) (y .3))
       go (NoToken k) y = item-refused (s .at + 1) _ f x
 
 -- the steps above from another state, or on a draft that took their part in
@@ -339,7 +339,7 @@ pub record Joined (src : List ℕ) (T : Tables) (s : State) (o : Out1) : Type 0 
 pub end-production-far : {src : List ℕ} {done : ℕ} {s : State} {T : Tables} {d : Production} → Far src done s T → Draft src done s d → Joined src T s (endProduction s d (T .t8))
 unfolding endProduction pushProduction pushRow
 end-production-far {src} {done} {s} {T} {d} f x =
-    add-cases (λ (o : Added). Joined src T s (pushed (o .ok) s productions (d .from) (d .to) (o .cells))) (count s productions) row (T .t8)
+    add-cases (λ (o : Added). Joined src T s (pushed (o .ok) s productions row (o .cells))) (count s productions) row (T .t8)
     (λ room low.
     record {
       done = count s symbols;

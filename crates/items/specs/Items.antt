@@ -161,7 +161,7 @@ refused2 f s d a b = record { answer = Refused f; state = s; draft = d; a = a; b
 
 -- "A quoted symbol is a token and joins table 1": its row there comes before that of table 9
 abbrev pub symbolEntered : Answer → Out1 → ℕ → ℕ → List ℕ → Out2
-symbolEntered Going o from to t9 = second2 (o .a) (pushRow (o .state) symbols (kindCells 2 from to) from to t9)
+symbolEntered Going o from to t9 = second2 (o .a) (pushRow (o .state) symbols (kindCells 2 from to) t9)
 symbolEntered Done o from to t9 = record { answer = Done; state = o .state; a = o .a; b = t9 }
 symbolEntered (Refused f) o from to t9 = record { answer = Refused f; state = o .state; a = o .a; b = t9 }
 
@@ -252,7 +252,7 @@ symbolKind src n t1 from to = kindFound (findName src (width tokens) 0 n t1 from
 -- a bare symbol's row comes before its spacing
 abbrev pub bareFound : Token → List ℕ → State → Production → List ℕ → List ℕ → Made1
 bareFound (Found p end q) src s d t1 t9 =
-    nameEntered src end (pushRow s symbols (kindCells (symbolKind src (count s tokens) t1 (p .from) (p .to)) (p .from) (p .to)) (p .from) (p .to) t9) (withTo d end)
+    nameEntered src end (pushRow s symbols (kindCells (symbolKind src (count s tokens) t1 (p .from) (p .to)) (p .from) (p .to)) t9) (withTo d end)
 bareFound (NoToken k) src s d t1 t9 = refused1 (Fault IllegalString k) s d t9
 
 unfoldable pub bareItem : List ℕ → State → Production → List ℕ → List ℕ → Made1

@@ -155,7 +155,7 @@ pub fn token_symbol(
     match a {
         Answer::Going => {
             let row = [2, from, to];
-            grammar::push(next, tables::SYMBOLS, &row, from, to, t9)
+            grammar::push(next, tables::SYMBOLS, &row, t9)
         }
         Answer::Done => Step {
             answer: Answer::Done,
@@ -400,7 +400,7 @@ pub fn bare_item(src: &[u8], s: State, d: Production, t1: &[u32], t9: &mut [u32]
             let to = p.to as u32;
             let kind = symbol_kind(src, grammar::count_of(s, tables::TOKENS), t1, from, to);
             let row = [kind, from, to];
-            let r = grammar::push(s, tables::SYMBOLS, &row, from, to, t9);
+            let r = grammar::push(s, tables::SYMBOLS, &row, t9);
             let q = grammar::pass_on(src, r, end, false);
             let mut made = d;
             made.to = end as u32;

@@ -1,6 +1,6 @@
 -- `%avoid_insert` and `%implicit_tokens`: their tokens are entered undeclared and mark nothing, the rows of table 3 or 4 are those of the words, and the list is a
 -- line that ends with a line end, not with the source. Assumes nothing.
-use Prim.Native.Nat.{ℕ, suc, _≤_, _<_}
+use Prim.Native.Nat.{ℕ, suc, _+_, _≤_, _<_}
 use mathlib.Core.Path.{_≡_, refl, sym, ap}
 use mathlib.Core.List.{List, [], _∷_}
 use mathlib.Core.Bool.{Bool, true, false}
@@ -26,17 +26,13 @@ use Rattle.grammar.specs.declared.Refusal.{Refusal}
 use Rattle.grammar.specs.declared.Repeat.{Repeat}
 use Rattle.grammar.specs.declared.Gap.{Gap}
 use Rattle.grammar.specs.declared.Gap.the-variants.{GapTo, GapRefused}
-use Rattle.grammar.specs.Cells.{tokenCells, nameCells}
+use Rattle.grammar.specs.Cells.{nameCells}
 use Rattle.grammar.specs.State.{Out0, Out1, Out2, Out3, Passed, count, withAt, gapOf, gapAt, enterStep, onceStep, passOn, tied3, first2}
 use Rattle.lines.specs.Line.{LineWord, Line, last, word, LineAt}
+use Rattle.lines.specs.Grown.{Grown, Has, Written, NameTable, third, fourth, undeclared, tokenRow, nameRow}
 use Rattle.lines.specs.Avoided.{avoidEntered, avoidNamed, avoidFound, avoidItem, avoidEnd, avoidTurn, avoidList, avoidFrom, avoidDecl}
-use Rattle.lines.proofs.Far.{NameTable, third, fourth}
 use Rattle.lines.proofs.Line.{word-placed, gap-placed, line-at-one}
-use Rattle.lines.proofs.Grown.{Grown, grown-none, grown-then, grown-map, grown-as, Has, has-on, Written, written-none, written-more, Noted, once-noted, enter-noted, past-cases, Stands, before, Nears, turns-run}
-
--- "avoid and implicit lists add theirs, undeclared"
-abbrev pub undeclared : List ℕ → Type 0
-undeclared x = getD x declared 0 ≡ 0
+use Rattle.lines.proofs.Grown.{grown-none, grown-then, grown-map, grown-as, has-on, written-none, written-more, Noted, once-noted, enter-noted, past-cases, Stands, before, Nears, turns-run}
 
 -- What a step leaves of table 1 and table k, whatever its answer: rows before stay, a new token is undeclared, and a new row of table k names a token of table 1.
 pub record Kept (src : List ℕ) (k : ℕ) (s : State) (t1 t : List ℕ) (u : State) (a b : List ℕ) : Type 0 where
@@ -55,20 +51,13 @@ kept-at : {src : List ℕ} {k : ℕ} {s u : State} {t1 t a b : List ℕ} (i : �
 kept-at i x = record { ten = x .ten; entered = x .entered; named = x .named }
 
 -- both are tables of names, neither table 1 nor table 10
-low : {k : ℕ} → NameTable k → k < repeats
+pub low : {k : ℕ} → NameTable k → k < repeats
 low third = omega arith
 low fourth = omega arith
 
-not-first : {k : ℕ} → NameTable k → k ≡ tokens → ⊥
+pub not-first : {k : ℕ} → NameTable k → k ≡ tokens → ⊥
 not-first third e = omega arith
 not-first fourth e = omega arith
-
--- the rows of a token, in table 1 and in table k
-abbrev pub tokenRow : Place → List ℕ
-tokenRow p = tokenCells (p .from) (p .to) 0
-
-abbrev pub nameRow : Place → List ℕ
-nameRow p = nameCells (p .from) (p .to)
 
 -- a token entered, and then given to table k
 abbrev Entered : List ℕ → State → List ℕ → List ℕ → Place → Out1 → Type 0
@@ -112,7 +101,7 @@ module _ (src : List ℕ) (k : ℕ) (nt : NameTable k) (s : State) (what : Repea
 
       then : (p : Place) (end : ℕ) (quoted : Bool) → tokenAt src (s .at) ≡ Found p end quoted → (v : Out1) → Entered src s t1 t p v → (a : Answer) → v .answer ≡ a → C (avoidEntered a v src k what (p .from) (p .to) end t t10)
       then p end quoted e v x Going q =
-          let o = onceStep src (v .state) k (width avoided) 0 (p .from) (p .to) what (p .from) (p .to) (nameCells (p .from) (p .to)) t t10 in
+          let o = onceStep src (v .state) k (width avoided) 0 what (nameCells (p .from) (p .to)) t t10 in
           behind p end quoted e v x q o (once-noted src (v .state) (x .ten) k (low nt) (nameCells (p .from) (p .to)) (p .from) (p .to) (omega arith) t (inside p end quoted e) refl refl what t10) (o .answer) refl
       then p end quoted e v x Done q = absurd (x .undone q)
       then p end quoted e v x (Refused r) q = h r (v .state) (v .a) t t10 (entered-kept src k nt s t1 t p v x)
@@ -174,11 +163,17 @@ module _ (src : List ℕ) (k : ℕ) (nt : NameTable k) (what : Repeat) where
     first-row : Grown (λ z. z ≡ tokenRow p) (width tokens) (count (o .state) tokens) (o .a) (count (u .state) tokens) (v .a)
     first-row = grown-as refl (sym (first-count src k nt (o .state) (o .a) (o .b) p v x g u y)) (x .rows)
 
+    first-one : count (u .state) tokens ≤ count (o .state) tokens + 1
+    first-one = rw (first-count src k nt (o .state) (o .a) (o .b) p v x g u y) (x .one)
+
     first-has : Has src (width tokens) (count (u .state) tokens) (v .a) (p .from) (p .to)
     first-has = rw (first-count src k nt (o .state) (o .a) (o .b) p v x g u y) (x .has g)
 
     own-row : Grown (λ z. z ≡ nameRow p) (width avoided) (count (o .state) k) (o .b) (count (u .state) k) (u .a)
     own-row = grown-as (x .others k (not-first nt) (λ e. let l = low nt in omega arith)) refl (y .rows)
+
+    own-one : count (u .state) k ≤ count (o .state) k + 1
+    own-one = rw (← x .others k (not-first nt) (λ e. let l = low nt in omega arith)) (y .one)
 
     going : spacesAt true src end ≡ To i 0 → At behind × (left behind < left o) × ((z : Out3) → Reads behind z → Reads o z)
     going c =
@@ -193,12 +188,12 @@ module _ (src : List ℕ) (k : ℕ) (nt : NameTable k) (what : Repeat) where
               counted = r .counted;
               some = r .some;
               line = word e c (r .line);
-              entered = written-more here (r .words) first-row first-has (r .entered);
-              named = written-more here (r .words) own-row (y .has h) (r .named);
+              entered = written-more here (r .words) first-row first-one first-has (r .entered);
+              named = written-more here (r .words) own-row own-one (y .has h) (r .named);
             }
 
     done : (n : ℕ) → spacesAt true src end ≡ To i n → 0 < n → Read src k o behind
-    done n c d = record { words = here ∷ []; counted = n; some = d; line = last e c d; entered = written-more here [] first-row first-has written-none; named = written-more here [] own-row (y .has h) written-none }
+    done n c d = record { words = here ∷ []; counted = n; some = d; line = last e c d; entered = written-more here [] first-row first-one first-has written-none; named = written-more here [] own-row own-one (y .has h) written-none }
 
   turn-reads : (o : Out3) → At o → Nears At left Reads o (avoidTurn src k what o)
   unfolding avoidTurn

@@ -2,13 +2,12 @@
 use Prim.Native.Nat.{ℕ, _+_, _≤_, _<_}
 use mathlib.Core.Path.{_≡_, ap}
 use mathlib.Core.List.{List}
-use mathlib.Core.Bool.{Bool, true, false}
+use mathlib.Core.Bool.{Bool, false}
 use native.Mathlib.Omega.{arith}
 use lib.ListN.{length, getD}
 use Rattle.scan.specs.declared.Place.{Place}
 use Rattle.scan.proofs.Bytes.{told}
-use Rattle.spacing.specs.declared.Spaced.the-variants.{To}
-use Rattle.spacing.specs.Spacing.{spacesAt, Spaces}
+use Rattle.spacing.specs.Spacing.{Spaces}
 use Rattle.spacing.proofs.Places.{spaces}
 use Rattle.words.specs.declared.Token.the-variants.{Found}
 use Rattle.words.specs.Words.{tokenAt}
@@ -18,28 +17,11 @@ use Rattle.grammar.specs.declared.State.{State}
 use Rattle.grammar.specs.declared.Answer.the-variants.{Going}
 use Rattle.grammar.specs.State.{Out2, count, withAt}
 use Rattle.grammar.proofs.Steps.{level-up}
-use Rattle.lines.specs.Line.{LineWord, In, LineAt}
+use Rattle.lines.specs.Line.{LineAt}
+use Rattle.lines.specs.Grown.{Grown, RowOf, precRow, RowFrom, TwoLists}
 use Rattle.lines.specs.Precedences.{precDecl}
-use Rattle.lines.proofs.Levels.{levelAt}
 use Rattle.lines.proofs.Line.{word-placed, words-inside, counted-last}
-use Rattle.lines.proofs.Grown.{Grown, RowOf}
-use Rattle.lines.proofs.Read.{precRow, RowFrom, line-kept, line-words, line-level, line-ten, line-rows}
-
--- Two lists: the first stands behind a keyword that ends at the index at₁, with the association a, and is read from s₀ to s₁; the second stands behind one that
--- ends at at₂, with b, and ends in s₂, whatever its answer. Table 2 behind both is t.
-pub record TwoLists (src : List ℕ) (at₁ a at₂ b : ℕ) (s₀ s₁ s₂ : State) (t : List ℕ) : Type 0 where
-  -- the first is a line as it stands in the source,
-  pub line : LineAt src at₁ (s₁ .at)
-  -- and where a line end is counted behind a word of it, it is at its end;
-  pub stops : (w : LineWord) → In w (line .words) → (k n : ℕ) → spacesAt true src (w .end) ≡ To k n → 0 < n → k ≡ s₁ .at
-  -- its rows are rows of its words, with its level and association,
-  pub first : (r : ℕ) → count s₀ precedences ≤ r → r < count s₁ precedences → RowOf (precRow (s₀ .level) a) (line .words) (rowAt (width precedences) t r)
-  -- and not of a token that stands behind it;
-  pub behind : (r : ℕ) → count s₀ precedences ≤ r → r < count s₁ precedences → (i : ℕ) → s₁ .at ≤ i → (p : Place) (end : ℕ) (quoted : Bool) → tokenAt src i ≡ Found p end quoted → getD (rowAt (width precedences) t r) 0 0 < p .from
-  -- the rows of the second are rows of tokens behind its keyword, with the next level and its association,
-  pub second : (r : ℕ) → count s₁ precedences ≤ r → r < count s₂ precedences → RowFrom src (s₀ .level + 1) b at₂ (rowAt (width precedences) t r)
-  -- so no row of the one has the level of a row of the other.
-  pub levels : (q r : ℕ) → count s₀ precedences ≤ q → q < count s₁ precedences → count s₁ precedences ≤ r → r < count s₂ precedences → levelAt t q < levelAt t r
+use Rattle.lines.proofs.Read.{line-kept, line-words, line-level, line-ten, line-rows}
 
 module _ (src : List ℕ) (s : State) (a : ℕ) (t2 t10 : List ℕ) (here : s .at ≤ length src) (ten : length (s .counts .n) ≡ 10) (low : s .level < 4294967295) (g : precDecl src s a t2 t10 .answer ≡ Going) where
   abbrev one : Out2

@@ -30,6 +30,7 @@ use Rattle.grammar.proofs.Far.{far-at, far-level}
 use Rattle.grammar.proofs.Kept.{gapped, Far2, Far3, Held, Held2, enter-held, once-held, behind2-far, pass-level}
 use Rattle.lines.specs.Precedences.{precFound, precItem, lineEnd, afterEnd, precTurn, precList, precDecl}
 use Rattle.lines.proofs.Cases.{prec-cases}
+use Rattle.lines.specs.Grown.{NameTable, third, fourth}
 use Rattle.lines.specs.Avoided.{avoidEntered, avoidNamed, avoidFound, avoidItem, avoidEnd, avoidTurn, avoidList, avoidFrom, avoidDecl}
 
 -- a precedence line under way: sound so far, and the line's level is below the next one
@@ -56,7 +57,7 @@ module _ {src : List ℕ} {done : ℕ} {s : State} {T : Tables} (f : Far src don
           let g = x .3 in
           let z : Passed src (p .from) (p .to) = record { onward = omega arith; inside = omega arith } in
           behind end _ (omega arith) g
-          (once-held f precedences (omega arith) (λ z. omega arith) 0 (p .from) (p .to) RepeatedPrecedence (p .from) (p .to) (precedenceCells (p .from) (p .to) lev assoc) refl (record { name = z; earlier = low; least = a; most = b }) (λ r l. tt) first z)
+          (once-held f precedences (omega arith) (λ z. omega arith) 0 RepeatedPrecedence (precedenceCells (p .from) (p .to) lev assoc) refl (record { name = z; earlier = low; least = a; most = b }) (λ r l. tt) first z)
       go (NoToken k) x = record { far = f; low = low }
 
 module _ (src : List ℕ) (done : ℕ) (T : Tables) (lev assoc : ℕ) (a : 1 ≤ assoc) (b : assoc ≤ 3) where
@@ -88,16 +89,11 @@ prec-far {src} {done} {s} {T} assoc a b up f = prec-cases (Far2 src done T prece
         let g = far-level (far-at f i (omega arith) (x .1)) (nextLevel (s .level)) (omega arith) (omega arith) in
         turns-keep (LineFar src done T (s .level)) (precTurn src (s .level) assoc) (turn-far src done T (s .level) assoc a b) (suc (length src)) _ (record { far = g; low = omega arith }) .far
 
--- a name table: table 3 or table 4
-pub data NameTable : ℕ → Type 0 where
-  third : NameTable avoided
-  fourth : NameTable implicit
-
 module _ {src : List ℕ} {done : ℕ} {s : State} {T : Tables} (f : Far src done s T) where
   -- a token that was entered is given to table 3 or 4 once
-  given-held : (k : ℕ) → NameTable k → (what : Repeat) (from to : ℕ) → Passed src from to → Held2 src done T k repeats s (onceStep src s k (width avoided) 0 from to what from to (nameCells from to) (tab T k) (T .t10))
-  given-held k third what from to p = once-held f avoided (omega arith) (λ z. omega arith) 0 from to what from to (nameCells from to) refl (record { name = p }) (λ r l. tt) (λ r l. rw (← row-cell (width avoided) (T .t3) r 0 (omega arith), ← row-cell (width avoided) (T .t3) r 1 (omega arith)) (f .tables avoided .each r l .name)) p
-  given-held k fourth what from to p = once-held f implicit (omega arith) (λ z. omega arith) 0 from to what from to (nameCells from to) refl (record { name = p }) (λ r l. tt) (λ r l. rw (← row-cell (width implicit) (T .t4) r 0 (omega arith), ← row-cell (width implicit) (T .t4) r 1 (omega arith)) (f .tables implicit .each r l .name)) p
+  given-held : (k : ℕ) → NameTable k → (what : Repeat) (from to : ℕ) → Passed src from to → Held2 src done T k repeats s (onceStep src s k (width avoided) 0 what (nameCells from to) (tab T k) (T .t10))
+  given-held k third what from to p = once-held f avoided (omega arith) (λ z. omega arith) 0 what (nameCells from to) refl (record { name = p }) (λ r l. tt) (λ r l. rw (← row-cell (width avoided) (T .t3) r 0 (omega arith), ← row-cell (width avoided) (T .t3) r 1 (omega arith)) (f .tables avoided .each r l .name)) p
+  given-held k fourth what from to p = once-held f implicit (omega arith) (λ z. omega arith) 0 what (nameCells from to) refl (record { name = p }) (λ r l. tt) (λ r l. rw (← row-cell (width implicit) (T .t4) r 0 (omega arith), ← row-cell (width implicit) (T .t4) r 1 (omega arith)) (f .tables implicit .each r l .name)) p
 
 -- the second step, on the tables that the first left
 module _ {src : List ℕ} {done : ℕ} {s : State} {T : Tables} where

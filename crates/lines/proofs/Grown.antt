@@ -16,7 +16,7 @@ use Rattle.spacing.specs.declared.Spaced.{Spaced}
 use Rattle.spacing.specs.declared.Spaced.the-variants.{To, LineEnd, OpenComment}
 use Rattle.spacing.specs.Spacing.{spacesAt}
 use Rattle.tables.specs.declared.Found.{Found}
-use Rattle.tables.specs.Table.{Added, Inserted, put, cell, samePart, hasName}
+use Rattle.tables.specs.Table.{Added, Inserted, put, samePart, hasName}
 use Rattle.tables.specs.Rows.{rowAt}
 use Rattle.tables.specs.Layout.{tokens, repeats}
 use Rattle.tables.proofs.Rows.{row-cell, row-new, row-old}
@@ -29,12 +29,7 @@ use Rattle.grammar.specs.Cells.{tokenCells, repeatCells}
 use Rattle.grammar.specs.Refusals.{numberOfRepeat}
 use Rattle.grammar.specs.State.{Out0, Out2, Passed, count, withAt, withCount, gapOf, gapAt, pushed, pushRow, listRepeat, entered, enterStep, first2, second2, onceFound, onceStep, past, pastGap}
 use Rattle.lines.specs.Line.{LineWord, In}
-
--- n rows of t have become m rows of u: those before stay, and P holds of each new one
-pub record Grown (P : List ℕ → Type 0) (w n : ℕ) (t : List ℕ) (m : ℕ) (u : List ℕ) : Type 0 where
-  pub onward : n ≤ m
-  pub old : (r : ℕ) → r < n → rowAt w u r ≡ rowAt w t r
-  pub new : (r : ℕ) → n ≤ r → r < m → P (rowAt w u r)
+use Rattle.lines.specs.Grown.{Grown, Has, InOrder, Written}
 
 module _ {P : List ℕ → Type 0} {w n : ℕ} {t : List ℕ} where
   pub grown-none : Grown P w n t n t
@@ -61,42 +56,34 @@ pub grown-add : (n : ℕ) (row t : List ℕ) → n * length row + length row ≤
 grown-add n row t fits =
     record { onward = omega arith; old = row-old (length row) n row t refl fits; new = λ r h k. let e : r ≡ n = omega arith in rw e (row-new (length row) n row t refl fits) }
 
--- one of the n rows has the bytes from a to b
-pub record Has (src : List ℕ) (w n : ℕ) (t : List ℕ) (a b : ℕ) : Type 0 where
-  pub row : ℕ
-  pub inside : row < n
-  pub same : samePart src (getD (rowAt w t row) 0 0) (getD (rowAt w t row) 1 0) a b ≡ true
-
--- and goes on having them
+-- a row that has some bytes goes on having them
 pub has-on : {P : List ℕ → Type 0} {src : List ℕ} {w n : ℕ} {t : List ℕ} {a b m : ℕ} {u : List ℕ} → Has src w n t a b → Grown P w n t m u → Has src w m u a b
 has-on h x =
     let l = h .inside in
     let g = x .onward in
     record { row = h .row; inside = omega arith; same = rw (x .old (h .row) l) (h .same) }
 
--- the row of one of the words
-pub record RowOf (cells : Place → List ℕ) (ws : List LineWord) (x : List ℕ) : Type 0 where
-  pub word : LineWord
-  pub listed : In word ws
-  pub is : x ≡ cells (word .place)
-
--- n rows of t have become m rows of u by the words of a line: those before stay, each new one is a row of a word, and each word has a row
-pub record Written (src : List ℕ) (cells : Place → List ℕ) (w : ℕ) (ws : List LineWord) (n : ℕ) (t : List ℕ) (m : ℕ) (u : List ℕ) : Type 0 where
-  pub rows : Grown (RowOf cells ws) w n t m u
-  pub has : (v : LineWord) → In v ws → Has src w m u (v .place .from) (v .place .to)
-
 module _ {src : List ℕ} {cells : Place → List ℕ} {w n : ℕ} {t : List ℕ} where
   pub written-none : Written src cells w [] n t n t
-  written-none = record { rows = grown-none; has = λ v h. absurd h }
+  written-none = record { rows = grown-none; order = λ q r a b c. absurd (omega arith); has = λ v h. absurd h }
 
-  -- a word, then those behind it
-  pub written-more : {m l : ℕ} {u z : List ℕ} (v : LineWord) (ws : List LineWord) → Grown (λ x. x ≡ cells (v .place)) w n t m u → Has src w m u (v .place .from) (v .place .to) → Written src cells w ws m u l z → Written src cells w (v ∷ ws) n t l z
-  written-more {m} {l} {u} {z} v ws x h y =
+  -- a word, which has one new row at most, then those behind it
+  pub written-more : {m l : ℕ} {u z : List ℕ} (v : LineWord) (ws : List LineWord) → Grown (λ x. x ≡ cells (v .place)) w n t m u → m ≤ n + 1 → Has src w m u (v .place .from) (v .place .to) → Written src cells w ws m u l z → Written src cells w (v ∷ ws) n t l z
+  written-more {m} {l} {u} {z} v ws x one h y =
       record {
         rows = grown-then (grown-map (λ k e. record { word = v; listed = inl refl; is = e }) x) (grown-map (λ k e. record { word = e .word; listed = inr (e .listed); is = e .is }) (y .rows));
+        order = λ q r a b c. order q r a b c (decLt q m);
         has = all;
       }
     where
+      order : (q r : ℕ) → n ≤ q → q < r → r < l → Dec (q < m) → InOrder cells (v ∷ ws) (rowAt w z q) (rowAt w z r)
+      order q r a b c (yes d) =
+          let k = y .rows .new r (omega arith) c in
+          record { first = v; second = k .word; earlier = inl (refl, k .listed); is-first = y .rows .old q d ∙ x .new q a d; is-second = k .is }
+      order q r a b c (no d) =
+          let k = y .order q r (omega arith) b c in
+          record { first = k .first; second = k .second; earlier = inr (k .earlier); is-first = k .is-first; is-second = k .is-second }
+
       all : (b : LineWord) → In b (v ∷ ws) → Has src w l z (b .place .from) (b .place .to)
       all b (inl q) = rw q (has-on h (y .rows))
       all b (inr q) = y .has b q
@@ -105,14 +92,15 @@ module _ {src : List ℕ} {cells : Place → List ℕ} {w n : ℕ} {t : List ℕ
 self : (src : List ℕ) (a b : ℕ) → Passed src a b → samePart src a b a b ≡ true
 self src a b p = same-part-iff src a b a b .1 (p .onward, p .inside, p .onward, p .inside, refl)
 
--- What a name that is given to table k leaves: position and level, the counts of tables but that one and table 10, the rows before; if the reading goes on the
--- name has a row.
+-- What a name that is given to table k leaves: position and level, the counts of tables but that one and table 10, the rows before, with one more at most; if the
+-- reading goes on the name has a row.
 pub record Noted (src : List ℕ) (k : ℕ) (row : List ℕ) (a b : ℕ) (s : State) (t : List ℕ) (o : Out2) : Type 0 where
   pub stays : o .state .at ≡ s .at
   pub level : o .state .level ≡ s .level
   pub ten : length (o .state .counts .n) ≡ 10
   pub others : (j : ℕ) → (j ≡ k → ⊥) → (j ≡ repeats → ⊥) → count (o .state) j ≡ count s j
   pub rows : Grown (λ x. x ≡ row) (length row) (count s k) t (count (o .state) k) (o .a)
+  pub one : count (o .state) k ≤ count s k + 1
   pub undone : o .answer ≡ Done → ⊥
   pub has : o .answer ≡ Going → Has src (length row) (count (o .state) k) (o .a) a b
 
@@ -126,12 +114,12 @@ module _ (src : List ℕ) (s : State) (ten : length (s .counts .n) ≡ 10) (k : 
     new-row : {u : List ℕ} {m : ℕ} → count s k < m → Grown (λ x. x ≡ row) (length row) (count s k) t m u → Has src (length row) m u a b
     new-row h x = record { row = count s k; inside = h; same = rw (x .new (count s k) (omega arith) h, first, second) (self src a b p) }
 
-    push-noted : (t10 : List ℕ) → Noted src k row a b s t (first2 (pushRow s k row a b t) t10)
+    push-noted : (t10 : List ℕ) → Noted src k row a b s t (first2 (pushRow s k row t) t10)
     unfolding pushRow
     push-noted t10 =
-        add-cases (λ (o : Added). Noted src k row a b s t (first2 (pushed (o .ok) s k a b (o .cells)) t10)) (count s k) row t
-        (λ room less. record { stays = refl; level = refl; ten = length-set (s .counts .n) k (count s k + 1) ∙ ten; others = λ j c d. getD-set-other (s .counts .n) k j (count s k + 1) 0 c; rows = grown-as refl (sym more) (grown-add (count s k) row t room); undone = λ e. differ e; has = λ e. new-row (rw more (omega arith)) (grown-as refl (sym more) (grown-add (count s k) row t room)) })
-        (λ full. record { stays = refl; level = refl; ten = ten; others = λ j c d. refl; rows = grown-none; undone = λ e. let z : _≡_ {A = ℕ} 0 1 = cc in omega arith; has = λ e. let z : _≡_ {A = ℕ} 0 1 = cc in absurd (omega arith) })
+        add-cases (λ (o : Added). Noted src k row a b s t (first2 (pushed (o .ok) s k row (o .cells)) t10)) (count s k) row t
+        (λ room less. record { stays = refl; level = refl; ten = length-set (s .counts .n) k (count s k + 1) ∙ ten; others = λ j c d. getD-set-other (s .counts .n) k j (count s k + 1) 0 c; rows = grown-as refl (sym more) (grown-add (count s k) row t room); one = rw more (omega arith); undone = λ e. differ e; has = λ e. new-row (rw more (omega arith)) (grown-as refl (sym more) (grown-add (count s k) row t room)) })
+        (λ full. record { stays = refl; level = refl; ten = ten; others = λ j c d. refl; rows = grown-none; one = omega arith; undone = λ e. let z : _≡_ {A = ℕ} 0 1 = cc in omega arith; has = λ e. let z : _≡_ {A = ℕ} 0 1 = cc in absurd (omega arith) })
       where
         more : count (withCount s k (count s k + 1)) k ≡ count s k + 1
         more = getD-set-same (s .counts .n) k (count s k + 1) 0 (rw ten (omega arith))
@@ -139,32 +127,32 @@ module _ (src : List ℕ) (s : State) (ten : length (s .counts .n) ≡ 10) (k : 
         differ : Going ≡ Done → ⊥
         differ e = let z : _≡_ {A = ℕ} 0 1 = cc in omega arith
 
-    repeat-noted : (what : Repeat) (c d : ℕ) (t10 : List ℕ) → Has src (length row) (count s k) t a b → Noted src k row a b s t (second2 t (listRepeat s what c d a b t10))
+    repeat-noted : (what : Repeat) (c d e f : ℕ) (t10 : List ℕ) → Has src (length row) (count s k) t a b → Noted src k row a b s t (second2 t (listRepeat s what c d e f t10))
     unfolding listRepeat pushRow
-    repeat-noted what c d t10 h =
-        add-cases (λ (o : Added). Noted src k row a b s t (second2 t (pushed (o .ok) s repeats a b (o .cells)))) (count s repeats) (repeatCells (numberOfRepeat what) c d a b) t10
-        (λ room less. record { stays = refl; level = refl; ten = length-set (s .counts .n) repeats (count s repeats + 1) ∙ ten; others = λ j c d. other j d; rows = grown-as refl (sym (other k (λ e. omega arith))) grown-none; undone = λ e. let z : _≡_ {A = ℕ} 0 1 = cc in omega arith; has = λ e. rw (other k (λ e. omega arith)) h })
-        (λ full. record { stays = refl; level = refl; ten = ten; others = λ j c d. refl; rows = grown-none; undone = λ e. let z : _≡_ {A = ℕ} 0 1 = cc in omega arith; has = λ e. let z : _≡_ {A = ℕ} 0 1 = cc in absurd (omega arith) })
+    repeat-noted what c d e f t10 h =
+        add-cases (λ (o : Added). Noted src k row a b s t (second2 t (pushed (o .ok) s repeats (repeatCells (numberOfRepeat what) c d e f) (o .cells)))) (count s repeats) (repeatCells (numberOfRepeat what) c d e f) t10
+        (λ room less. record { stays = refl; level = refl; ten = length-set (s .counts .n) repeats (count s repeats + 1) ∙ ten; others = λ j c d. other j d; rows = grown-as refl (sym (other k (λ e. omega arith))) grown-none; one = rw (other k (λ e. omega arith)) (omega arith); undone = λ e. let z : _≡_ {A = ℕ} 0 1 = cc in omega arith; has = λ e. rw (other k (λ e. omega arith)) h })
+        (λ full. record { stays = refl; level = refl; ten = ten; others = λ j c d. refl; rows = grown-none; one = omega arith; undone = λ e. let z : _≡_ {A = ℕ} 0 1 = cc in omega arith; has = λ e. let z : _≡_ {A = ℕ} 0 1 = cc in absurd (omega arith) })
       where
         other : (j : ℕ) → (j ≡ repeats → ⊥) → count (withCount s repeats (count s repeats + 1)) j ≡ count s j
         other j d = getD-set-other (s .counts .n) repeats j (count s repeats + 1) 0 d
 
     -- what is given once to a name
-    pub once-noted : (what : Repeat) (t10 : List ℕ) → Noted src k row a b s t (onceStep src s k (length row) 0 a b what a b row t t10)
+    pub once-noted : (what : Repeat) (t10 : List ℕ) → Noted src k row a b s t (onceStep src s k (length row) 0 what row t t10)
     unfolding onceStep
     once-noted what t10 =
-        find-cases (λ (x : Found). Noted src k row a b s t (onceFound x s k (length row) what a b row t t10)) src (length row) 0 (count s k) t a b
-        (λ r l e none. repeat-noted what (cell (length row) t r 0) (cell (length row) t r 1) t10 (found-row r l e))
+        find-cases (λ (x : Found). Noted src k row a b s t (onceFound x s k (length row) what row t t10)) src (length row) 0 (count s k) t (getD row 0 0) (getD row 1 0)
+        (λ r l e none. repeat-noted what _ _ _ _ t10 (found-row r l (rw (first, second) at e)))
         (λ none. push-noted t10)
 
 -- a token that is entered undeclared: entering it marks nothing
 pub enter-noted : (src : List ℕ) (s : State) → length (s .counts .n) ≡ 10 → (a b : ℕ) (t t′ : List ℕ) → Passed src a b → Noted src tokens (tokenCells a b 0) a b s t (first2 (enterStep src s a b false t) t′)
 unfolding enterStep
 enter-noted src s ten a b t t′ p =
-    enter-cases (λ (o : Inserted). Noted src tokens (tokenCells a b 0) a b s t (first2 (entered (o .entered) s a b (o .cells)) t′)) src (count s tokens) a b false t
-    (λ r l e. record { stays = refl; level = refl; ten = length-set (s .counts .n) tokens (count s tokens) ∙ ten; others = λ j c d. other (count s tokens) j c; rows = grown-as refl (sym (same (count s tokens))) grown-none; undone = λ e. let z : _≡_ {A = ℕ} 0 1 = cc in omega arith; has = λ e′. rw (same (count s tokens)) (found-row src s ten tokens (omega arith) (tokenCells a b 0) a b (omega arith) t r l e) })
-    (λ none room low. record { stays = refl; level = refl; ten = length-set (s .counts .n) tokens (count s tokens + 1) ∙ ten; others = λ j c d. other (count s tokens + 1) j c; rows = grown-as refl (sym (same (count s tokens + 1))) (grown-add (count s tokens) (tokenCells a b 0) t room); undone = λ e. let z : _≡_ {A = ℕ} 0 1 = cc in omega arith; has = λ e. rw (same (count s tokens + 1)) (new-row src s ten tokens (omega arith) (tokenCells a b 0) a b (omega arith) t p refl refl (omega arith) (grown-add (count s tokens) (tokenCells a b 0) t room)) })
-    (λ none full. record { stays = refl; level = refl; ten = ten; others = λ j c d. refl; rows = grown-none; undone = λ e. let z : _≡_ {A = ℕ} 0 1 = cc in omega arith; has = λ e. let z : _≡_ {A = ℕ} 0 1 = cc in absurd (omega arith) })
+    enter-cases (λ (o : Inserted). Noted src tokens (tokenCells a b 0) a b s t (first2 (entered (o .entered) s (tokenCells a b 0) (o .cells)) t′)) src (count s tokens) a b false t
+    (λ r l e. record { stays = refl; level = refl; ten = length-set (s .counts .n) tokens (count s tokens) ∙ ten; others = λ j c d. other (count s tokens) j c; rows = grown-as refl (sym (same (count s tokens))) grown-none; one = rw (same (count s tokens)) (omega arith); undone = λ e. let z : _≡_ {A = ℕ} 0 1 = cc in omega arith; has = λ e′. rw (same (count s tokens)) (found-row src s ten tokens (omega arith) (tokenCells a b 0) a b (omega arith) t r l e) })
+    (λ none room low. record { stays = refl; level = refl; ten = length-set (s .counts .n) tokens (count s tokens + 1) ∙ ten; others = λ j c d. other (count s tokens + 1) j c; rows = grown-as refl (sym (same (count s tokens + 1))) (grown-add (count s tokens) (tokenCells a b 0) t room); one = rw (same (count s tokens + 1)) (omega arith); undone = λ e. let z : _≡_ {A = ℕ} 0 1 = cc in omega arith; has = λ e. rw (same (count s tokens + 1)) (new-row src s ten tokens (omega arith) (tokenCells a b 0) a b (omega arith) t p refl refl (omega arith) (grown-add (count s tokens) (tokenCells a b 0) t room)) })
+    (λ none full. record { stays = refl; level = refl; ten = ten; others = λ j c d. refl; rows = grown-none; one = omega arith; undone = λ e. let z : _≡_ {A = ℕ} 0 1 = cc in omega arith; has = λ e. let z : _≡_ {A = ℕ} 0 1 = cc in absurd (omega arith) })
   where
     other : (m j : ℕ) → (j ≡ tokens → ⊥) → count (withCount s tokens m) j ≡ count s j
     other m j c = getD-set-other (s .counts .n) tokens j m 0 c

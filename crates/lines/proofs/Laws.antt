@@ -35,7 +35,7 @@ item-moves src at before end after p b a r x e k o =
 -- a token of a precedence line
 module _ (src : List ℕ) (s : State) (level assoc : ℕ) (t2 t10 : List ℕ) (r : Token) (q : r ≡ tokenAt src (s .at)) where
   pub prec-found : (p : Place) (end : ℕ) (b : Bool) (o : Out2) (z : Out0) → r ≡ Found p end b
-      → o ≡ onceStep src s 1 4 0 (p .from) (p .to) RepeatedPrecedence (p .from) (p .to) (p .from ∷ p .to ∷ level ∷ assoc ∷ []) t2 t10
+      → o ≡ onceStep src s 1 4 0 RepeatedPrecedence (p .from ∷ p .to ∷ level ∷ assoc ∷ []) t2 t10
       → z ≡ passOn src true end (o .answer) (o .state)
       → tied2 z (o .a) (o .b) ≡ precItem src s level assoc t2 t10
   unfolding precItem
@@ -77,7 +77,7 @@ module _ (src : List ℕ) (s : State) (assoc : ℕ) (t2 t10 : List ℕ) (r : Gap
 -- a token that was entered is given to its table once
 module _ (src : List ℕ) (s : State) (k : ℕ) (what : Repeat) (from to end : ℕ) (t1 t t10 : List ℕ) (o : Out1) (q : o ≡ enterStep src s from to false t1) where
   pub avoid-entered : (w : Out2) (z : Out0) → o .answer ≡ Going
-      → w ≡ onceStep src (o .state) k 2 0 from to what from to (from ∷ to ∷ []) t t10
+      → w ≡ onceStep src (o .state) k 2 0 what (from ∷ to ∷ []) t t10
       → z ≡ passOn src true end (w .answer) (w .state)
       → tied3 z (o .a) (w .a) (w .b) ≡ avoidNamed src s k what from to end t1 t t10
   unfolding avoidNamed

@@ -21,11 +21,8 @@ use Rattle.grammar.specs.State.{Out0, Out2, count, onceStep, pastGap, passOn}
 use Rattle.grammar.specs.Sound.{Tables, Far}
 use Rattle.lines.proofs.Grown.{past-cases}
 use Rattle.lines.proofs.Read.{line-kept}
+use Rattle.lines.specs.Grown.{levelAt}
 use Rattle.lines.specs.Precedences.{precItem, precDecl}
-
--- the level of row r of table 2
-abbrev pub levelAt : List ℕ → ℕ → ℕ
-levelAt t r = getD (rowAt (width precedences) t r) level 0
 
 -- A line behind its keyword, on any tables.
 module _ (src : List ℕ) (s : State) (assoc : ℕ) (t2 t10 : List ℕ) (ten : length (s .counts .n) ≡ 10) where
@@ -60,7 +57,7 @@ unfolding precItem
 counted-ends src s lev assoc t2 t10 p end quoted i n e g h d = passed (made .answer) (made .state) (rw e at d)
   where
     made : Out2
-    made = onceStep src s precedences (width precedences) 0 (p .from) (p .to) RepeatedPrecedence (p .from) (p .to) (precedenceCells (p .from) (p .to) lev assoc) t2 t10
+    made = onceStep src s precedences (width precedences) 0 RepeatedPrecedence (precedenceCells (p .from) (p .to) lev assoc) t2 t10
 
     passed : (a : Answer) (u : State) → passOn src true end a u .answer ≡ Going → ⊥
     passed Going u y = counted src end i n u g h y

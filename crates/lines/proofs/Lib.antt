@@ -2,8 +2,14 @@ pub mod Cases
 pub mod Laws
 pub mod Far
 pub mod Line
+pub mod Order
 pub mod Grown
 pub mod Read
 pub mod Levels
 pub mod Differ
 pub mod Avoided
+pub mod Names
+pub mod Given
+pub mod Run
+pub mod PrecExact
+pub mod AvoidExact

@@ -15,22 +15,15 @@ use Rattle.scan.specs.declared.Class.the-variants.{LineByte}
 use Rattle.scan.specs.Scan.{inClass, startsAt, Runs}
 use Rattle.scan.proofs.Bytes.{told, starts-fits}
 use Rattle.spacing.specs.declared.Spaced.the-variants.{To}
-use Rattle.spacing.specs.Spacing.{isBlank, gap, spacingAt, spacesAt, Spaces}
+use Rattle.spacing.specs.Spacing.{isBlank, gap, spacingAt, spacesAt, Spaces, AtLeast}
 use Rattle.spacing.proofs.Places.{spaces}
 use Rattle.spacing.proofs.Laws.{a-blank}
-use Rattle.spacing.proofs.Counts.{Counts, comment-counted}
+use Rattle.spacing.proofs.Counts.{comment-counted}
 use Rattle.words.specs.declared.Token.the-variants.{Found}
 use Rattle.words.specs.Words.{tokenAt, Tokened}
 use Rattle.words.proofs.Words.{token-placed, token-end}
 use Rattle.grammar.specs.State.{Passed}
-use Rattle.lines.specs.Line.{LineWord, In, Line, ended, last, word, LineAt}
-
--- where a word lies in a line from i to j
-pub record Inside (i j : ℕ) (w : LineWord) : Type 0 where
-  pub begins : i ≤ w .place .from
-  pub some : w .place .from < w .place .to
-  pub ends : w .place .to ≤ w .end
-  pub before : w .end ≤ j
+use Rattle.lines.specs.Line.{LineWord, In, Inside, Line, ended, last, word, LineAt}
 
 -- space or tab
 blank-is : (c : ℕ) → isBlank c ≡ true → OneOf (9 ∷ 32 ∷ []) c
@@ -95,11 +88,11 @@ module _ (src : List ℕ) where
   counted-last (word e g l) w (inr x) k m f c = counted-last l w x k m f c
 
   -- the spacing behind a word, where it is known to count a line end
-  spaced-last : {i j n : ℕ} {ws : List LineWord} → Line src i j n ws → (w : LineWord) → In w ws → Counts 1 (spacesAt true src (w .end)) → (0 < n) × (spacesAt true src (w .end) ≡ To j n)
+  spaced-last : {i j n : ℕ} {ws : List LineWord} → Line src i j n ws → (w : LineWord) → In w ws → AtLeast 1 (spacesAt true src (w .end)) → (0 < n) × (spacesAt true src (w .end) ≡ To j n)
   spaced-last (ended h) w x c = absurd x
   spaced-last (last e g h) w (inl q) c = (h, rw q g)
   spaced-last (last e g h) w (inr x) c = absurd x
-  spaced-last (word {k = k} {end = end} e g l) w (inl q) c = let d : 1 ≤ 0 = told (Counts 1) g (told (λ (v : LineWord). Counts 1 (spacesAt true src (v .end))) q c) in absurd (omega arith)
+  spaced-last (word {k = k} {end = end} e g l) w (inl q) c = let d : 1 ≤ 0 = told (AtLeast 1) g (told (λ (v : LineWord). AtLeast 1 (spacesAt true src (v .end))) q c) in absurd (omega arith)
   spaced-last (word e g l) w (inr x) c = spaced-last l w x c
 
   -- blanks pass
@@ -110,19 +103,19 @@ module _ (src : List ℕ) where
       rw e (sym (a-blank true src i n _ refl (omega arith) (blank-is _ (each i (omega arith) (omega arith)))) ∙ along m (i + 1) (omega arith) (λ k a b. each k (omega arith) (omega arith)) n)
 
   -- the word that a line begins with
-  begins-with : {i j n : ℕ} {ws : List LineWord} → Line src i j n ws → (p : Place) (end : ℕ) (quoted : Bool) → tokenAt src i ≡ Found p end quoted → Counts 1 (spacesAt true src end) → ws ≡ record { place = p; end = end } ∷ []
+  begins-with : {i j n : ℕ} {ws : List LineWord} → Line src i j n ws → (p : Place) (end : ℕ) (quoted : Bool) → tokenAt src i ≡ Found p end quoted → AtLeast 1 (spacesAt true src end) → ws ≡ record { place = p; end = end } ∷ []
   begins-with (ended h) p end quoted q c = absurd (no-word _ p end quoted h q)
   begins-with (last e g h) p end quoted q c = cc
-  begins-with (word {k = k} {end = end′} e g l) p end quoted q c = let z : spacesAt true src end ≡ To k 0 = cc in let d : 1 ≤ 0 = told (Counts 1) z c in absurd (omega arith)
+  begins-with (word {k = k} {end = end′} e g l) p end quoted q c = let z : spacesAt true src end ≡ To k 0 = cc in let d : 1 ≤ 0 = told (AtLeast 1) z c in absurd (omega arith)
 
   -- A `//` comment behind the index end, up to a line end: the spacing there counts that line end.
   module _ (end c e : ℕ) (h : end ≤ c) (blank : (k : ℕ) → end ≤ k → k < c → isBlank (getD src k 0) ≡ true) (starts : startsAt (47 ∷ 47 ∷ []) src c ≡ true) (run : Runs (inClass LineByte) src c e) (low : e < length src) where
-    counts : Counts 1 (spacesAt true src end)
+    counts : AtLeast 1 (spacesAt true src end)
     counts =
         let f = starts-fits (47 ∷ 47 ∷ []) src c starts (omega arith) in
         let z : end + (c - end) ≡ c = omega arith in
         let q : spacesAt true src end ≡ spacesAt true src c = rw z at (along (c - end) end (omega arith) (λ k a b. blank k a (omega arith)) 0) in
-        told (Counts 1) (sym q) (comment-counted true src c e starts run low)
+        told (AtLeast 1) (sym q) (comment-counted true src c e starts run low)
 
     -- Behind a word of a line it is the end of the line;
     pub comment-last : {i j n : ℕ} {ws : List LineWord} → Line src i j n ws → (w : LineWord) → In w ws → w .end ≡ end → (0 < n) × (spacesAt true src end ≡ To j n)

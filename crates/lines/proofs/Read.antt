@@ -25,13 +25,10 @@ use Rattle.grammar.specs.declared.Repeat.the-variants.{RepeatedPrecedence}
 use Rattle.grammar.specs.Cells.{precedenceCells}
 use Rattle.grammar.specs.State.{Out0, Out2, Passed, count, withAt, withLevel, nextLevel, gapOf, gapAt, onceStep, passOn, tied2}
 use Rattle.lines.specs.Line.{LineWord, Line, ended, last, word, LineAt}
+use Rattle.lines.specs.Grown.{Grown, Written, precRow, RowFrom}
 use Rattle.lines.specs.Precedences.{precFound, precItem, lineEnd, afterEnd, precTurn, precList, precFrom, precDecl}
 use Rattle.lines.proofs.Line.{word-placed, gap-placed, line-at-one}
-use Rattle.lines.proofs.Grown.{Grown, grown-none, grown-then, grown-map, Written, written-none, written-more, Noted, once-noted, past-cases, Stands, before, Nears, turns-run}
-
--- the row of a token on a line of this level and association
-abbrev pub precRow : ℕ → ℕ → Place → List ℕ
-precRow lev assoc p = precedenceCells (p .from) (p .to) lev assoc
+use Rattle.lines.proofs.Grown.{grown-none, grown-then, grown-map, written-none, written-more, Noted, once-noted, past-cases, Stands, before, Nears, turns-run}
 
 -- what a list that ends leaves, from where it was: its line of words and their rows
 pub record Read (src : List ℕ) (lev assoc : ℕ) (o e : Out2) : Type 0 where
@@ -42,16 +39,7 @@ pub record Read (src : List ℕ) (lev assoc : ℕ) (o e : Out2) : Type 0 where
   pub level : e .state .level ≡ o .state .level
   pub ten : length (e .state .counts .n) ≡ 10
 
--- the row of a token that stands at an index from i on
-pub record RowFrom (src : List ℕ) (lev assoc i : ℕ) (x : List ℕ) : Type 0 where
-  pub index : ℕ
-  pub from : i ≤ index
-  pub place : Place
-  pub end : ℕ
-  pub quoted : Bool
-  pub stands : tokenAt src index ≡ Found place end quoted
-  pub is : x ≡ precRow lev assoc place
-
+-- it stands from an earlier index on too
 later : {src : List ℕ} {lev assoc i j : ℕ} {x : List ℕ} → i ≤ j → RowFrom src lev assoc j x → RowFrom src lev assoc i x
 later h r = record { index = r .index; from = omega (arith, r .from); place = r .place; end = r .end; quoted = r .quoted; stands = r .stands; is = r .is }
 
@@ -110,7 +98,7 @@ module _ (src : List ℕ) (s : State) (lev assoc : ℕ) (t2 t10 : List ℕ) (ten
       go (Found p end quoted) e =
           let a = word-placed src (s .at) p end quoted e in
           let z : Passed src (p .from) (p .to) = record { onward = omega (arith, a .1); inside = omega (arith, a .2, a .3) } in
-          let o = onceStep src s precedences (width precedences) 0 (p .from) (p .to) RepeatedPrecedence (p .from) (p .to) (precedenceCells (p .from) (p .to) lev assoc) t2 t10 in
+          let o = onceStep src s precedences (width precedences) 0 RepeatedPrecedence (precedenceCells (p .from) (p .to) lev assoc) t2 t10 in
           behind p end quoted e o (once-noted src s ten precedences (omega arith) (precedenceCells (p .from) (p .to) lev assoc) (p .from) (p .to) (omega arith) t2 z refl refl RepeatedPrecedence t10) (o .answer) refl
       go (NoToken k) e = h _ s t2 t10 (kept-none ten)
 
@@ -173,13 +161,13 @@ module _ (src : List ℕ) (lev assoc : ℕ) where
               words = here ∷ r .words;
               counted = r .counted;
               line = word e c (r .line);
-              table = written-more here (r .words) (x .rows) (x .has g) (r .table);
+              table = written-more here (r .words) (x .rows) (x .one) (x .has g) (r .table);
               level = r .level ∙ x .level;
               ten = r .ten;
             }
 
     done : (n : ℕ) → spacesAt true src end ≡ To i n → 0 < n → Read src lev assoc o (behind Going)
-    done n c d = record { words = here ∷ []; counted = n; line = last e c d; table = written-more here [] (x .rows) (x .has g) written-none; level = x .level; ten = x .ten }
+    done n c d = record { words = here ∷ []; counted = n; line = last e c d; table = written-more here [] (x .rows) (x .one) (x .has g) written-none; level = x .level; ten = x .ten }
 
   turn-reads : (o : Out2) → At o → Nears At left Reads o (precTurn src lev assoc o)
   unfolding precTurn
@@ -245,7 +233,7 @@ module _ (src : List ℕ) (s : State) (assoc : ℕ) (t2 t10 : List ℕ) where
       unfolding line-words
       same-words = line-at-one src line-words l .2
 
-      -- The rows that it adds to table 2 are rows of its words, with its level and association; those that stood before stay; and each of its words has a row
-      -- there, this line's or an earlier one's.
+      -- The rows that it adds to table 2 are rows of its words, in their order, with its level and association; those that stood before stay; and each of its
+      -- words has a row there, this line's or an earlier one's.
       pub line-rows : Written src (precRow (s .level) assoc) (width precedences) (l .words) (count s precedences) t2 (count (after .state) precedences) (after .a)
       line-rows = rw (← same-words) (whole .read .table)

@@ -25,10 +25,10 @@ use Rattle.grammar.specs.State.{Out1, Out2, Out3, withAt, gapAt, onceStep, ente
 abbrev pub behindBoth : List ℕ → ℕ → List ℕ → Out2 → Out3
 behindBoth src j t1 o = tied3 (passOn src true j (o .answer) (o .state)) t1 (o .a) (o .b)
 
--- "at one word of an avoid or implicit list the token row (1) comes before 3 or 4, or 10"
+-- at one word the token's row in table 1 comes before that of table 3 or 4, or of table 10, as the crate adds them
 abbrev pub avoidEntered : Answer → Out1 → List ℕ → ℕ → Repeat → ℕ → ℕ → ℕ → List ℕ → List ℕ → Out3
 avoidEntered Going o src k what from to end t t10 =
-    behindBoth src end (o .a) (onceStep src (o .state) k (width avoided) 0 from to what from to (nameCells from to) t t10)
+    behindBoth src end (o .a) (onceStep src (o .state) k (width avoided) 0 what (nameCells from to) t t10)
 avoidEntered Done o src k what from to end t t10 = record { answer = Done; state = o .state; a = o .a; b = t; c = t10 }
 avoidEntered (Refused f) o src k what from to end t t10 = record { answer = Refused f; state = o .state; a = o .a; b = t; c = t10 }
 

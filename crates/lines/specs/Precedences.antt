@@ -23,7 +23,7 @@ use Rattle.grammar.specs.State.{Out2, withAt, withLevel, nextLevel, gapAt, once
 -- a token is given its level and association once, and the line is done where spacing behind it counts a line end; "`%left`, `%right`, `%nonassoc` [..] add no token"
 abbrev pub precFound : Token → List ℕ → State → ℕ → ℕ → List ℕ → List ℕ → Out2
 precFound (Found p end q) src s level assoc t2 t10 =
-    behind2 src true end (onceStep src s precedences (width precedences) 0 (p .from) (p .to) RepeatedPrecedence (p .from) (p .to) (precedenceCells (p .from) (p .to) level assoc) t2 t10)
+    behind2 src true end (onceStep src s precedences (width precedences) 0 RepeatedPrecedence (precedenceCells (p .from) (p .to) level assoc) t2 t10)
 precFound (NoToken k) src s level assoc t2 t10 = tied2 (refused (Fault IllegalString k) s) t2 t10
 
 unfoldable pub precItem : List ℕ → State → ℕ → ℕ → List ℕ → List ℕ → Out2
@@ -46,7 +46,7 @@ precTurn src level assoc o = afterEnd (leb (length src) (o .state .at)) o (precI
 unfoldable pub precList : List ℕ → State → ℕ → ℕ → List ℕ → List ℕ → Out2
 precList src s level assoc t2 t10 = turns (suc (length src)) (precTurn src level assoc) (record { answer = Going; state = s; a = t2; b = t10 })
 
--- each line takes a level, "even one that holds only repeats"
+-- each line takes a level, also one that holds repeats only: the crate raises the level at the end of every line
 abbrev pub precFrom : Gap → List ℕ → State → ℕ → List ℕ → List ℕ → Out2
 precFrom (GapTo i n) src s assoc t2 t10 = precList src (withLevel (withAt s i) (nextLevel (s .level))) (s .level) assoc t2 t10
 precFrom (GapRefused f) src s assoc t2 t10 = tied2 (refused f s) t2 t10

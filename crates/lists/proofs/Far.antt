@@ -48,7 +48,7 @@ module _ {src : List ℕ} {done : ℕ} {s : State} {T : Tables} (f : Far src don
   row-far : (kind from to end : ℕ) → 1 ≤ kind → kind ≤ 2 → Passed src from to → s .at ≤ end → end ≤ length src → Far1 src done T unused (unusedRow src s kind from to end (T .t6))
   unfolding unusedRow
   row-far kind from to end l m p h k =
-      behind1-far false end _ h k (push-held f unused (omega arith) (λ e. omega arith) (kindCells kind from to) from to refl (record { least = l; most = m; name = p }) (λ r l. tt))
+      behind1-far false end _ h k (push-held f unused (omega arith) (λ e. omega arith) (kindCells kind from to) refl (record { least = l; most = m; name = p }) (λ r l. tt))
 
   unused-far : Far1 src done T unused (unusedItem src s (T .t6))
   unfolding unusedItem

@@ -64,7 +64,7 @@ module _ (src : List ℕ) (o : Out1) (end to lines m : ℕ) (g : gapAt true src 
   unfolding tokenItem enterStep
   token-on p (token e) r =
       rw e
-      (enter-cases (λ (x : Inserted). On tokens (behind1 src false end (entered (x .entered) (o .state) (p .from) (p .to) (x .cells))) to m) src (count (o .state) tokens) (p .from) (p .to) true (o .a)
+      (enter-cases (λ (x : Inserted). On tokens (behind1 src false end (entered (x .entered) (o .state) (tokenCells (p .from) (p .to) 1) (x .cells))) to m) src (count (o .state) tokens) (p .from) (p .to) true (o .a)
       (λ q l f. behind-on tokens src end to lines m _ g refl (less tokens (omega arith) o m _ _ r (omega arith) (length-set (o .a) (q * 3 + 2) 1)))
       (λ none room low. behind-on tokens src end to lines m _ g refl (less tokens (omega arith) o m _ _ r (omega arith) (put-length (tokenCells (p .from) (p .to) 1) (o .a) _)))
       (λ none full. absurd (not-full tokens o m r full)))
@@ -72,7 +72,7 @@ module _ (src : List ℕ) (o : Out1) (end to lines m : ℕ) (g : gapAt true src 
   row-on : (kind from to′ : ℕ) → Room unused o (suc m) → On unused (unusedRow src (o .state) kind from to′ end (o .a)) to m
   unfolding unusedRow pushRow
   row-on kind from to′ r =
-      add-cases (λ (x : Added). On unused (behind1 src false end (pushed (x .ok) (o .state) unused from to′ (x .cells))) to m) (count (o .state) unused) (kindCells kind from to′) (o .a)
+      add-cases (λ (x : Added). On unused (behind1 src false end (pushed (x .ok) (o .state) unused (kindCells kind from to′) (x .cells))) to m) (count (o .state) unused) (kindCells kind from to′) (o .a)
       (λ room low. behind-on unused src end to lines m _ g refl (less unused (omega arith) o m _ _ r (omega arith) (put-length (kindCells kind from to′) (o .a) _)))
       (λ full. absurd (not-full unused o m r full))
 

@@ -137,10 +137,10 @@ module _ (src : List ℕ) (s : State) (t : List ℕ) where
   unfolding unusedRow
   row-went kind from to end w h l =
       let row = kindCells kind from to in
-      let o = pushRow s unused row from to t in
+      let o = pushRow s unused row t in
       let c = pass-counts src false end (o .answer) (o .state) in
       went (UnusedWord src) _ src (s .at) end row o w h l
-      (λ g. record { ten = λ ten. rw c (push-apart s unused row from to t .ten ∙ ten); rows = λ ten. rw c (push-more s unused row from to t (rw ten (omega arith)) g .rows) })
+      (λ g. record { ten = λ ten. rw c (push-apart s unused row t .ten ∙ ten); rows = λ ten. rw c (push-more s unused row t (rw ten (omega arith)) g .rows) })
 
   pub unused-went : UnusedWent (unusedItem src s t)
   unfolding unusedItem

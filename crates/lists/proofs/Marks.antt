@@ -98,7 +98,7 @@ module _ (src : List ℕ) (s : State) (p : Place) (t : List ℕ) (ten : length (
   pub enter-marks : Marks (s .counts) t (enterStep src s a b true t .state .counts) (enterStep src s a b true t .a)
   unfolding enterStep
   enter-marks =
-      enter-cases (λ (o : Inserted). Marks (s .counts) t (entered (o .entered) s a b (o .cells) .state .counts) (entered (o .entered) s a b (o .cells) .a)) src n a b true t
+      enter-cases (λ (o : Inserted). Marks (s .counts) t (entered (o .entered) s (tokenCells a b 1) (o .cells) .state .counts) (entered (o .entered) s (tokenCells a b 1) (o .cells) .a)) src n a b true t
       (λ r l e. record {
         ten = length-set (s .counts .n) tokens n;
         grown = rw (same n) (omega arith);
@@ -126,7 +126,7 @@ module _ (src : List ℕ) (s : State) (p : Place) (t : List ℕ) (ten : length (
   pub enter-entry : a ≤ b → b ≤ length src → After (enterStep src s a b true t)
   unfolding enterStep hasName
   enter-entry h l =
-      enter-cases (λ (o : Inserted). After (entered (o .entered) s a b (o .cells)))
+      enter-cases (λ (o : Inserted). After (entered (o .entered) s (tokenCells a b 1) (o .cells)))
       src n a b true t
       (λ r l e z. record {
         has = λ fits. record { row = r; inside = rw (same n) l; named = rw (mark-kept r r .from, mark-kept r r .to) e; marked = getD-set-same t (r * 3 + 2) 1 0 (omega arith) };

@@ -20,7 +20,7 @@ use Rattle.grammar.specs.declared.Gap.the-variants.{GapTo, GapRefused}
 use Rattle.grammar.specs.Cells.{kindCells}
 use Rattle.grammar.specs.State.{Out1, withAt, gapAt, pushRow, enterStep, behind1, tied1, refused, onward}
 
--- "`%token`": a token is entered as declared, "also a token already there"; "3 IllegalString where the item was sought"
+-- "`%token`": a token is entered as declared, and one that is there already is marked; 3 is where the token was sought
 abbrev pub tokenFound : Token → List ℕ → State → List ℕ → Out1
 tokenFound (Found p end q) src s t = behind1 src false end (enterStep src s (p .from) (p .to) true t)
 tokenFound (NoToken k) src s t = tied1 (refused (Fault IllegalString k) s) t
@@ -30,7 +30,7 @@ tokenItem src s t = tokenFound (tokenAt src (s .at)) src s t
 
 -- "6 expected unused (kind, place)"
 unfoldable pub unusedRow : List ℕ → State → ℕ → ℕ → ℕ → ℕ → List ℕ → Out1
-unusedRow src s kind from to end t = behind1 src false end (pushRow s unused (kindCells kind from to) from to t)
+unusedRow src s kind from to end t = behind1 src false end (pushRow s unused (kindCells kind from to) t)
 
 -- "In `%expect-unused` a word that reads as a name is a rule, else it is a quoted token", else 15
 abbrev pub unusedToken : Token → List ℕ → State → List ℕ → Out1

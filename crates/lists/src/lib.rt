@@ -45,7 +45,7 @@ pub fn unused_row(
     ensures moved { λ r. ⌜ Onward (now (src .entry)) end (s .at) (r .answer) (r .state .at) ⌝ }
 {
     let row = [kind, from, to];
-    let r = grammar::push(s, tables::UNUSED, &row, from, to, t6);
+    let r = grammar::push(s, tables::UNUSED, &row, t6);
     grammar::pass_on(src, r, end, false)
 }
 

@@ -1,5 +1,6 @@
 -- Document 01: "8 productions (rule row, place, symbol range, `%prec`, action)": a production as the cells of its row, and back.
 use Prim.Native.Nat.{ℕ, _+_}
+use mathlib.Core.Path.{_≡_, refl}
 use mathlib.Core.List.{List, [], _∷_}
 use mathlib.Core.Bool.{Bool, true, false}
 use lib.ListN.{getD}
@@ -7,7 +8,8 @@ use lib.Dec.{eqb}
 use Rattle.tables.specs.Table.{cell}
 use Rattle.tables.specs.Layout.{productions, ruleRow, place, symbolsFrom, symbolsTo, prec, action, width}
 use Rattle.grammar.specs.declared.State.{State}
-use Rattle.grammar.specs.State.{Out1, pushRow}
+use Rattle.grammar.specs.declared.Refusal.the-variants.{NoRoom}
+use Rattle.grammar.specs.State.{Out1, noRoom, pushRow}
 use Rattle.productions.specs.declared.Prec.{Prec}
 use Rattle.productions.specs.declared.Prec.the-variants.{NoPrec, PrecAt}
 use Rattle.productions.specs.declared.Act.{Act}
@@ -56,4 +58,8 @@ productionAt t r =
 
 -- a production joins table 8; 42 is at its place
 unfoldable pub pushProduction : State → Production → List ℕ → Out1
-pushProduction s p t = pushRow s productions (productionCells p) (p .from) (p .to) t
+pushProduction s p t = pushRow s productions (productionCells p) t
+
+-- "42 no room: first place of the row that didn't fit": that of the production
+pub full-production : (p : Production) → noRoom productions (productionCells p) ≡ NoRoom 8 (p .from) (p .to)
+full-production p = refl

@@ -95,7 +95,7 @@ pub fn add_production(s: State, p: Production, t: &mut [u32]) -> Step
     ensures kept { λ r. ⌜ r .state .at ≡ s .at ⌝ }
 {
     let row = production_cells(p);
-    grammar::push(s, tables::PRODUCTIONS, &row, p.from, p.to, t)
+    grammar::push(s, tables::PRODUCTIONS, &row, t)
 }
 
 fn cell(t: &[u32], r: u32, k: u32) -> u32

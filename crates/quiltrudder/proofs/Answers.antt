@@ -33,7 +33,7 @@ use Rattle.names.specs.Name.{nowhere, rowPlace, namePlace}
 use Rattle.values.specs.declared.Valuation.{Valuation}
 use Rattle.values.specs.Value.{valuationNumbers, Valued, eppValue}
 use Rattle.numbers.specs.Numbers.{toldNumbers}
-use Rattle.quiltrudder.specs.Face.{halves, readingNumbers, ReadFace, readFaceOf, readFace, countsOf, partOf, expectOf, paramOf, singlesOf, ReportFace, nameAt, placeCells, ValueFace, valuationCells, valueFaceOf, valueFace}
+use Rattle.quiltrudder.specs.Face.{halves, readingNumbers, ReadFace, readFaceOf, readFace, countsOf, partOf, expectOf, paramOf, singlesOf, validateFace, ReportFace, nameAt, placeCells, nameFace, ValueFace, valuationCells, valueFaceOf, valueFace}
 
 -- a single by its flag
 module _ (f a b : ℕ) where
@@ -79,7 +79,7 @@ counted t told n count a ht hn ha = ha ∙ ap (λ (x : List ℕ). x ++ halves n)
 
 -- the others, on what is made of a reading's numbers
 module _ (src m : List ℕ) (T : Tables) (c : Counts) (g : Singles) (hc : c ≡ countsOf m) (hg : g ≡ singlesOf m) where
-  pub face-validity : (t : Told) (v : Validity) → v ≡ validity src c g T → toldNumbers t ≡ validityNumbers v ++ (0 ∷ []) → toldNumbers t ≡ validityNumbers (validity src (countsOf m) (singlesOf m) T) ++ (0 ∷ [])
+  pub face-validity : (t : Told) (v : Validity) → v ≡ validity src c g T → toldNumbers t ≡ validityNumbers v ++ (0 ∷ []) → toldNumbers t ≡ validateFace src m T
   face-validity t v hv ht =
       let e : validity src c g T ≡ validity src (countsOf m) (singlesOf m) T = rw (hc, hg) in
       ht ∙ ap (λ (x : Validity). validityNumbers x ++ (0 ∷ [])) (hv ∙ e)
@@ -87,7 +87,7 @@ module _ (src m : List ℕ) (T : Tables) (c : Counts) (g : Singles) (hc : c ≡ 
   pub face-report : (ws₀ ws out₀ out a : List ℕ) (l : Listing) (t : Told) (n : ℕ) → Reported src c g T l ws₀ ws out₀ out → toldNumbers t ≡ take 4 (listingNumbers l) → n ≡ getD (listingNumbers l) 4 0 → a ≡ toldNumbers t ++ halves n → ReportFace src m T ws₀ ws out₀ out a
   face-report ws₀ ws out₀ out a l t n p ht hn ha = record { listing = l; reported = rw (hc, hg) at p; numbers = counted t (take 4 (listingNumbers l)) n (getD (listingNumbers l) 4 0) a ht hn ha }
 
-  pub face-name : (table row : ℕ) (a : List ℕ) → a ≡ placeCells (nameAt src c g T table row) → a ≡ placeCells (nameAt src (countsOf m) (singlesOf m) T table row)
+  pub face-name : (table row : ℕ) (a : List ℕ) → a ≡ placeCells (nameAt src c g T table row) → a ≡ nameFace src m T table row
   face-name table row a h = h ∙ rw (hc, hg)
 
   pub face-value : (row : ℕ) (out₀ out a : List ℕ) (v : Valuation) (t : Told) (n : ℕ) → _≡_ {A = Valued} (record { answer = v; out = out }) (eppValue src c g T row out₀) → toldNumbers t ≡ take 4 (valuationNumbers v) → n ≡ getD (valuationNumbers v) 4 0 → a ≡ toldNumbers t ++ halves n
@@ -99,7 +99,7 @@ module _ (src m : List ℕ) (T : Tables) (c : Counts) (g : Singles) (hc : c ≡ 
 
 -- ---- the place of a name
 
--- a place that a 16-bit source has room for
+-- a place in a source of at most 65,536 bytes
 abbrev Low : Place → Type 0
 Low p = (p .from ≤ 65536) × (p .to ≤ 65536)
 

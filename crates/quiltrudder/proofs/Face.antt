@@ -1,4 +1,4 @@
--- Theorems about the C names. "Operations that take counts and singles take such an array": what a read wrote is what the others take. Assumes nothing.
+-- Theorems about the C names: what a read wrote is what the others take. Assumes nothing.
 use Prim.Native.Nat.{ℕ, zero, suc, _+_, _*_, _/_, _%_, _<_}
 use mathlib.Core.Path.{_≡_, refl, sym, ap, _∙_}
 use mathlib.Core.List.{List, [], _∷_, _++_}

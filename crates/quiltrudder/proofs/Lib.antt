@@ -2,3 +2,4 @@ pub mod Operations
 pub mod Cells
 pub mod Answers
 pub mod Face
+pub mod Promises

@@ -1,10 +1,11 @@
 -- The operations together: what they answer on what a read left, and that each contract allows one outcome. Assumes nothing.
-use Prim.Native.Nat.{ℕ, _<_}
+use Prim.Native.Nat.{ℕ, _*_, _≤_, _<_}
 use mathlib.Core.Path.{_≡_, refl, sym, _∙_}
 use mathlib.Core.List.{List}
 use mathlib.Core.Bool.{true, false, false≢true}
+use mathlib.Core.Logic.{_↔_, _⊎_, inl, inr, ⊎-elim}
 use native.Mathlib.Omega.{arith}
-use lib.ListN.{getD}
+use lib.ListN.{length, getD}
 use Rattle.tables.specs.Layout.{epps}
 use Rattle.grammar.specs.declared.Counts.{Counts}
 use Rattle.grammar.specs.declared.Singles.{Singles}
@@ -18,11 +19,13 @@ use Rattle.validation.specs.declared.Validity.{Validity}
 use Rattle.validation.specs.declared.Validity.the-variants.{Valid, UnsoundTables, Invalid}
 use Rattle.validation.specs.Faults.{validity}
 use Rattle.validation.proofs.Order.{validity-unsound}
+use Rattle.reach.specs.Reach.{Grammar, need}
 use Rattle.usage.specs.declared.Listing.{Listing}
-use Rattle.usage.specs.declared.Listing.the-variants.{Unused, OfUnsound}
-use Rattle.usage.specs.Report.{Told, Reported}
+use Rattle.usage.specs.declared.Listing.the-variants.{Unused, OfUnsound, NoRoom}
+use Rattle.usage.specs.Report.{Excuses, Told, Reported}
+use Rattle.usage.specs.Standing.{UnusedRows, TooMany}
 use Rattle.usage.proofs.Outcome.{report-room}
-use Rattle.usage.proofs.Standing.{unused-listed, report-rises}
+use Rattle.usage.proofs.Standing.{report-rows, listed-or-many, listed-in-room, no-room-iff}
 use Rattle.names.specs.Name.{nameOf}
 use Rattle.values.specs.Value.{valuationNumbers, eppValue}
 use Rattle.values.proofs.Meaning.{value-not-44}
@@ -53,12 +56,33 @@ module _ (src : List ℕ) (kind : ℕ) (T : Tables) (full : Full (readAll src ki
   pub value-row-not-44 : (row : ℕ) (out : List ℕ) → row < countAt (o .counts) epps → getD (valuationNumbers (eppValue src (o .counts) (o .singles) (o .tables) row out .answer)) 0 0 ≡ 44 → ⊥
   value-row-not-44 row out h = value-not-44 src (o .counts) (o .singles) (o .tables) row out read-passes h (read-values src kind T row h)
 
-  -- The third demand: where it validates, with words and room, the report holds exactly the unused rows, each once, in order.
-  pub report-exactly : (l : Listing) (ws₀ ws out₀ out : List ℕ) → validity src (o .counts) (o .singles) (o .tables) ≡ Valid → Roomy (grammarRead src o) ws₀ out₀ → Reported src (o .counts) (o .singles) (o .tables) l ws₀ ws out₀ out → Exactly (grammarRead src o) (excusesRead src o) l out
-  report-exactly l ws₀ ws out₀ out v room p =
-      let r = report-room src (o .counts) (o .singles) (o .tables) l ws₀ ws out₀ out v (room .words) (room .rows) p in
-      let q : Reported src (o .counts) (o .singles) (o .tables) (Unused (r .0)) ws₀ ws out₀ out = rw (r .1) at p in
-      record { count = r .0; listed = r .1; exactly = unused-listed src (o .counts) (o .singles) (o .tables) (r .0) ws₀ ws out₀ out q; rises = report-rises src (o .counts) (o .singles) (o .tables) (r .0) ws₀ ws out₀ out q }
+  -- The third demand, where it validates: what use and excuses go by.
+  abbrev grammar : Grammar
+  grammar = grammarRead src o
+
+  abbrev excuses : Excuses
+  excuses = excusesRead src o
+
+  module _ (l : Listing) (ws₀ ws out₀ out : List ℕ) (v : validity src (o .counts) (o .singles) (o .tables) ≡ Valid) where
+    module _ (words : need grammar ≤ length ws₀) (p : Reported src (o .counts) (o .singles) (o .tables) l ws₀ ws out₀ out) where
+      given : (n : ℕ) → l ≡ Unused n → Exactly grammar excuses l out
+      given n e = record { count = n; listed = e; rows = report-rows src (o .counts) (o .singles) (o .tables) n ws₀ ws out₀ out (rw e at p) }
+
+      -- With words for the work bits, the report holds exactly the unused rows, each once, in order; or it answers 42 for table 12, and they are too many.
+      pub report-either : Exactly grammar excuses l out ⊎ ((l ≡ NoRoom) × TooMany grammar excuses out₀)
+      report-either = ⊎-elim (λ y. inl (given (y .0) (y .1))) (λ y. inr y) (listed-or-many src (o .counts) (o .singles) (o .tables) l ws₀ ws out₀ out v words p)
+
+      -- So 42 comes exactly where they are too many,
+      pub report-no-room : (l ≡ NoRoom) ↔ TooMany grammar excuses out₀
+      report-no-room = no-room-iff src (o .counts) (o .singles) (o .tables) l ws₀ ws out₀ out v words p
+
+      -- and where a list of them fits, they are given.
+      pub report-fits : (n : ℕ) (list : List ℕ) → UnusedRows grammar excuses n list → n * 2 ≤ length out₀ → Exactly grammar excuses l out
+      report-fits n list r h = given n (listed-in-room src (o .counts) (o .singles) (o .tables) l ws₀ ws out₀ out v words p n list r h)
+
+    -- They fit with room for every row.
+    pub report-exactly : Roomy grammar ws₀ out₀ → Reported src (o .counts) (o .singles) (o .tables) l ws₀ ws out₀ out → Exactly grammar excuses l out
+    report-exactly room p = let r = report-room src (o .counts) (o .singles) (o .tables) l ws₀ ws out₀ out v (room .words) (room .rows) p in given (room .words) p (r .0) (r .1)
 
 -- "Any two outcomes allowed by it are proved equal": of a name. `one-reading`, `validity-first`, `reported-one` and `valued-one` say it of the other operations.
 pub name-one : (src : List ℕ) (c : Counts) (g : Singles) (T : Tables) (table row : ℕ) (a b : List ℕ) → a ≡ nameOf src c g T table row → b ≡ nameOf src c g T table row → a ≡ b

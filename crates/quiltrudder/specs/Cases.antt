@@ -32,6 +32,7 @@ use Rattle.items.specs.Items.{firstMark, sortAt, tokenSymbol, quotedRows, quote
 use Rattle.rules.specs.Rules.{passMark, firstStart, colonType, arrowType, ruleType, enterRule, namedHead, ruleHead, ruleBody, ruleStep, nextRule, rulesTurn, rulesRun, rulesAll, programsFrom}
 use Rattle.reader.specs.Read.{Result, admitted, restAll, sectionsAll, attempted, endedAt, readAll}
 use Rattle.grammar.specs.declared.Refusal.{Refusal}
+use Rattle.grammar.specs.Refusals.{ofNumber, repeatOf}
 use Rattle.grammar.specs.declared.Refusal.the-variants.{Fault, Repeated, NoRoom, TooLong, BadKind}
 use Rattle.reader.specs.declared.Verdict.{Verdict}
 use Rattle.reader.specs.declared.Verdict.the-variants.{Accepted, Rejected}
@@ -47,10 +48,10 @@ free = replicate 39 7
 abbrev lent : Tables
 lent = record { t1 = free; t2 = free; t3 = free; t4 = free; t5 = free; t6 = free; t7 = free; t8 = free; t9 = free; t10 = free }
 
--- a full reading is validated, be it "refused only for repeats"
+-- a full reading is validated, be it refused for repeats only
 abbrev full : Refusal → Bool
 full (Fault c i) = false
-full (Repeated n a b) = true
+full (Repeated what a b) = true
 full (NoRoom t a b) = false
 full TooLong = false
 full BadKind = false
@@ -100,5 +101,5 @@ table =
     ∷ []
 
 pub table-holds : all (λ x. told (x .src) (readAll (x .src) (x .kind) lent)) table ≡ true
-unfolding isWhite all same row table filled numbers readAll attempted admitted sectionsAll restAll endedAt check checkAt declAll declRun declTurn declStep seenAt firstOf startsAt begins turns gapAt gapOf spacing spacingAt isBlank isEol pastGap pushRow listRepeat enterStep onceStep addRow room samePart hasName firstRow findName enterToken nextLevel nameAt named wordAt tokenAt bare quotedAt closed isQuote isAt inClass isLetter isDigit runEnd runEndAt intAt counted decimal decimalAt stringAt stringFrom string lineEndAt single singleFrom colonText colonTextAt braced bracedFrom acted actionAt startDecl startNamed expectDecl expectGiven actiontypeDecl actiontypeNamed paramTyped paramDecl genericsDecl listDecl percentList listTurn ends tokenItem unusedItem unusedRow precDecl precList precTurn precItem avoidDecl avoidList avoidTurn avoidItem avoidNamed eppDecl eppValue eppText eppGiven pushProduction leadOf follow followAt begun decode decodeAt passed passedAt kept moved trimTurn trimmed firstMark sortAt tokenSymbol quotedRows quotedItem precName item-precItem mayEnd afterAction actionItem mayFollow emptyItem symbolKind bareItem endProduction barItem endItem itemStep itemTurn itemList passMark firstStart colonType arrowType ruleType enterRule namedHead ruleHead ruleBody ruleStep nextRule rulesTurn rulesRun rulesAll programsFrom zeros zerosFrom below givenTest actionTest tokenTest precTest nameTest eppTest kindTest ruleTest productionTest repeatTest freshTest tableTest before rangeTest rangesTest singlesTest tablesTest soundTest upto known nameFaults kindFaults kindsFaults productionFaults ruleFaults rulesFaults eppFaults eppsFaults faults validity productionAt precOf
+unfolding isWhite all same row table filled numbers readAll attempted admitted sectionsAll restAll endedAt repeatOf ofNumber check checkAt declAll declRun declTurn declStep seenAt firstOf startsAt begins turns gapAt gapOf spacing spacingAt isBlank isEol pastGap pushRow listRepeat enterStep onceStep addRow room samePart hasName firstRow findName enterToken nextLevel nameAt named wordAt tokenAt bare quotedAt closed isQuote isAt inClass isLetter isDigit runEnd runEndAt intAt counted decimal decimalAt stringAt stringFrom string lineEndAt single singleFrom colonText colonTextAt braced bracedFrom acted actionAt startDecl startNamed expectDecl expectGiven actiontypeDecl actiontypeNamed paramTyped paramDecl genericsDecl listDecl percentList listTurn ends tokenItem unusedItem unusedRow precDecl precList precTurn precItem avoidDecl avoidList avoidTurn avoidItem avoidNamed eppDecl eppValue eppText eppGiven pushProduction leadOf follow followAt begun decode decodeAt passed passedAt kept moved trimTurn trimmed firstMark sortAt tokenSymbol quotedRows quotedItem precName item-precItem mayEnd afterAction actionItem mayFollow emptyItem symbolKind bareItem endProduction barItem endItem itemStep itemTurn itemList passMark firstStart colonType arrowType ruleType enterRule namedHead ruleHead ruleBody ruleStep nextRule rulesTurn rulesRun rulesAll programsFrom zeros zerosFrom below givenTest actionTest tokenTest precTest nameTest eppTest kindTest ruleTest productionTest repeatTest freshTest tableTest before rangeTest rangesTest singlesTest tablesTest soundTest upto known nameFaults kindFaults kindsFaults productionFaults ruleFaults rulesFaults eppFaults eppsFaults faults validity productionAt precOf
 table-holds = refl

@@ -1,8 +1,9 @@
--- The C names' numbers. "The same operations have C names [..]: numbers and slices only, [..] the answer written as 32-bit numbers into a lent array of fixed size".
-use Prim.Native.Nat.{ℕ, _+_, _*_, _/_, _%_, _<_, _^_}
+-- The C names' numbers: the same operations over numbers and slices alone, each with its answer written as 32-bit numbers into a lent array of fixed size.
+use Prim.Native.Nat.{ℕ, _+_, _*_, _/_, _%_, _≤_, _<_, _^_}
 use mathlib.Core.Path.{_≡_}
 use mathlib.Core.Bool.{true, false}
 use mathlib.Core.List.{List, [], _∷_, _++_}
+use mathlib.Core.Logic.{_⊎_}
 use lib.Dec.{eqb}
 use lib.ListN.{getD, take}
 use Rattle.scan.specs.declared.Place.{Place}
@@ -19,24 +20,27 @@ use Rattle.grammar.specs.Sound.{Tables}
 use Rattle.reader.specs.declared.Verdict.{Verdict}
 use Rattle.reader.specs.Read.{Result, verdictNumbers, readAll}
 use Rattle.sound.specs.Test.{soundTest}
+use Rattle.validation.specs.Faults.{validityNumbers, validity}
+use Rattle.reach.specs.Reach.{Grammar}
 use Rattle.usage.specs.declared.Listing.{Listing}
-use Rattle.usage.specs.Report.{listingNumbers, Reported}
+use Rattle.usage.specs.Report.{listingNumbers, Excuses, Reported}
+use Rattle.usage.specs.Standing.{UnusedRows, TooMany}
 use Rattle.names.specs.Name.{nowhere, namePlace}
 use Rattle.values.specs.declared.Valuation.{Valuation}
 use Rattle.values.specs.Value.{valuationNumbers, Valued, eppValue}
 
--- a number of 64 bits "with the value's low half first"
+-- a number of 64 bits, its low half first
 abbrev pub halves : ℕ → List ℕ
 halves v = v % 4294967296 ∷ v / 4294967296 ∷ []
 
 -- ---- what a read answers
 
--- "each single led by 0 or 1": `%expect` and `%expect-rr` are "5 each", the value in halves and the place
+-- each single is led by 0 or 1; `%expect` and `%expect-rr` are five numbers: the value in halves, and the place
 abbrev pub expectCells : Expect → List ℕ
 expectCells NotExpected = 0 ∷ 0 ∷ 0 ∷ 0 ∷ 0 ∷ []
 expectCells (Expected v a b) = 1 ∷ v % 4294967296 ∷ v / 4294967296 ∷ a ∷ b ∷ []
 
--- "start 3 numbers, expect and expect-rr 5 each [..], parse parameter 5, generics 3, programs 3"
+-- start three numbers, `%expect` and `%expect-rr` five each, parse parameter five, generics three, programs three
 abbrev pub singlesCells : Singles → List ℕ
 singlesCells g =
     partNumbers (g .start) ++ expectCells (g .expect) ++ expectCells (g .«expect_rr») ++ paramNumbers (g .param) ++ partNumbers (g .generics) ++ partNumbers (g .programs)
@@ -46,7 +50,7 @@ abbrev pub countsCells : Counts → List ℕ
 countsCells c =
     getD (c .n) 0 0 ∷ getD (c .n) 1 0 ∷ getD (c .n) 2 0 ∷ getD (c .n) 3 0 ∷ getD (c .n) 4 0 ∷ getD (c .n) 5 0 ∷ getD (c .n) 6 0 ∷ getD (c .n) 7 0 ∷ getD (c .n) 8 0 ∷ getD (c .n) 9 0 ∷ []
 
--- "in the order number, from, to, table, ten counts, then each single"
+-- in the order number, from, to, table, the ten counts, then each single
 unfoldable pub readingCells : Verdict → Counts → Singles → List ℕ
 readingCells v c g = verdictNumbers v ++ countsCells c ++ singlesCells g
 
@@ -64,7 +68,11 @@ readFaceOf o = record { answer = readingNumbers o; tables = o .tables }
 abbrev pub readFace : List ℕ → ℕ → Tables → ReadFace
 readFace src kind T = readFaceOf (readAll src kind T)
 
--- ---- what the others take: "Operations that take counts and singles take such an array", of which only these are looked at
+-- "0 accepted", or "20 Precedence, [..] 27 EPP repeated": the numbers after which "all tables hold the full reading"
+abbrev pub FullNumber : ℕ → Type 0
+FullNumber n = (n ≡ 0) ⊎ ((20 ≤ n) × (n ≤ 27))
+
+-- ---- what the others take: such an array, of which the counts and singles alone are looked at
 
 -- the numbers behind number, place and table
 abbrev pub countsOf : List ℕ → Counts
@@ -94,6 +102,10 @@ singlesOf m =
 
 -- ---- what the others answer
 
+-- whether a reading is valid: number and place; "table number (0 unless 42)"
+abbrev pub validateFace : List ℕ → List ℕ → Tables → List ℕ
+validateFace src m T = validityNumbers (validity src (countsOf m) (singlesOf m) T) ++ (0 ∷ [])
+
 -- number, place, table number and the count in halves: "Each also answers a count"
 abbrev pub listingCells : Listing → List ℕ
 listingCells l = take 4 (listingNumbers l) ++ halves (getD (listingNumbers l) 4 0)
@@ -104,12 +116,26 @@ pub record ReportFace (src m : List ℕ) (T : Tables) (ws₀ ws out₀ out answe
   pub reported : Reported src (countsOf m) (singlesOf m) T listing ws₀ ws out₀ out
   pub numbers : answer ≡ listingCells listing
 
--- "`name` gives its place there": the place of a row's name; 0, 0 where "another table number, a row number not below its count or unsound tables give an empty part"
+-- The third demand, of what the C name of report wrote: number 0, how many rows there are, and they are the unused rows;
+pub record ExactlyFace (g : Grammar) (x : Excuses) (out answer : List ℕ) : Type 0 where
+  pub count : ℕ
+  pub numbers : answer ≡ 0 ∷ 0 ∷ 0 ∷ 0 ∷ halves count
+  pub rows : UnusedRows g x count out
+
+-- or "42 no room [..] and table number", which is 12, and they are too many for the report that was lent.
+pub record CrowdedFace (g : Grammar) (x : Excuses) (out answer : List ℕ) : Type 0 where
+  pub numbers : answer ≡ 42 ∷ 0 ∷ 0 ∷ 12 ∷ 0 ∷ 0 ∷ []
+  pub many : TooMany g x out
+
+-- the place of a row's name; 0, 0 where "another table number, a row number not below its count or unsound tables give an empty part"
 unfoldable pub nameAt : List ℕ → Counts → Singles → Tables → ℕ → ℕ → Place
 nameAt src c g T table row = elim (soundTest src c g T) [ true ↦ namePlace c (T .t1) (T .t7) table row | false ↦ nowhere ]
 
 abbrev pub placeCells : Place → List ℕ
 placeCells p = p .from ∷ p .to ∷ []
+
+abbrev pub nameFace : List ℕ → List ℕ → Tables → ℕ → ℕ → List ℕ
+nameFace src m T table row = placeCells (nameAt src (countsOf m) (singlesOf m) T table row)
 
 -- the value of an `%epp` row, with its answer in numbers
 pub record ValueFace : Type 0 where

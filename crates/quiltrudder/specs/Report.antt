@@ -1,9 +1,8 @@
 -- The third demand: "The unused report holds exactly the rules and tokens that no chain of productions from the start rule reaches and no declaration excuses, each once, in
 -- order."
-use Prim.Native.Nat.{ℕ, _+_, _*_, _<_, _≤_}
+use Prim.Native.Nat.{ℕ, _+_, _*_, _≤_}
 use mathlib.Core.Path.{_≡_}
 use mathlib.Core.List.{List}
-use mathlib.Core.Logic.{_↔_}
 use lib.ListN.{length}
 use Rattle.grammar.specs.declared.Counts.{Counts}
 use Rattle.grammar.specs.Sound.{Tables}
@@ -12,7 +11,7 @@ use Rattle.reach.specs.Reach.{Grammar, grammarOf, need}
 use Rattle.usage.specs.declared.Listing.{Listing}
 use Rattle.usage.specs.declared.Listing.the-variants.{Unused}
 use Rattle.usage.specs.Report.{Excuses, excusesOf}
-use Rattle.usage.specs.Standing.{StandsIn, UnusedRow, Before}
+use Rattle.usage.specs.Standing.{UnusedRows}
 
 -- what use and excuses go by in a reading
 abbrev pub grammarRead : List ℕ → Result → Grammar
@@ -26,9 +25,8 @@ pub record Roomy (g : Grammar) (work out : List ℕ) : Type 0 where
   pub words : need g ≤ length work
   pub rows : (g .rules .sort .count + g .tokens .sort .count) * 2 ≤ length out
 
--- the report has n rows: a row stands in it exactly where nothing uses it and nothing excuses it; each stands before the next
+-- the report has n rows, and they are the unused rows
 pub record Exactly (g : Grammar) (x : Excuses) (l : Listing) (out : List ℕ) : Type 0 where
   pub count : ℕ
   pub listed : l ≡ Unused count
-  pub exactly : (kd r : ℕ) → StandsIn out count kd r ↔ UnusedRow g x kd r
-  pub rises : (i j : ℕ) → i < j → j < count → Before out i j
+  pub rows : UnusedRows g x count out

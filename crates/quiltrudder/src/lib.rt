@@ -12,17 +12,17 @@ use usage::Listing;
 use validation::Validity;
 use values::Valuation;
 ghost use mathlib.Core.Path.{_≡_};
-ghost use mathlib.Core.List.{List, [], _∷_, _++_};
+ghost use mathlib.Core.List.{List, _++_};
 ghost use Rattle.tables.specs.Table.{put};
 ghost use Rattle.grammar.specs.Numbers.{paramNumbers};
 ghost use Rattle.grammar.specs.Sound.{Tables};
 ghost use Rattle.reader.specs.Read.{Result, readAll};
-ghost use Rattle.validation.specs.Faults.{validityNumbers, validity};
+ghost use Rattle.validation.specs.Faults.{validity};
 ghost use Rattle.usage.specs.Report.{Reported};
 ghost use Rattle.names.specs.Name.{nameOf};
 ghost use Rattle.values.specs.Value.{Valued, eppValue};
 ghost use Rattle.numbers.specs.Numbers.{toldNumbers};
-ghost use Rattle.quiltrudder.specs.Face.{halves, expectCells, singlesCells, readingCells, ReadFace, readFace, countsOf, partOf, expectOf, paramOf, singlesOf, ReportFace, nameAt, placeCells, ValueFace, valueFace};
+ghost use Rattle.quiltrudder.specs.Face.{halves, expectCells, singlesCells, readingCells, ReadFace, readFace, countsOf, partOf, expectOf, paramOf, singlesOf, validateFace, ReportFace, nameAt, placeCells, nameFace, ValueFace, valueFace};
 
 // Reads a source of kind 1, 2 or 3 into the lent tables.
 pub fn read(
@@ -389,7 +389,7 @@ pub extern "C" fn quiltrudder_validate(
     t10: &[u32],
     answer: &mut [u32; 4],
 )
-    ensures { λ r. ⌜ now (answer .exit) ≡ validityNumbers (validity (now (src .entry)) (countsOf (now (reading .entry))) (singlesOf (now (reading .entry))) (record { t1 = now (t1 .entry); t2 = now (t2 .entry); t3 = now (t3 .entry); t4 = now (t4 .entry); t5 = now (t5 .entry); t6 = now (t6 .entry); t7 = now (t7 .entry); t8 = now (t8 .entry); t9 = now (t9 .entry); t10 = now (t10 .entry) })) ++ (0 ∷ []) ⌝ }
+    ensures { λ r. ⌜ now (answer .exit) ≡ validateFace (now (src .entry)) (now (reading .entry)) (record { t1 = now (t1 .entry); t2 = now (t2 .entry); t3 = now (t3 .entry); t4 = now (t4 .entry); t5 = now (t5 .entry); t6 = now (t6 .entry); t7 = now (t7 .entry); t8 = now (t8 .entry); t9 = now (t9 .entry); t10 = now (t10 .entry) }) ⌝ }
 {
     let c = counts_of(reading);
     let g = singles_of(reading);
@@ -459,7 +459,7 @@ pub extern "C" fn quiltrudder_name(
     row: u32,
     answer: &mut [u32; 2],
 )
-    ensures { λ r. ⌜ now (answer .exit) ≡ placeCells (nameAt (now (src .entry)) (countsOf (now (reading .entry))) (singlesOf (now (reading .entry))) (record { t1 = now (t1 .entry); t2 = now (t2 .entry); t3 = now (t3 .entry); t4 = now (t4 .entry); t5 = now (t5 .entry); t6 = now (t6 .entry); t7 = now (t7 .entry); t8 = now (t8 .entry); t9 = now (t9 .entry); t10 = now (t10 .entry) }) table row) ⌝ }
+    ensures { λ r. ⌜ now (answer .exit) ≡ nameFace (now (src .entry)) (now (reading .entry)) (record { t1 = now (t1 .entry); t2 = now (t2 .entry); t3 = now (t3 .entry); t4 = now (t4 .entry); t5 = now (t5 .entry); t6 = now (t6 .entry); t7 = now (t7 .entry); t8 = now (t8 .entry); t9 = now (t9 .entry); t10 = now (t10 .entry) }) table row ⌝ }
 {
     let c = counts_of(reading);
     let g = singles_of(reading);

@@ -1,5 +1,5 @@
 -- The whole read: what it came to, one law for each answer. Assumes nothing.
-use Prim.Native.Nat.{ℕ, _≤_, _<_}
+use Prim.Native.Nat.{ℕ, _+_, _≤_, _<_}
 use mathlib.Core.Path.{_≡_, sym, ap}
 use mathlib.Core.List.{List}
 use mathlib.Core.Bool.{true, false, _||_}
@@ -14,10 +14,12 @@ use Rattle.whole.specs.declared.Checked.{Checked}
 use Rattle.whole.specs.declared.Checked.the-variants.{Good, BadAt}
 use Rattle.whole.specs.Whole.{checkAt, Below}
 use Rattle.tables.specs.Table.{zeroed, cell}
-use Rattle.tables.specs.Layout.{repeats, width}
+use Rattle.tables.specs.Layout.{repeats, firstPlace, width}
 use Rattle.grammar.specs.declared.Singles.{Singles}
 use Rattle.grammar.specs.declared.State.{State}
 use Rattle.grammar.specs.declared.Cause.the-variants.{NotUtf8, PrematureEnd}
+use Rattle.grammar.specs.declared.Repeat.{Repeat}
+use Rattle.grammar.specs.Refusals.{repeatOf}
 use Rattle.grammar.specs.declared.Refusal.{Refusal}
 use Rattle.grammar.specs.declared.Refusal.the-variants.{Fault, Repeated, TooLong, BadKind}
 use Rattle.grammar.specs.declared.Answer.{Answer}
@@ -118,10 +120,10 @@ module _ (s : State) (t10 : List ℕ) (n : ℕ) (c : n ≡ count s repeats) wher
   unfolding endedAt
   accepted e = rw (endedAt, ← c, eq-eqb _ _ e)
 
-  pub repeated : (x y z : ℕ) → (n ≡ 0 → ⊥) → x ≡ cell (width repeats) t10 0 0 → y ≡ cell (width repeats) t10 0 1 → z ≡ cell (width repeats) t10 0 2
-      → record { answer = Rejected (Repeated x y z); counts = s .counts; singles = s .singles } ≡ endedAt s t10
+  pub repeated : (what : Repeat) (x y z : ℕ) → (n ≡ 0 → ⊥) → x ≡ cell (width repeats) t10 0 0 → what ≡ repeatOf x → y ≡ cell (width repeats) t10 0 firstPlace → z ≡ cell (width repeats) t10 0 (firstPlace + 1)
+      → record { answer = Rejected (Repeated what y z); counts = s .counts; singles = s .singles } ≡ endedAt s t10
   unfolding endedAt
-  repeated x y z e g h k = rw (endedAt, ← c, ne-eqb _ _ e, g, h, k)
+  repeated what x y z e g w h k = rw (endedAt, ← c, ne-eqb _ _ e, w, g, h, k)
 
 -- tables 1 to 9 without anything in them
 abbrev Nine : Tables → Tables → Type 0

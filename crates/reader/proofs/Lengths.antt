@@ -71,32 +71,32 @@ abbrev Long3 : List ℕ → List ℕ → List ℕ → Out3 → Type 0
 Long3 t u v o = (length (o .a) ≡ length t) × (length (o .b) ≡ length u) × (length (o .c) ≡ length v)
 
 -- a row more, a repeat listed,
-push-long : (s : State) (k : ℕ) (row : List ℕ) (a b : ℕ) (t : List ℕ) → Long1 t (pushRow s k row a b t)
+push-long : (s : State) (k : ℕ) (row : List ℕ) (t : List ℕ) → Long1 t (pushRow s k row t)
 unfolding pushRow
-push-long s k row a b t = add-cases (λ (o : Added). Long1 t (pushed (o .ok) s k a b (o .cells))) (count s k) row t (λ room low. put-length row t _) (λ full. refl)
+push-long s k row t = add-cases (λ (o : Added). Long1 t (pushed (o .ok) s k row (o .cells))) (count s k) row t (λ room low. put-length row t _) (λ full. refl)
 
 repeat-long : (s : State) (what : Repeat) (a b c d : ℕ) (t : List ℕ) → Long1 t (listRepeat s what a b c d t)
 unfolding listRepeat
-repeat-long s what a b c d t = push-long s repeats _ c d t
+repeat-long s what a b c d t = push-long s repeats _ t
 
 -- a token entered,
 enter-long : (src : List ℕ) (s : State) (a b : ℕ) (d : Bool) (t : List ℕ) → Long1 t (enterStep src s a b d t)
 unfolding enterStep
 enter-long src s a b d t =
-    enter-cases (λ (o : Inserted). Long1 t (entered (o .entered) s a b (o .cells))) src (count s tokens) a b d t (λ r l e. mark d r) (λ none room low. put-length (tokenCells a b (flag d)) t (count s tokens * width tokens)) (λ none full. refl)
+    enter-cases (λ (o : Inserted). Long1 t (entered (o .entered) s (tokenCells a b (flag d)) (o .cells))) src (count s tokens) a b d t (λ r l e. mark d r) (λ none room low. put-length (tokenCells a b (flag d)) t (count s tokens * width tokens)) (λ none full. refl)
   where
     mark : (d : Bool) (r : ℕ) → length (marked d r t) ≡ length t
     mark true r = length-set t (r * width tokens + declared) 1
     mark false r = refl
 
 -- what may be given once to a name
-once-long : (src : List ℕ) (s : State) (k w name from to : ℕ) (what : Repeat) (a b : ℕ) (row t u : List ℕ) → Long2 t u (onceStep src s k w name from to what a b row t u)
+once-long : (src : List ℕ) (s : State) (k w name : ℕ) (what : Repeat) (row t u : List ℕ) → Long2 t u (onceStep src s k w name what row t u)
 unfolding onceStep
-once-long src s k w name from to what a b row t u = go (findName src w name (count s k) t from to)
+once-long src s k w name what row t u = go (findName src w name (count s k) t (getD row name 0) (getD row (name + 1) 0))
   where
-    go : (r : Row) → Long2 t u (onceFound r s k w what a b row t u)
-    go (RowAt r) = (refl, repeat-long s what (cell w t r 0) (cell w t r 1) a b u)
-    go NoRow = (push-long s k row a b t, refl)
+    go : (r : Row) → Long2 t u (onceFound r s k w what row t u)
+    go (RowAt r) = (refl, repeat-long s what _ _ _ _ u)
+    go NoRow = (push-long s k row t, refl)
 
 -- the settings that list a repeat
 module _ (src : List ℕ) (s : State) (t : List ℕ) where
@@ -155,11 +155,11 @@ list-long src s which t = go (gapAt false src (s .at))
     token (NoToken k) u x = refl
 
     quoted : (r : Token) (u : State) (x : List ℕ) → Long1 x (unusedToken r src u x)
-    quoted (Found p end q) u x = push-long u unused (kindCells 2 (p .from) (p .to)) (p .from) (p .to) x
+    quoted (Found p end q) u x = push-long u unused (kindCells 2 (p .from) (p .to)) x
     quoted (NoToken k) u x = refl
 
     name : (r : Name) (u : State) (x : List ℕ) → Long1 x (unusedName r src u x)
-    name (NameTo j) u x = push-long u unused (kindCells 1 (u .at) j) (u .at) j x
+    name (NameTo j) u x = push-long u unused (kindCells 1 (u .at) j) x
     name (NoName k) u x = quoted (tokenAt src (u .at)) u x
 
     item : (w : Bool) (u : State) (x : List ℕ) → Long1 x (listItem src u w x)
@@ -180,7 +180,7 @@ unfolding precDecl precList precTurn precItem
 prec-long src s assoc t u = go (gapAt false src (s .at))
   where
     found : (r : Token) (v : State) (x y : List ℕ) → Long2 x y (precFound r src v (s .level) assoc x y)
-    found (Found p end q) v x y = once-long src v precedences (width precedences) 0 (p .from) (p .to) RepeatedPrecedence (p .from) (p .to) (precedenceCells (p .from) (p .to) (s .level) assoc) x y
+    found (Found p end q) v x y = once-long src v precedences (width precedences) 0 RepeatedPrecedence (precedenceCells (p .from) (p .to) (s .level) assoc) x y
     found (NoToken k) v x y = (refl, refl)
 
     next : (a : Answer) (p : Out2) → Long2 t u p → Either (Long2 t u) (Long2 t u) (lineEnd a p)
@@ -204,7 +204,7 @@ unfolding avoidDecl avoidList avoidTurn avoidItem avoidNamed
 avoid-long src s k what t u v = on-test (Long3 t u v) (leb (length src) (s .at)) _ _ (λ e. (refl, refl, refl)) (λ e. go (gapAt false src (s .at)))
   where
     entry : (a : Answer) (o : Out1) (from to end : ℕ) (y z : List ℕ) → Long3 (o .a) y z (avoidEntered a o src k what from to end y z)
-    entry Going o from to end y z = let x = once-long src (o .state) k (width avoided) 0 from to what from to (nameCells from to) y z in (refl, x .0, x .1)
+    entry Going o from to end y z = let x = once-long src (o .state) k (width avoided) 0 what (nameCells from to) y z in (refl, x .0, x .1)
     entry Done o from to end y z = (refl, refl, refl)
     entry (Refused f) o from to end y z = (refl, refl, refl)
 
@@ -236,7 +236,7 @@ unfolding eppDecl eppValue eppText eppGiven
 epp-long src s t u = go (gapAt false src (s .at))
   where
     string : (i j from to v : ℕ) (q : Quote) → Long2 t u (eppString q src s i j from to v t u)
-    string i j from to v (Closed e) = once-long src s epps (width epps) keyName from to RepeatedEpp i j (eppCells i j from to v e) t u
+    string i j from to v (Closed e) = once-long src s epps (width epps) keyName RepeatedEpp (eppCells i j from to v e) t u
     string i j from to v (NotOpened k) = (refl, refl)
     string i j from to v (LineInside k) = (refl, refl)
     string i j from to v (BadEscape k) = (refl, refl)
@@ -301,7 +301,7 @@ LongMade t1 t8 t9 o = (length (o .t1) ≡ length t1) × (length (o .t8) ≡ leng
 -- a production that ends
 end-long : (s : State) (d : Production) (t : List ℕ) → Long1 t (endProduction s d t)
 unfolding endProduction pushProduction
-end-long s d t = push-long s productions (productionCells (withLast d (count s symbols))) (d .from) (d .to) t
+end-long s d t = push-long s productions (productionCells (withLast d (count s symbols))) t
 
 -- a quoted symbol
 quoted-long : (src : List ℕ) (s : State) (d : Production) (t1 t9 : List ℕ) → (length (quotedItem src s d t1 t9 .a) ≡ length t1) × (length (quotedItem src s d t1 t9 .b) ≡ length t9)
@@ -309,7 +309,7 @@ unfolding quotedItem quotedRows tokenSymbol
 quoted-long src s d t1 t9 = go (tokenAt src (s .at))
   where
     symbol : (a : Answer) (o : Out1) (from to : ℕ) → Long2 (o .a) t9 (symbolEntered a o from to t9)
-    symbol Going o from to = (refl, push-long (o .state) symbols (kindCells 2 from to) from to t9)
+    symbol Going o from to = (refl, push-long (o .state) symbols (kindCells 2 from to) t9)
     symbol Done o from to = (refl, refl)
     symbol (Refused f) o from to = (refl, refl)
 
@@ -343,7 +343,7 @@ unfolding bareItem
 bare-long src s d t1 t9 = go (tokenAt src (s .at))
   where
     go : (r : Token) → length (bareFound r src s d t1 t9 .a) ≡ length t9
-    go (Found p end q) = push-long s symbols (kindCells (symbolKind src (count s tokens) t1 (p .from) (p .to)) (p .from) (p .to)) (p .from) (p .to) t9
+    go (Found p end q) = push-long s symbols (kindCells (symbolKind src (count s tokens) t1 (p .from) (p .to)) (p .from) (p .to)) t9
     go (NoToken k) = refl
 
 by-sort : (k : Sort) (src : List ℕ) (s n : State) (d : Production) (t1 t8 t9 : List ℕ) → LongMade t1 t8 t9 (bySort k src s n d t1 t8 t9)
@@ -386,7 +386,7 @@ head-long src kind s t = go (nameAt src (s .at))
   where
     found : (r : Row) (u : State) (from to : ℕ) (p : Part) → length (ruleFound r u from to p t .t7) ≡ length t
     found (RowAt r) u from to p = refl
-    found NoRow u from to p = push-long u rules (ruleCells from to p) from to t
+    found NoRow u from to p = push-long u rules (ruleCells from to p) t
 
     typed : (a : Answer) (o : Typing) (from to : ℕ) → length (typedHead a src (o .state) (o .given) from to t .t7) ≡ length t
     typed Going o from to = found (findName src (width rules) 0 (count (o .state) rules) t from to) (o .state) from to (o .given)

@@ -62,7 +62,7 @@ no-symbols src kind T h =
     omega arith
 
 -- The sections of a source: sound so far, and the productions' ranges end behind the last symbol unless a step was refused.
-sections-far : (src : List ℕ) (kind : ℕ) (T : Tables) → length src ≤ 65536 → let r = sectionsAll src kind fresh (zeroAll T) in Whole src (r .tables) (r .answer) (r .state)
+pub sections-far : (src : List ℕ) (kind : ℕ) (T : Tables) → length src ≤ 65536 → let r = sectionsAll src kind fresh (zeroAll T) in Whole src (r .tables) (r .answer) (r .state)
 unfolding sectionsAll restAll
 sections-far src kind T h =
     let U = zeroAll T in
@@ -164,6 +164,23 @@ read-within src kind T = go (admitted src kind) (admits src kind)
 
 pub accepted-end : (src : List ℕ) (kind : ℕ) (T : Tables) (i : ℕ) → readAll src kind T .answer ≡ Accepted i → i ≤ length src
 accepted-end src kind T i e = rw e at (read-within src kind T)
+
+-- "the ten counts of tables 1 to 10": a read gives ten, whatever its answer.
+pub read-ten : (src : List ℕ) (kind : ℕ) (T : Tables) → length (readAll src kind T .counts .n) ≡ 10
+unfolding readAll attempted endedAt
+read-ten src kind T = go (admitted src kind) (admits src kind)
+  where
+    ended : (s : State) (t : List ℕ) → length (s .counts .n) ≡ 10 → length (endedAt s t .counts .n) ≡ 10
+    ended s t h = on-test (λ (r : Reading). length (r .counts .n) ≡ 10) (eqb (count s repeats) 0) _ _ (λ e. h) (λ e. h)
+
+    end : (a : Answer) (s : State) (U : Tables) → length (s .counts .n) ≡ 10 → length (finished a s U .counts .n) ≡ 10
+    end Going s U h = ended s (U .t10) h
+    end Done s U h = ended s (U .t10) h
+    end (Refused f) s U h = refl
+
+    go : (m : Admission) → Admits src m → length (finishedRun (attemptOf m src kind (zeroAll T)) .counts .n) ≡ 10
+    go Fit h = let r = sectionsAll src kind fresh (zeroAll T) in end (r .answer) (r .state) (r .tables) (sections-far src kind T h .far .ten)
+    go (Unfit f) h = refl
 
 -- What is left of a read that stopped: tables as long as those it was given.
 cleared : (T U : Tables) (s : State) (f : Refusal) → lengths U ≡ lengths T → Cleared T (finished (Refused f) s U)

@@ -20,7 +20,7 @@ Allowed src kind T o = o ≡ readAll src kind T
 -- "With repeats only, the number is the first repeat's": no fatal refusal
 abbrev pub RepeatsOnly : Refusal → Type 0
 RepeatsOnly (Fault c i) = ⊥
-RepeatsOnly (Repeated n a b) = Unit {0}
+RepeatsOnly (Repeated what a b) = Unit {0}
 RepeatsOnly (NoRoom t a b) = ⊥
 RepeatsOnly TooLong = ⊥
 RepeatsOnly BadKind = ⊥

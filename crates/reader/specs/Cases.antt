@@ -21,9 +21,10 @@ use Rattle.texts.specs.Action.{braced, bracedFrom, acted, actionAt}
 use Rattle.tables.specs.Layout.{width}
 use Rattle.tables.specs.Table.{room, addRow, samePart, hasName, firstRow, findName, enterToken}
 use Rattle.keywords.specs.Keywords.{firstOf, seenAt}
+use Rattle.grammar.specs.Refusals.{ofNumber, repeatOf}
 use Rattle.grammar.specs.Numbers.{singlesNumbers}
 use Rattle.grammar.specs.State.{nextLevel, gapOf, gapAt, pushRow, listRepeat, enterStep, onceStep, pastGap}
-use Rattle.grammar.specs.Sound.{Tables, tab}
+use Rattle.grammar.specs.Sound.{Tables, tab, setTab}
 use Rattle.productions.specs.Cells.{pushProduction}
 use Rattle.settings.specs.Settings.{startNamed, startDecl, expectGiven, expectDecl, actiontypeNamed, actiontypeDecl, paramTyped, paramDecl, genericsDecl}
 use Rattle.lists.specs.Lists.{tokenItem, unusedRow, unusedItem, ends, listTurn, percentList, listDecl}
@@ -133,5 +134,49 @@ table =
     ∷ []
 
 pub table-holds : all (λ x. numbers (readAll (x .src) (x .kind) lent)) table ≡ true
-unfolding isWhite all same row table filled numbers readAll attempted admitted sectionsAll restAll endedAt check checkAt declAll declRun declTurn declStep seenAt firstOf startsAt begins turns gapAt gapOf spacing spacingAt isBlank isEol pastGap pushRow listRepeat enterStep onceStep addRow room samePart hasName firstRow findName enterToken nextLevel nameAt named wordAt tokenAt bare quotedAt closed isQuote isAt inClass isLetter isDigit runEnd runEndAt intAt counted decimal decimalAt stringAt stringFrom string lineEndAt single singleFrom colonText colonTextAt braced bracedFrom acted actionAt startDecl startNamed expectDecl expectGiven actiontypeDecl actiontypeNamed paramTyped paramDecl genericsDecl listDecl percentList listTurn ends tokenItem unusedItem unusedRow precDecl precList precTurn precItem avoidDecl avoidList avoidTurn avoidItem avoidNamed eppDecl eppValue eppText eppGiven pushProduction leadOf follow followAt begun decode decodeAt passed passedAt kept moved trimTurn trimmed firstMark sortAt tokenSymbol quotedRows quotedItem precName item-precItem mayEnd afterAction actionItem mayFollow emptyItem symbolKind bareItem endProduction barItem endItem itemStep itemTurn itemList passMark firstStart colonType arrowType ruleType enterRule namedHead ruleHead ruleBody ruleStep nextRule rulesTurn rulesRun rulesAll programsFrom
+unfolding isWhite all same row table filled numbers readAll attempted admitted sectionsAll restAll endedAt repeatOf ofNumber check checkAt declAll declRun declTurn declStep seenAt firstOf startsAt begins turns gapAt gapOf spacing spacingAt isBlank isEol pastGap pushRow listRepeat enterStep onceStep addRow room samePart hasName firstRow findName enterToken nextLevel nameAt named wordAt tokenAt bare quotedAt closed isQuote isAt inClass isLetter isDigit runEnd runEndAt intAt counted decimal decimalAt stringAt stringFrom string lineEndAt single singleFrom colonText colonTextAt braced bracedFrom acted actionAt startDecl startNamed expectDecl expectGiven actiontypeDecl actiontypeNamed paramTyped paramDecl genericsDecl listDecl percentList listTurn ends tokenItem unusedItem unusedRow precDecl precList precTurn precItem avoidDecl avoidList avoidTurn avoidItem avoidNamed eppDecl eppValue eppText eppGiven pushProduction leadOf follow followAt begun decode decodeAt passed passedAt kept moved trimTurn trimmed firstMark sortAt tokenSymbol quotedRows quotedItem precName item-precItem mayEnd afterAction actionItem mayFollow emptyItem symbolKind bareItem endProduction barItem endItem itemStep itemTurn itemList passMark firstStart colonType arrowType ruleType enterRule namedHead ruleHead ruleBody ruleStep nextRule rulesTurn rulesRun rulesAll programsFrom
 table-holds = refl
+
+-- A source, a kind, and a table without room for a row: index k is table k + 1.
+pub record Crowd : Type 0 where
+  pub kind : ℕ
+  pub without : ℕ
+  pub src : List ℕ
+
+unfoldable pub full : ℕ → ℕ → List ℕ → List ℕ → Case Crowd
+full kind k src gives = record { input = record { kind = kind; without = k; src = src }; gives = gives }
+
+-- "42 no room: first place of the row that didn't fit, for 10 its repeated one, and table number"
+unfoldable pub rooms : List (Case Crowd)
+rooms =
+    -- `%token AB%%s:;`, kind 1, no room in table 1
+    full 1 0 (37 ∷ 116 ∷ 111 ∷ 107 ∷ 101 ∷ 110 ∷ 32 ∷ 65 ∷ 66 ∷ 37 ∷ 37 ∷ 115 ∷ 58 ∷ 59 ∷ []) (42 ∷ 7 ∷ 9 ∷ 1 ∷ [])
+    -- `%left 'ab'\n%%s:;`, kind 1, no room in table 2
+    ∷ full 1 1 (37 ∷ 108 ∷ 101 ∷ 102 ∷ 116 ∷ 32 ∷ 39 ∷ 97 ∷ 98 ∷ 39 ∷ 10 ∷ 37 ∷ 37 ∷ 115 ∷ 58 ∷ 59 ∷ []) (42 ∷ 7 ∷ 9 ∷ 2 ∷ [])
+    -- `%avoid_insert 'ab'\n%%s:;`, kind 1, no room in table 3
+    ∷ full 1 2 (37 ∷ 97 ∷ 118 ∷ 111 ∷ 105 ∷ 100 ∷ 95 ∷ 105 ∷ 110 ∷ 115 ∷ 101 ∷ 114 ∷ 116 ∷ 32 ∷ 39 ∷ 97 ∷ 98 ∷ 39 ∷ 10 ∷ 37 ∷ 37 ∷ 115 ∷ 58 ∷ 59 ∷ []) (42 ∷ 15 ∷ 17 ∷ 3 ∷ [])
+    -- `%implicit_tokens 'ab'\n%%s:;`, kind 3, no room in table 4
+    ∷ full 3 3 (37 ∷ 105 ∷ 109 ∷ 112 ∷ 108 ∷ 105 ∷ 99 ∷ 105 ∷ 116 ∷ 95 ∷ 116 ∷ 111 ∷ 107 ∷ 101 ∷ 110 ∷ 115 ∷ 32 ∷ 39 ∷ 97 ∷ 98 ∷ 39 ∷ 10 ∷ 37 ∷ 37 ∷ 115 ∷ 58 ∷ 59 ∷ []) (42 ∷ 18 ∷ 20 ∷ 4 ∷ [])
+    -- `%token ab%epp 'ab' "cd"%%s:;`, kind 1, no room in table 5
+    ∷ full 1 4 (37 ∷ 116 ∷ 111 ∷ 107 ∷ 101 ∷ 110 ∷ 32 ∷ 97 ∷ 98 ∷ 37 ∷ 101 ∷ 112 ∷ 112 ∷ 32 ∷ 39 ∷ 97 ∷ 98 ∷ 39 ∷ 32 ∷ 34 ∷ 99 ∷ 100 ∷ 34 ∷ 37 ∷ 37 ∷ 115 ∷ 58 ∷ 59 ∷ []) (42 ∷ 14 ∷ 18 ∷ 5 ∷ [])
+    -- `%expect-unused ab%%s:;`, kind 1, no room in table 6
+    ∷ full 1 5 (37 ∷ 101 ∷ 120 ∷ 112 ∷ 101 ∷ 99 ∷ 116 ∷ 45 ∷ 117 ∷ 110 ∷ 117 ∷ 115 ∷ 101 ∷ 100 ∷ 32 ∷ 97 ∷ 98 ∷ 37 ∷ 37 ∷ 115 ∷ 58 ∷ 59 ∷ []) (42 ∷ 15 ∷ 17 ∷ 6 ∷ [])
+    -- `%%ab:;`, kind 1, no room in table 7
+    ∷ full 1 6 (37 ∷ 37 ∷ 97 ∷ 98 ∷ 58 ∷ 59 ∷ []) (42 ∷ 2 ∷ 4 ∷ 7 ∷ [])
+    -- `%%s:ab cd;`, kind 1, no room in table 8
+    ∷ full 1 7 (37 ∷ 37 ∷ 115 ∷ 58 ∷ 97 ∷ 98 ∷ 32 ∷ 99 ∷ 100 ∷ 59 ∷ []) (42 ∷ 4 ∷ 9 ∷ 8 ∷ [])
+    -- `%%s:ab;`, kind 1, no room in table 9
+    ∷ full 1 8 (37 ∷ 37 ∷ 115 ∷ 58 ∷ 97 ∷ 98 ∷ 59 ∷ []) (42 ∷ 4 ∷ 6 ∷ 9 ∷ [])
+    -- `%start ab%start cd%%ab:;`, kind 1, no room in table 10
+    ∷ full 1 9 (37 ∷ 115 ∷ 116 ∷ 97 ∷ 114 ∷ 116 ∷ 32 ∷ 97 ∷ 98 ∷ 37 ∷ 115 ∷ 116 ∷ 97 ∷ 114 ∷ 116 ∷ 32 ∷ 99 ∷ 100 ∷ 37 ∷ 37 ∷ 97 ∷ 98 ∷ 58 ∷ 59 ∷ []) (42 ∷ 16 ∷ 18 ∷ 10 ∷ [])
+    -- `%%s:'ab';`, kind 1, no room in table 1
+    ∷ full 1 0 (37 ∷ 37 ∷ 115 ∷ 58 ∷ 39 ∷ 97 ∷ 98 ∷ 39 ∷ 59 ∷ []) (42 ∷ 5 ∷ 7 ∷ 1 ∷ [])
+    -- `%left 'ab'\n%left 'ab'\n%%s:;`, kind 1, no room in table 10
+    ∷ full 1 9 (37 ∷ 108 ∷ 101 ∷ 102 ∷ 116 ∷ 32 ∷ 39 ∷ 97 ∷ 98 ∷ 39 ∷ 10 ∷ 37 ∷ 108 ∷ 101 ∷ 102 ∷ 116 ∷ 32 ∷ 39 ∷ 97 ∷ 98 ∷ 39 ∷ 10 ∷ 37 ∷ 37 ∷ 115 ∷ 58 ∷ 59 ∷ []) (42 ∷ 18 ∷ 20 ∷ 10 ∷ [])
+    -- `%token ab%epp 'ab' 'x'%epp ab 'y'%%s:;`, kind 1, no room in table 10
+    ∷ full 1 9 (37 ∷ 116 ∷ 111 ∷ 107 ∷ 101 ∷ 110 ∷ 32 ∷ 97 ∷ 98 ∷ 37 ∷ 101 ∷ 112 ∷ 112 ∷ 32 ∷ 39 ∷ 97 ∷ 98 ∷ 39 ∷ 32 ∷ 39 ∷ 120 ∷ 39 ∷ 37 ∷ 101 ∷ 112 ∷ 112 ∷ 32 ∷ 97 ∷ 98 ∷ 32 ∷ 39 ∷ 121 ∷ 39 ∷ 37 ∷ 37 ∷ 115 ∷ 58 ∷ 59 ∷ []) (42 ∷ 27 ∷ 29 ∷ 10 ∷ [])
+    ∷ []
+
+pub rooms-hold : all (λ x. verdictNumbers (readAll (x .src) (x .kind) (setTab lent (x .without) []) .answer)) rooms ≡ true
+unfolding full rooms isWhite all same readAll attempted admitted sectionsAll restAll endedAt repeatOf ofNumber check checkAt declAll declRun declTurn declStep seenAt firstOf startsAt begins turns gapAt gapOf spacing spacingAt isBlank isEol pastGap pushRow listRepeat enterStep onceStep addRow room samePart hasName firstRow findName enterToken nextLevel nameAt named wordAt tokenAt bare quotedAt closed isQuote isAt inClass isLetter isDigit runEnd runEndAt intAt counted decimal decimalAt stringAt stringFrom string lineEndAt single singleFrom colonText colonTextAt braced bracedFrom acted actionAt startDecl startNamed expectDecl expectGiven actiontypeDecl actiontypeNamed paramTyped paramDecl genericsDecl listDecl percentList listTurn ends tokenItem unusedItem unusedRow precDecl precList precTurn precItem avoidDecl avoidList avoidTurn avoidItem avoidNamed eppDecl eppValue eppText eppGiven pushProduction leadOf follow followAt begun decode decodeAt passed passedAt kept moved trimTurn trimmed firstMark sortAt tokenSymbol quotedRows quotedItem precName item-precItem mayEnd afterAction actionItem mayFollow emptyItem symbolKind bareItem endProduction barItem endItem itemStep itemTurn itemList passMark firstStart colonType arrowType ruleType enterRule namedHead ruleHead ruleBody ruleStep nextRule rulesTurn rulesRun rulesAll programsFrom
+rooms-hold = refl

@@ -1,5 +1,5 @@
 -- Document 01, "Numbers given back": "Order: 43, 41, 40, then reading."
-use Prim.Native.Nat.{ℕ, _≤_}
+use Prim.Native.Nat.{ℕ, _+_, _≤_}
 use mathlib.Core.Path.{_≡_}
 use mathlib.Core.List.{List, [], _∷_}
 use mathlib.Core.Bool.{Bool, true, false, _||_}
@@ -9,7 +9,7 @@ use Rattle.whole.specs.declared.Checked.{Checked}
 use Rattle.whole.specs.declared.Checked.the-variants.{Good, BadAt}
 use Rattle.whole.specs.Whole.{checkAt}
 use Rattle.tables.specs.Table.{zeroed, cell}
-use Rattle.tables.specs.Layout.{repeats, width}
+use Rattle.tables.specs.Layout.{repeats, firstPlace, width}
 use Rattle.grammar.specs.declared.Counts.{Counts}
 use Rattle.grammar.specs.declared.Singles.{Singles}
 use Rattle.grammar.specs.declared.State.{State}
@@ -18,6 +18,7 @@ use Rattle.grammar.specs.declared.Refusal.{Refusal}
 use Rattle.grammar.specs.declared.Refusal.the-variants.{Fault, Repeated, TooLong, BadKind}
 use Rattle.grammar.specs.declared.Answer.{Answer}
 use Rattle.grammar.specs.declared.Answer.the-variants.{Going, Done, Refused}
+use Rattle.grammar.specs.Refusals.{repeatOf}
 use Rattle.grammar.specs.Numbers.{refusalNumbers}
 use Rattle.grammar.specs.State.{Out0, count, fresh, noSingles}
 use Rattle.grammar.specs.Sound.{Tables, zeroAll}
@@ -131,7 +132,7 @@ unfoldable pub endedAt : State → List ℕ → Reading
 endedAt s t10 =
     elim (eqb (count s repeats) 0) [
       | true ↦ record { answer = Accepted (s .at); counts = s .counts; singles = s .singles }
-      | false ↦ record { answer = Rejected (Repeated (cell (width repeats) t10 0 0) (cell (width repeats) t10 0 1) (cell (width repeats) t10 0 2)); counts = s .counts; singles = s .singles }
+      | false ↦ record { answer = Rejected (Repeated (repeatOf (cell (width repeats) t10 0 0)) (cell (width repeats) t10 0 firstPlace) (cell (width repeats) t10 0 (firstPlace + 1))); counts = s .counts; singles = s .singles }
     ]
 
 abbrev pub clearNine : Tables → Tables

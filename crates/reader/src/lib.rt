@@ -231,11 +231,11 @@ pub fn ended(s: State, t10: &[u32]) -> Reading
             singles,
         };
     }
-    let number = tables::cell(t10, tables::REPEAT_WIDTH, 0, 0);
-    let from = tables::cell(t10, tables::REPEAT_WIDTH, 0, 1);
-    let to = tables::cell(t10, tables::REPEAT_WIDTH, 0, 2);
+    let what = grammar::repeat_of(tables::cell(t10, tables::REPEAT_WIDTH, 0, 0));
+    let from = tables::cell(t10, tables::REPEAT_WIDTH, 0, tables::FIRST_PLACE);
+    let to = tables::cell(t10, tables::REPEAT_WIDTH, 0, tables::FIRST_PLACE + 1);
     Reading {
-        answer: Verdict::Rejected(Refusal::Repeated(number, from, to)),
+        answer: Verdict::Rejected(Refusal::Repeated(what, from, to)),
         counts,
         singles,
     }

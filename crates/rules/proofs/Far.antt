@@ -172,13 +172,13 @@ rule-far {src} {done} {s} {T} f from to given p q =
     (λ none.
     let row = ruleCells from to given in
     let w = part-wide given in
-    let x = push-held f rules (omega arith) (λ e. omega arith) row from to (rw w) (record { name = p; type = given-part src given q }) (λ r l. new-name src (T .t7) from to given r (none r l)) in
+    let x = push-held f rules (omega arith) (λ e. omega arith) row (rw w) (record { name = p; type = given-part src given q }) (λ r l. new-name src (T .t7) from to given r (none r l)) in
     let e = x .stays in
     record {
       far = x .far;
       beyond = λ g. omega arith;
-      symbols = push-apart s rules row from to (T .t7) .count symbols (λ e. omega arith);
-      row = λ g. let c = push-more s rules row from to (T .t7) (rw (f .ten) (omega arith)) g .counted in omega arith;
+      symbols = push-apart s rules row (T .t7) .count symbols (λ e. omega arith);
+      row = λ g. let c = push-more s rules row (T .t7) (rw (f .ten) (omega arith)) g .counted in omega arith;
     })
 
 -- the head of a rule, behind its name and from it on

@@ -120,12 +120,12 @@ module _ (src : List ℕ) (s : State) (from to : ℕ) (given : Part) (t7 : List 
   unfolding enterRule
   rule-again r e = rw (← c, ← q, e)
 
-  pub rule-new : (x : List ℕ) (o : Out1) → w ≡ NoRow → x ≡ partNumbers given → o ≡ pushRow s rules (from ∷ to ∷ getD x 0 0 ∷ getD x 1 0 ∷ getD x 2 0 ∷ []) from to t7
+  pub rule-new : (x : List ℕ) (o : Out1) → w ≡ NoRow → x ≡ partNumbers given → o ≡ pushRow s rules (from ∷ to ∷ getD x 0 0 ∷ getD x 1 0 ∷ getD x 2 0 ∷ []) t7
       → record { answer = o .answer; state = o .state; row = n; t7 = o .a } ≡ enterRule src s from to given t7
   unfolding enterRule
   rule-new x o e k h =
       let p = rw c at q in
-      rw (← p, e, c) (ap (newRule (count s rules)) ((rw k at h) ∙ ap (λ (y : List ℕ). pushRow s rules (from ∷ to ∷ y) from to t7) (three given)))
+      rw (← p, e, c) (ap (newRule (count s rules)) ((rw k at h) ∙ ap (λ (y : List ℕ). pushRow s rules (from ∷ to ∷ y) t7) (three given)))
 
 -- the head behind the name
 module _ (src : List ℕ) (kind : ℕ) (s : State) (j : ℕ) (t7 : List ℕ) (first : State) (z : Typing) (k : first ≡ firstStart s (s .at) j) (q : z ≡ ruleType src kind (withAt first j)) where

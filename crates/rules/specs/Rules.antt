@@ -101,7 +101,7 @@ newRule n o = record { answer = o .answer; state = o .state; row = n; t7 = o .a 
 
 abbrev pub ruleFound : Found → State → ℕ → ℕ → Part → List ℕ → Heading
 ruleFound (RowAt r) s from to given t7 = record { answer = Going; state = s; row = r; t7 = t7 }
-ruleFound NoRow s from to given t7 = newRule (count s rules) (pushRow s rules (ruleCells from to given) from to t7)
+ruleFound NoRow s from to given t7 = newRule (count s rules) (pushRow s rules (ruleCells from to given) t7)
 
 unfoldable pub enterRule : List ℕ → State → ℕ → ℕ → Part → List ℕ → Heading
 enterRule src s from to given t7 = ruleFound (findName src (width rules) 0 (count s rules) t7 from to) s from to given t7

@@ -150,7 +150,7 @@ pub fn enter_rule(src: &[u8], s: State, from: u32, to: u32, given: Part, t7: &mu
         Found::NoRow => {
             let x = grammar::part_cells(given);
             let row = [from, to, x[0], x[1], x[2]];
-            let r = grammar::push(s, tables::RULES, &row, from, to, t7);
+            let r = grammar::push(s, tables::RULES, &row, t7);
             let answer = r.answer;
             let state = r.state;
             Headed {

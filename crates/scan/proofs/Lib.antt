@@ -2,3 +2,4 @@ pub mod Bytes
 pub mod Loop
 pub mod Runs
 pub mod Table
+pub mod Tally

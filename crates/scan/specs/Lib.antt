@@ -1,4 +1,5 @@
 pub mod Scan
+pub mod Tally
 pub mod Loop
 pub mod Table
 pub mod Cases

@@ -39,13 +39,13 @@ use Rattle.settings.specs.Singles.{withStart, withExpected, expectedOf, 
 use Rattle.settings.specs.Settings.{startGiven, startNamed, startName, startFrom, startDecl, repeatedExpect, expectSeen, expectGiven, expectInt, expectFrom, expectDecl, actiontypeGiven, actiontypeNamed, actiontypeFrom, actiontypeDecl, paramGiven, paramTyped, paramText, paramFrom, paramDecl, genericsFrom, genericsDecl}
 
 -- the text to the line end
-line-end : (src : List ℕ) (i : ℕ) → i ≤ length src → (i ≤ lineEndAt src i) × (lineEndAt src i ≤ length src)
+pub line-end : (src : List ℕ) (i : ℕ) → i ≤ length src → (i ≤ lineEndAt src i) × (lineEndAt src i ≤ length src)
 unfolding lineEndAt
 line-end src i h = let x = run-is (inClass LineByte) src i h in (x .onward, x .inside)
 
 module _ {src : List ℕ} {done : ℕ} {s : State} {T : Tables} (f : Far src done s T) where
   -- `%start`
-  start-held : (i j : ℕ) → Passed src i j → Held src done T repeats s (startNamed s i j (T .t10))
+  pub start-held : (i j : ℕ) → Passed src i j → Held src done T repeats s (startNamed s i j (T .t10))
   unfolding startNamed
   start-held i j p = go (s .singles .start) (f .singles .start)
     where
@@ -69,7 +69,7 @@ module _ {src : List ℕ} {done : ℕ} {s : State} {T : Tables} (f : Far src don
       go (GapRefused e) x = f
 
   -- `%expect` and `%expect-rr`
-  expect-held : (rr : Bool) (v i j : ℕ) → Passed src i j → Held src done T repeats s (expectGiven s rr v i j (T .t10))
+  pub expect-held : (rr : Bool) (v i j : ℕ) → Passed src i j → Held src done T repeats s (expectGiven s rr v i j (T .t10))
   unfolding expectGiven
   expect-held rr v i j p = go (expectedOf rr (s .singles)) (old rr)
     where
@@ -99,7 +99,7 @@ module _ {src : List ℕ} {done : ℕ} {s : State} {T : Tables} (f : Far src don
       go (GapRefused e) x = f
 
   -- `%actiontype`
-  actiontype-held : (i j : ℕ) → Passed src i j → Held src done T repeats s (actiontypeNamed s i j (T .t10))
+  pub actiontype-held : (i j : ℕ) → Passed src i j → Held src done T repeats s (actiontypeNamed s i j (T .t10))
   unfolding actiontypeNamed
   actiontype-held i j p = go (s .actiontype) (f .actiontype)
     where

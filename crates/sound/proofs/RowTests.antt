@@ -14,7 +14,7 @@ use Rattle.tables.proofs.Rows.{row-cell}
 use Rattle.grammar.specs.State.{Passed}
 use Rattle.grammar.specs.Sound.{Given, GivenAction, View, TokenRow, PrecRow, NameRow, EppRow, KindRow, RuleRow, ProductionRow, RepeatRow, each}
 use Rattle.sound.specs.Test.{givenTest, actionTest, tokenTest, precTest, nameTest, eppTest, kindTest, ruleTest, productionTest, repeatTest, rowTest}
-use Rattle.sound.proofs.Tells.{both-iff, le-iff, lt-iff, lies-iff, given-iff, action-iff}
+use Rattle.sound.proofs.Tells.{both-iff, le-iff, lt-iff, lies-iff, given-iff, given-action-iff}
 
 module _ (src t : List ℕ) (r : ℕ) where
   -- tests of cells, as what they tell of the row
@@ -39,7 +39,7 @@ module _ (src t : List ℕ) (r : ℕ) where
         ↔ GivenAction src (getD (rowAt w t r) k 0) (getD (rowAt w t r) (k + 1) 0) (getD (rowAt w t r) (k + 2) 0) (getD (rowAt w t r) (k + 3) 0) (getD (rowAt w t r) (k + 4) 0)
     acted h =
         rw (row-cell w t r k (omega arith), row-cell w t r (k + 1) (omega arith), row-cell w t r (k + 2) (omega arith), row-cell w t r (k + 3) (omega arith), row-cell w t r (k + 4) h)
-        (action-iff src _ _ _ _ _)
+        (given-action-iff src _ _ _ _ _)
 
   token-iff : (tokenTest src t r ≡ true) ↔ TokenRow src (rowAt (width tokens) t r)
   unfolding tokenTest

@@ -82,9 +82,9 @@ given-iff src f a b =
     either-iff (Iff·trans (both-iff (both-iff (eq-iff f 0) (eq-iff a 0)) (eq-iff b 0)) (λ x. (x .0 .0, x .0 .1, x .1), λ x. ((x .0, x .1), x .2)))
     (both-iff (eq-iff f 1) (lies-iff src a b))
 
-pub action-iff : (src : List ℕ) (f a b c d : ℕ) → (actionTest src f a b c d ≡ true) ↔ GivenAction src f a b c d
+pub given-action-iff : (src : List ℕ) (f a b c d : ℕ) → (actionTest src f a b c d ≡ true) ↔ GivenAction src f a b c d
 unfolding actionTest
-action-iff src f a b c d =
+given-action-iff src f a b c d =
     either-iff
     (Iff·trans (both-iff (both-iff (both-iff (both-iff (eq-iff f 0) (eq-iff a 0)) (eq-iff b 0)) (eq-iff c 0)) (eq-iff d 0))
     (λ x. (x .0 .0 .0 .0, x .0 .0 .0 .1, x .0 .0 .1, x .0 .1, x .1), λ x. ((((x .0, x .1), x .2), x .3), x .4)))

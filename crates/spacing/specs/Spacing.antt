@@ -76,6 +76,12 @@ Spaces s from (To i n) = (from + n ≤ i) × (i ≤ length s) × Edge s from i
 Spaces s from (LineEnd i) = (from ≤ i) × (i < length s)
 Spaces s from (OpenComment i) = (from ≤ i) × (i < length s)
 
+-- at least n line ends are counted, where spacing is not refused
+abbrev pub AtLeast : ℕ → Spaced → Type 0
+AtLeast n (To i m) = n ≤ m
+AtLeast n (LineEnd i) = Unit {0}
+AtLeast n (OpenComment i) = Unit {0}
+
 -- document 01's number and values: 0, the end and the line ends; 13 ReachedEOL and its place; 5 IncompleteComment and its place
 unfoldable pub numbers : Spaced → List ℕ
 numbers (To i n) = 0 ∷ i ∷ n ∷ []

@@ -78,9 +78,19 @@ symbols = 8
 abbrev pub repeats : ℕ
 repeats = 9
 
+abbrev pub firstPlace : ℕ
+firstPlace = 1
+
+abbrev pub repeatedPlace : ℕ
+repeatedPlace = 3
+
 -- in tables 6 and 9 a row's name stands behind its kind
 abbrev pub kindName : ℕ
 kindName = 1
+
+-- "first place of the row that didn't fit, for 10 its repeated one": the cell where that place begins, in number order
+abbrev pub rowPlace : ℕ → ℕ
+rowPlace k = getD (0 ∷ 0 ∷ 0 ∷ 0 ∷ 0 ∷ kindName ∷ 0 ∷ place ∷ kindName ∷ repeatedPlace ∷ []) k 0
 
 -- the widths in number order; no table is nowhere wide
 abbrev pub width : ℕ → ℕ

@@ -1,6 +1,9 @@
 // Lent tables of 32-bit numbers: rows of one width, one behind the other from the first cell on. Every operation is total: past the end there is
 // nothing to read or to write.
 ghost use mathlib.Core.Path.{_≡_};
+ghost use lib.ListN.{getD};
+ghost use Prim.Native.Nat.{_≤_};
+ghost use Rattle.tables.specs.Layout.{rowPlace};
 ghost use Rattle.tables.specs.Table.{Added, addRow, zeroed, cell, setCell, lies, samePart, findName, Inserted, enterToken};
 
 // The tables by index: table 1 is at 0.
@@ -79,6 +82,10 @@ pub const SPAN_FROM: u32 = 11;
 
 pub const SPAN_TO: u32 = 12;
 
+pub const FIRST_PLACE: u32 = 1;
+
+pub const REPEATED_PLACE: u32 = 3;
+
 pub enum Found {
     RowAt(u32),
     NoRow,
@@ -130,6 +137,29 @@ pub fn cell(t: &[u32], w: u32, r: u32, k: u32) -> u32
 {
     let i = (r as usize) * (w as usize) + (k as usize);
     if i < t.len() { t[i] } else { 0 }
+}
+
+// Cell `k` of a row by itself; 0 past its end.
+pub fn cell_in_row(row: &[u32], k: u32) -> u32
+    ensures { λ v. ⌜ v ≡ getD (now (row .entry)) k 0 ⌝ }
+{
+    let i = k as usize;
+    if i < row.len() { row[i] } else { 0 }
+}
+
+// The cell where the place of a row begins, which a refusal for want of room gives: behind the kind in tables 6 and 9, behind the rule's row in table 8, the
+// repeated place in table 10.
+pub fn row_place(k: u8) -> u32
+    ensures { λ r. ⌜ r ≡ rowPlace k ⌝ }
+    ensures { λ r. ⌜ r ≤ 3 ⌝ }
+{
+    match k {
+        5 => 1,
+        7 => FROM,
+        8 => 1,
+        9 => REPEATED_PLACE,
+        _ => 0,
+    }
 }
 
 pub fn set_cell(t: &mut [u32], w: u32, r: u32, k: u32, v: u32)

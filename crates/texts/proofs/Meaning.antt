@@ -6,15 +6,15 @@ use mathlib.Core.Logic.{_⊎_, inl, inr}
 use mathlib.Core.Bool.{true}
 use native.Mathlib.Omega.{arith}
 use lib.ListN.{length, getD, take}
-use lib.Seq.{slice, take-length}
+use lib.Seq.{take-length}
 use Rattle.scan.specs.declared.Place.{Place}
 use Rattle.scan.specs.Scan.{startsAt, Edge}
 use Rattle.scan.proofs.Bytes.{starts-fits, starts-byte}
-use Rattle.whole.specs.Encode.{encoded, Text}
+use Rattle.whole.specs.Encode.{Text}
 use Rattle.whole.proofs.Boundaries.{begins-boundary, ascii-behind}
 use Rattle.trim.specs.Trim.{trimmed}
-use Rattle.trim.specs.Trims.{Trims}
 use Rattle.trim.proofs.Theorem.{trims-between}
+use Rattle.texts.specs.Trimmed.{Trimmed}
 use Rattle.texts.specs.Colon.{singleAt, colonText, colonTextAt, Singled}
 use Rattle.texts.specs.Action.{bracedAt, spanOf, acted, actionAt, Braced}
 use Rattle.texts.specs.declared.Colon.{Colon}
@@ -24,10 +24,6 @@ use Rattle.texts.specs.declared.Brace.{Brace}
 use Rattle.texts.specs.declared.Brace.the-variants.{Closes, NeverCloses}
 use Rattle.texts.specs.declared.Action.the-variants.{Body, OpenAction}
 use Rattle.texts.proofs.Laws.{singles, braces}
-
--- the trimmed place of a region, without a scan
-abbrev pub Trimmed : List ℕ → ℕ → ℕ → Place → Type 0
-Trimmed s from to p = (cs : List ℕ) × (encoded cs ≡ slice from to s) × Trims from cs p
 
 module _ (s : List ℕ) (t : Text s) where
   -- Where spacing ends, a code point begins if one began where it started.

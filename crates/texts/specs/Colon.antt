@@ -36,7 +36,7 @@ singleFrom mode s i n = single mode (drop i s) i n
 abbrev pub singleAt : List ℕ → ℕ → Colon
 singleAt s i = singleFrom plain s i 0
 
--- "`%parse-param` is a trimmed text to a single colon"; "Kind 2's rule type" is one too
+-- "`%parse-param` is a trimmed text to a single colon"; a rule's type in kind 2 is one too
 unfoldable pub colonText : List ℕ → ℕ → Colon → ColonText
 colonText s from (Single to n) = Upto to n (trimmed s from to)
 colonText s from (NoSingle end) = NoColon end

@@ -1,20 +1,23 @@
 -- Demand 3: the rows of the report are exactly the unused rules and tokens, each once, rules first and rows ascending. Assumes nothing.
-use Prim.Native.Nat.{ℕ, zero, suc, _+_, _*_, _-_, _<_}
+use Prim.Native.Nat.{ℕ, zero, suc, _+_, _*_, _-_, _<_, _≤_}
 use mathlib.Core.Path.{_≡_, refl, sym, ap, _∙_}
 use mathlib.Core.List.{List, [], _∷_, _++_, append-assoc, List·Memᴰ, List·Memᴰ·head, List·Memᴰ·tail}
 use mathlib.Core.Logic.{_↔_, _⊎_, inl, inr, ⊎-elim}
 use native.Mathlib.Omega.{arith}
 use native.Mathlib.Decide.{decLt}
-use lib.ListN.{length, getD, replicate}
+use lib.ListN.{length, getD, replicate, length-replicate}
 use lib.Seq.{getD-append-add}
 use Rattle.tables.specs.Table.{cell}
 use Rattle.grammar.specs.declared.Counts.{Counts}
 use Rattle.grammar.specs.declared.Singles.{Singles}
 use Rattle.grammar.specs.Sound.{Tables}
-use Rattle.reach.specs.Reach.{Grammar, grammarOf}
-use Rattle.usage.specs.declared.Listing.the-variants.{Unused}
-use Rattle.usage.specs.Report.{Excuses, excusesOf, rowsOf, total, Filled, Accepted, Reported}
-use Rattle.usage.specs.Standing.{StandsIn, UnusedRow, unused-rule, unused-token, Before, by-kind, by-row}
+use Rattle.validation.specs.declared.Validity.the-variants.{Valid}
+use Rattle.validation.specs.Faults.{validity}
+use Rattle.reach.specs.Reach.{Grammar, grammarOf, need}
+use Rattle.usage.specs.declared.Listing.{Listing}
+use Rattle.usage.specs.declared.Listing.the-variants.{Unused, OfUnsound, OfInvalid, NoWords, NoRoom}
+use Rattle.usage.specs.Report.{Excuses, excusesOf, UnusedRule, UnusedToken, rowsOf, total, Filled, Crowded, ValidReport, Reported}
+use Rattle.usage.specs.Standing.{StandsIn, UnusedRow, unused-rule, unused-token, Before, by-kind, by-row, UnusedRows, TooMany}
 use Rattle.usage.proofs.Picked.{rows-length, picks-has, picks-is, picks-rise}
 use Rattle.usage.proofs.Outcome.{reported-rows}
 
@@ -137,29 +140,128 @@ module _ {R T : ℕ → Type 0} {m n count : ℕ} {out₀ out : List ℕ} (f : F
       behind : (b : ℕ) → b < length lt → i < length lr + b → Before out i (length lr + b)
       behind b l g = each-row (λ i. i < length lr + b → Before out i (length lr + b)) i (omega arith) (λ a g. rule-first i b a l) (λ a m g. tokens-rise a b (omega arith) l) g
 
+-- ---- of unused rules and tokens
+
+module _ (g : Grammar) (x : Excuses) where
+  abbrev FilledBy : ℕ → List ℕ → List ℕ → Type 0
+  FilledBy n out₀ out = Filled (UnusedRule g x) (UnusedToken g x) (g .rules .sort .count) (g .tokens .sort .count) n out₀ out
+
+  is-unused : {n : ℕ} {out₀ out : List ℕ} → FilledBy n out₀ out → (kd r : ℕ) → StandsIn out n kd r → UnusedRow g x kd r
+  is-unused f kd r s = ⊎-elim (λ y. unused-rule (y .0) (y .1) (y .2)) (λ y. unused-token (y .0) (y .1) (y .2)) (filled-is f kd r s)
+
+  is-listed : {n : ℕ} {out₀ out : List ℕ} → FilledBy n out₀ out → (kd r : ℕ) → UnusedRow g x kd r → StandsIn out n kd r
+  is-listed f kd r (unused-rule e h u) = rw e (filled-rule f r h u)
+  is-listed f kd r (unused-token e h u) = rw e (filled-token f r h u)
+
+  filled-rows : {n : ℕ} {out₀ out : List ℕ} → FilledBy n out₀ out → UnusedRows g x n out
+  filled-rows f = record { exactly = λ kd r. (is-unused f kd r, is-listed f kd r); rises = filled-rises f }
+
+  -- rows that do not fit would fill a larger report
+  crowded-rows : {out₀ : List ℕ} → Crowded (UnusedRule g x) (UnusedToken g x) (g .rules .sort .count) (g .tokens .sort .count) out₀ → TooMany g x out₀
+  crowded-rows k =
+      let n = total (k .lists) in
+      let large : List ℕ = replicate (n * 2) 0 in
+      let f : FilledBy n large ((rowsOf 1 (k .lists .rules) ++ rowsOf 2 (k .lists .tokens)) ++ replicate (length large - n * 2) 0) =
+      record { lists = k .lists; count-is = refl; room = omega (arith, length-replicate {A = ℕ} (n * 2) 0); cells = refl } in
+      record { count = n; list = _; rows = filled-rows f; room = k .room }
+
+-- ---- there are as many of them in one list as in another
+
+module _ {g : Grammar} {x : Excuses} {m n : ℕ} {us vs : List ℕ} (a : UnusedRows g x m us) (b : UnusedRows g x n vs) where
+  -- where row i of the one stands in the other
+  other : (i : ℕ) → i < m → StandsIn vs n (cell 2 us i 0) (cell 2 us i 1)
+  other i h = b .exactly _ _ .1 (a .exactly _ _ .0 (record { at = i; there = h; kind = refl; row = refl }))
+
+  -- a row before another stands before it in both
+  in-order : {i j : ℕ} → Before us i j → (p : StandsIn vs n (cell 2 us i 0) (cell 2 us i 1)) (q : StandsIn vs n (cell 2 us j 0) (cell 2 us j 1)) → p .at < q .at
+  in-order {i} {j} s p q =
+      elim (decLt (p .at) (q .at)) [
+        | yes d ↦ d
+        | no d ↦ elim (decLt (q .at) (p .at)) [
+          | yes e ↦ absurd (twice s (b .rises (q .at) (p .at) e (p .there)))
+          | no e ↦ absurd (once s (omega arith))
+        ]
+      ]
+    where
+      twice : Before us i j → Before vs (q .at) (p .at) → ⊥
+      twice (by-kind h) (by-kind k) = omega (arith, p .kind, q .kind)
+      twice (by-kind h) (by-row k l) = omega (arith, p .kind, q .kind)
+      twice (by-row h l) (by-kind k) = omega (arith, p .kind, q .kind)
+      twice (by-row h l) (by-row k r) = omega (arith, p .row, q .row)
+
+      once : Before us i j → p .at ≡ q .at → ⊥
+      once (by-kind h) e = omega (arith, ap (λ (k : ℕ). cell 2 vs k 0) e, p .kind, q .kind)
+      once (by-row h l) e = omega (arith, ap (λ (k : ℕ). cell 2 vs k 1) e, p .row, q .row)
+
+  further : (i : ℕ) (h : i < m) → i ≤ other i h .at
+  further zero h = omega arith
+  further (suc i) h =
+      let k : i < m = omega arith in
+      omega (arith, further i k, in-order (a .rises i (suc i) (omega arith) h) (other i k) (other (suc i) h))
+
+  no-more : m ≤ n
+  no-more = go m refl
+    where
+      go : (k : ℕ) → k ≡ m → k ≤ n
+      go zero e = omega arith
+      go (suc k) e = let h : k < m = omega arith in omega (arith, further k h, other k h .there)
+
+pub unused-count : {g : Grammar} {x : Excuses} {m n : ℕ} {us vs : List ℕ} → UnusedRows g x m us → UnusedRows g x n vs → m ≡ n
+unused-count a b = omega (arith, no-more a b, no-more b a)
+
 -- ---- the report of a reading
 
-module _ (src : List ℕ) (c : Counts) (g : Singles) (T : Tables) (n : ℕ) (ws₀ ws out₀ out : List ℕ) (p : Reported src c g T (Unused n) ws₀ ws out₀ out) where
+module _ (src : List ℕ) (c : Counts) (g : Singles) (T : Tables) where
   abbrev grammar : Grammar
   grammar = grammarOf src c (g .start) (T .t1) (T .t7) (T .t8) (T .t9)
 
   abbrev excuses : Excuses
   excuses = excusesOf src c (T .t4) (T .t6)
 
-  accepted : Accepted grammar excuses n ws₀ ws out₀ out
-  accepted = reported-rows src c g T n ws₀ ws out₀ out p
+  module _ (n : ℕ) (ws₀ ws out₀ out : List ℕ) (p : Reported src c g T (Unused n) ws₀ ws out₀ out) where
+    pub report-rows : UnusedRows grammar excuses n out
+    report-rows = filled-rows grammar excuses (reported-rows src c g T n ws₀ ws out₀ out p .filled)
 
-  is-unused : (kd r : ℕ) → StandsIn out n kd r → UnusedRow grammar excuses kd r
-  is-unused kd r s = ⊎-elim (λ x. unused-rule (x .0) (x .1) (x .2)) (λ x. unused-token (x .0) (x .1) (x .2)) (filled-is (accepted .filled) kd r s)
+    -- a row stands in the report exactly where it is unused
+    pub unused-listed : (kd r : ℕ) → StandsIn out n kd r ↔ UnusedRow grammar excuses kd r
+    unused-listed = report-rows .exactly
 
-  is-listed : (kd r : ℕ) → UnusedRow grammar excuses kd r → StandsIn out n kd r
-  is-listed kd r (unused-rule e h u) = rw e (filled-rule (accepted .filled) r h u)
-  is-listed kd r (unused-token e h u) = rw e (filled-token (accepted .filled) r h u)
+    -- the rows stand in order, so that each stands once
+    pub report-rises : (i j : ℕ) → i < j → j < n → Before out i j
+    report-rises = report-rows .rises
 
-  -- a row stands in the report exactly where it is unused
-  pub unused-listed : (kd r : ℕ) → StandsIn out n kd r ↔ UnusedRow grammar excuses kd r
-  unused-listed kd r = (is-unused kd r, is-listed kd r)
+  -- of a valid reading, with words enough
+  module _ (l : Listing) (ws₀ ws out₀ out : List ℕ) (v : validity src c g T ≡ Valid) (words : need grammar ≤ length ws₀) (p : Reported src c g T l ws₀ ws out₀ out) where
+    -- the report is given, or there are too many unused rows
+    pub listed-or-many : ((n : ℕ) × (l ≡ Unused n)) ⊎ ((l ≡ NoRoom) × TooMany grammar excuses out₀)
+    listed-or-many = go l (rw v at p)
+      where
+        go : (l : Listing) → ValidReport grammar excuses l ws₀ ws out₀ out → ((n : ℕ) × (l ≡ Unused n)) ⊎ ((l ≡ NoRoom) × TooMany grammar excuses out₀)
+        go (Unused n) q = inl (n, refl)
+        go OfUnsound q = absurd q
+        go (OfInvalid f) q = absurd q
+        go NoWords q = absurd (omega (arith, q .0))
+        go NoRoom q = inr (refl, crowded-rows grammar excuses (q .1))
 
-  -- the rows stand in order, so that each stands once
-  pub report-rises : (i j : ℕ) → i < j → j < n → Before out i j
-  report-rises = filled-rises (accepted .filled)
+    -- they fit, and the report is given
+    pub listed-in-room : (n : ℕ) (list : List ℕ) → UnusedRows grammar excuses n list → n * 2 ≤ length out₀ → l ≡ Unused n
+    listed-in-room n list r h =
+        ⊎-elim
+        (λ y. let q = rw (y .1) at p in y .1 ∙ ap (λ (k : ℕ). Unused k) (unused-count (report-rows (y .0) ws₀ ws out₀ out q) r))
+        (λ y. absurd (omega (arith, y .1 .room, unused-count (y .1 .rows) r)))
+        listed-or-many
+
+    -- 42 comes exactly where there are too many
+    pub no-room-iff : (l ≡ NoRoom) ↔ TooMany grammar excuses out₀
+    no-room-iff = (many, full)
+      where
+        many : l ≡ NoRoom → TooMany grammar excuses out₀
+        many e = ⊎-elim (λ y. let n = y .1 in let z : _≡_ {A = ℕ} 0 1 = cc in absurd (omega arith)) (λ y. y .1) listed-or-many
+
+        full : TooMany grammar excuses out₀ → l ≡ NoRoom
+        full m = ⊎-elim (λ y. absurd (never (y .0) (rw (y .1) at p))) (λ y. y .0) listed-or-many
+          where
+            never : (n : ℕ) → Reported src c g T (Unused n) ws₀ ws out₀ out → ⊥
+            never n q =
+                let f = reported-rows src c g T n ws₀ ws out₀ out q .filled in
+                omega (arith, m .room, f .count-is, f .room, unused-count (m .rows) (report-rows n ws₀ ws out₀ out q))

@@ -18,7 +18,7 @@ Allowed src c g T row out o = o ≡ eppValue src c g T row out
 abbrev pub ValueAt : List ℕ → List ℕ → ℕ → List ℕ → Type 0
 ValueAt src t5 row v = IsString src (cell (width epps) t5 row value) (cell (width epps) t5 row (value + 1)) v
 
--- n bytes were written, those of the value, and zeros behind them: "text out zero past the count"
+-- n bytes were written, those of the value, and zeros behind them
 pub record ValueIs (src t5 : List ℕ) (row : ℕ) (out : List ℕ) (n : ℕ) (left : List ℕ) : Type 0 where
   pub text : List ℕ
   pub there : ValueAt src t5 row text

@@ -40,7 +40,7 @@ unfoldable pub plain : List ℕ → List ℕ
 plain [] = []
 plain (c ∷ cs) = elim (eqb c 92) [ true ↦ plain cs | false ↦ c ∷ plain cs ]
 
--- "the quoted text without its escapes", without a scan: between the quotes each byte stands for itself, or is a backslash with a quote behind it, for which the two stand
+-- "an `%epp` value written without its escapes", without a scan: between the quotes each byte stands for itself, or is a backslash with a quote behind it, for which the two stand
 pub data Spells (q : ℕ) : List ℕ → List ℕ → Type 0 where
   empty : Spells q [] []
   byte : {c : ℕ} {t v : List ℕ} → (c ≡ q → ⊥) → isEol c ≡ false → (c ≡ 92 → ⊥) → Spells q t v → Spells q (c ∷ t) (c ∷ v)
@@ -86,7 +86,7 @@ pub record Valued : Type 0 where
   pub answer : Valuation
   pub out : List ℕ
 
--- "text out zero past the count, and zero after a refusal"
+-- zeros past the value; "a refusal zeroes it and what they would have written"
 abbrev pub refusedValue : Valuation → List ℕ → Valued
 refusedValue a out = record { answer = a; out = zeroed out }
 

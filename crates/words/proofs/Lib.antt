@@ -2,3 +2,4 @@ pub mod Words
 pub mod Numbers
 pub mod Strings
 pub mod Meaning
+pub mod Feeds

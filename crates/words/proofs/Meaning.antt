@@ -1,29 +1,29 @@
 -- What names, tokens and integers are without a scan: the scan answers a place exactly where one stands. Assumes nothing.
 use Prim.Native.Nat.{ℕ, _+_, _^_, _≤_, _<_}
-use mathlib.Core.Path.{_≡_, refl, sym, _∙_, ap}
+use mathlib.Core.Path.{_≡_, refl, sym, _∙_}
 use mathlib.Core.List.{List}
 use mathlib.Core.Bool.{Bool, true, false, _||_, _&&_, false≢true}
 use mathlib.Core.Logic.{_↔_}
 use native.Mathlib.Omega.{arith}
+use native.Mathlib.Decide.{ℕ-discrete}
 use lib.Dec.{leb, ltb, eqb}
 use lib.ListN.{length, getD}
-use borrow.Author.Tests.{leb-false, ltb-true, eqb-true, eqb-false, eq-eqb, ne-eqb, lt-ltb}
+use borrow.Author.Tests.{leb-false, ltb-true, eqb-true, eqb-false, eq-eqb, ne-eqb}
 use Rattle.scan.specs.declared.Place.{Place}
 use Rattle.scan.specs.declared.Class.{Class}
 use Rattle.scan.specs.declared.Class.the-variants.{NameStart, NameByte, TokenStart, TokenByte, Digit, Unquoted}
-use Rattle.scan.specs.Scan.{isAt, isLetter, inClass, runEndAt, Runs}
-use Rattle.scan.proofs.Bytes.{on-test, within-true, at-true, at-here}
+use Rattle.scan.specs.Scan.{isAt, isLetter, isDigit, inClass, runEndAt}
+use Rattle.scan.proofs.Bytes.{on-test, told, within-true, at-true, at-here}
 use Rattle.scan.proofs.Runs.{run-is, run-one}
-use Rattle.words.specs.Words.{wordAt, named, nameAt, isQuote, found, closed, quotedAt, bare, tokenAt, IsWord, IsQuoted}
+use Rattle.words.specs.Words.{wordAt, named, nameAt, isQuote, found, closed, quotedAt, bare, tokenAt, IsWord, IsQuoted, IsToken, bare-token, quoted-token}
 use Rattle.words.specs.Numbers.{decimalAt, counted, intAt, IsInt}
 use Rattle.words.specs.declared.Word.{Word}
 use Rattle.words.specs.declared.Word.the-variants.{WordTo, NoWord}
-use Rattle.words.specs.declared.Name.{Name}
-use Rattle.words.specs.declared.Name.the-variants.{NameTo, NoName}
+use Rattle.words.specs.declared.Name.the-variants.{NameTo}
 use Rattle.words.specs.declared.Token.{Token}
 use Rattle.words.specs.declared.Token.the-variants.{Found, NoToken}
 use Rattle.words.specs.declared.Int.{Int}
-use Rattle.words.specs.declared.Int.the-variants.{Value, NoDigits, TooLarge}
+use Rattle.words.specs.declared.Int.the-variants.{Value}
 use Rattle.words.proofs.Words.{word-to, quoted-found, token-quoted, token-bare}
 use Rattle.words.proofs.Numbers.{int-value}
 
@@ -48,42 +48,6 @@ module _ (first rest : Class) (s : List ℕ) (from to : ℕ) where
   is-word x =
       let h = x .inside in
       sym (word-to first rest s from true h (sym (x .begins)) to refl (run-one (inClass rest) s (from + 1) _ _ (x .goes-on) (run-is (inClass rest) s (from + 1) (omega arith))))
-
-abbrev endOf : Token → ℕ
-endOf (Found p e f) = p .to
-endOf (NoToken i) = i
-
--- what a quoted token that was found is
-record Opened (q : ℕ) (s : List ℕ) (from a b e : ℕ) (f : Bool) : Type 0 where
-  quoted : f ≡ true
-  first : getD s (from + 1) 0 ≡ 10 → ⊥
-  goes-on : Runs (inClass (Unquoted q)) s (from + 1 + 1) b
-  closes : getD s b 0 ≡ q
-  inside : b < length s
-
-quoted-is : (q : ℕ) (s : List ℕ) (from a b e : ℕ) (f : Bool) → quotedAt q s from ≡ found a b e f → Opened q s from a b e f
-unfolding quotedAt closed
-quoted-is q s from a b e f =
-    on-test Is (leb (length s) (from + 1)) _ _ (λ n r. absurd (clash (cc)))
-    (λ n. on-test Is (eqb (getD s (from + 1) 0) 10) _ _ (λ t r. absurd (clash (cc)))
-    (λ m. on-test Is (isAt q s to) _ _ (λ t r. here (leb-false _ _ n) (eqb-false _ _ m) t (ap endOf r) (cc)) (λ t r. absurd (clash (cc)))))
-  where
-    to : ℕ
-    to = runEndAt (inClass (Unquoted q)) s (from + 1 + 1)
-
-    Is : Token → Type 0
-    Is r = r ≡ found a b e f → Opened q s from a b e f
-
-    here : from + 1 < length s → (getD s (from + 1) 0 ≡ 10 → ⊥) → isAt q s to ≡ true → to ≡ b → true ≡ f → Opened q s from a b e f
-    here h l t z w =
-        let c : isAt q s b ≡ true = rw z at t in
-        record {
-          quoted = sym w;
-          first = l;
-          goes-on = rw z at (run-is (inClass (Unquoted q)) s (from + 1 + 1) (omega arith));
-          closes = at-true s b q c .1;
-          inside = at-true s b q c .0;
-        }
 
 module _ (s : List ℕ) (from to : ℕ) where
   -- A name is read exactly where one stands: its first byte and each further one of the right class, the next byte not.
@@ -112,70 +76,102 @@ module _ (s : List ℕ) (from to : ℕ) where
       go : 65 ≤ c → (eqb c 34 || eqb c 39) ≡ false
       go h = rw (ne-eqb c 34 (λ e. omega arith), ne-eqb c 39 (λ e. omega arith))
 
-  -- A bare token is read exactly where one stands,
-  pub bare-iff : (tokenAt s from ≡ found from to to false) ↔ IsWord TokenStart TokenByte s from to
-  unfolding tokenAt bare
-  bare-iff = (there, λ x. sym (token-bare s from false (x .inside) (sym (start-no-quote _ (x .begins))) refl _ refl to (is-word TokenStart TokenByte s from to x)))
+  bare-found : IsWord TokenStart TokenByte s from to → tokenAt s from ≡ found from to to false
+  bare-found x = sym (token-bare s from false (x .inside) (sym (start-no-quote _ (x .begins))) refl _ refl to (is-word TokenStart TokenByte s from to x))
+
+  quote-found : IsQuoted s from to → tokenAt s from ≡ found (from + 1) to (to + 1) true
+  quote-found x =
+      let h = x .inside in
+      let k = x .goes-on .onward in
+      let b : isAt (getD s from 0) s to ≡ true = sym (at-here s to (getD s from 0) h) ∙ eq-eqb _ _ (x .closes) in
+      sym
+      (token-quoted s from true (omega arith) (sym (x .opens)) _ refl
+      (quoted-found (getD s from 0) s from (omega arith) (x .first) to (run-one (inClass (Unquoted (getD s from 0))) s (from + 1 + 1) _ _ (x .goes-on) (run-is (inClass (Unquoted (getD s from 0))) s (from + 1 + 1) (omega arith))) true (sym b) refl))
+
+module _ (s : List ℕ) (from : ℕ) where
+  -- what the answer tells
+  abbrev Told : Token → Type 0
+  Told (Found p end quoted) = IsToken s from p end quoted
+  Told (NoToken i) = i ≡ from
+
+  tells : Told (tokenAt s from)
+  unfolding tokenAt quotedAt closed bare
+  tells =
+      on-test Told (leb (length s) from) _ _ (λ f. refl)
+      (λ f. on-test Told (isQuote (getD s from 0)) _ _
+      (λ t. on-test Told (leb (length s) (from + 1)) _ _ (λ n. refl)
+      (λ n. on-test Told (eqb (getD s (from + 1) 0) 10) _ _ (λ l. refl)
+      (λ l. on-test Told (isAt (getD s from 0) s to) _ _ (λ c. quoted-token (quoted t (leb-false _ _ n) (eqb-false _ _ l) (at-true s to _ c))) (λ c. refl))))
+      (λ t. go (wordAt TokenStart TokenByte s from) refl))
     where
-      Is : Token → Type 0
-      Is r = r ≡ found from to to false → IsWord TokenStart TokenByte s from to
+      to : ℕ
+      to = runEndAt (inClass (Unquoted (getD s from 0))) s (from + 1 + 1)
 
-      back : (w : Word) → bare from w ≡ found from to to false → w ≡ WordTo to
-      back (WordTo j) e = cc
-      back NoWord e = absurd (clash (cc))
+      quoted : isQuote (getD s from 0) ≡ true → from + 1 < length s → (getD s (from + 1) 0 ≡ 10 → ⊥) → (to < length s) × (getD s to 0 ≡ getD s from 0) → IsQuoted s from to
+      quoted t h l c = record { opens = t; first = l; goes-on = run-is (inClass (Unquoted (getD s from 0))) s (from + 1 + 1) (omega arith); closes = c .1; inside = c .0 }
 
-      there : tokenAt s from ≡ found from to to false → IsWord TokenStart TokenByte s from to
-      there =
-          on-test Is (leb (length s) from) _ _ (λ f q. absurd (clash (cc)))
-          (λ f. on-test Is (isQuote (getD s from 0)) _ _
-          (λ t q. absurd (false≢true (quoted-is (getD s from 0) s from from to to false q .quoted)))
-          (λ t q. word-is TokenStart TokenByte s from to (back (wordAt TokenStart TokenByte s from) q)))
+      go : (w : Word) → wordAt TokenStart TokenByte s from ≡ w → Told (bare from w)
+      go (WordTo j) e = bare-token (word-is TokenStart TokenByte s from j e)
+      go NoWord e = refl
 
-  -- what is read where no quote stands is a bare token,
-  pub bare-is : (p : Place) (b : Bool) → isQuote (getD s from 0) ≡ false → tokenAt s from ≡ Found p to b → IsWord TokenStart TokenByte s from to
-  unfolding tokenAt bare
-  bare-is p b u =
-      on-test Is (leb (length s) from) _ _ (λ f q. absurd (clash (cc)))
-      (λ f. on-test Is (isQuote (getD s from 0)) _ _ (λ t q. absurd (false≢true (sym u ∙ t))) (λ t q. word-is TokenStart TokenByte s from to (back (wordAt TokenStart TokenByte s from) q)))
+  -- A token is read exactly where one stands, bare or quoted,
+  pub token-iff : (p : Place) (end : ℕ) (quoted : Bool) → (tokenAt s from ≡ Found p end quoted) ↔ IsToken s from p end quoted
+  token-iff p end quoted = (λ e. told Told e tells, back)
     where
-      Is : Token → Type 0
-      Is r = r ≡ Found p to b → IsWord TokenStart TokenByte s from to
+      back : {p : Place} {end : ℕ} {quoted : Bool} → IsToken s from p end quoted → tokenAt s from ≡ Found p end quoted
+      back (bare-token x) = bare-found s from _ x
+      back (quoted-token x) = quote-found s from _ x
 
-      back : (w : Word) → bare from w ≡ Found p to b → w ≡ WordTo to
-      back (WordTo j) e = cc
-      back NoWord e = absurd (clash (cc))
-
-  -- and so is a quoted one.
-  pub quoted-iff : (tokenAt s from ≡ found (from + 1) to (to + 1) true) ↔ IsQuoted s from to
-  unfolding tokenAt bare
-  quoted-iff = (there, here)
+  -- and is missed, where it was sought, exactly where none stands.
+  pub no-token-iff : (i : ℕ) → (tokenAt s from ≡ NoToken i) ↔ ((i ≡ from) × ((p : Place) (end : ℕ) (quoted : Bool) → IsToken s from p end quoted → ⊥))
+  no-token-iff i = (λ e. (told Told e tells, λ p end quoted x. clash (let f = token-iff p end quoted .1 x in cc)), λ x. go (tokenAt s from) tells (x .0) (x .1))
     where
-      Is : Token → Type 0
-      Is r = r ≡ found (from + 1) to (to + 1) true → IsQuoted s from to
+      go : (t : Token) → Told t → i ≡ from → ((p : Place) (end : ℕ) (quoted : Bool) → IsToken s from p end quoted → ⊥) → t ≡ NoToken i
+      go (Found p end quoted) x h f = absurd (f p end quoted x)
+      go (NoToken j) x h f = rw (x, h)
 
-      opened : isQuote (getD s from 0) ≡ true → Opened (getD s from 0) s from (from + 1) to (to + 1) true → IsQuoted s from to
-      opened t x = record { opens = t; first = x .first; goes-on = x .goes-on; closes = x .closes; inside = x .inside }
+  word-of : {p : Place} {end : ℕ} {quoted : Bool} → IsToken s from p end quoted → quoted ≡ false → IsWord TokenStart TokenByte s from end
+  word-of (bare-token x) e = x
+  word-of (quoted-token x) e = absurd (false≢true (sym e))
 
-      back : (w : Word) → bare from w ≡ found (from + 1) to (to + 1) true → ⊥
-      back (WordTo j) e = false≢true (cc)
-      back NoWord e = clash (cc)
+  -- The same of a bare token,
+  pub bare-iff : (to : ℕ) → (tokenAt s from ≡ found from to to false) ↔ IsWord TokenStart TokenByte s from to
+  bare-iff to = (λ e. word-of (told Told e tells) refl, bare-found s from to)
 
-      there : tokenAt s from ≡ found (from + 1) to (to + 1) true → IsQuoted s from to
-      there =
-          on-test Is (leb (length s) from) _ _ (λ f q. absurd (clash (cc)))
-          (λ f. on-test Is (isQuote (getD s from 0)) _ _
-          (λ t q. opened t (quoted-is (getD s from 0) s from (from + 1) to (to + 1) true q))
-          (λ t q. absurd (back (wordAt TokenStart TokenByte s from) q)))
+  -- of what is read where no quote stands,
+  pub bare-is : (to : ℕ) (p : Place) (b : Bool) → isQuote (getD s from 0) ≡ false → tokenAt s from ≡ Found p to b → IsWord TokenStart TokenByte s from to
+  bare-is to p b u e = go (told Told e tells)
+    where
+      go : {p : Place} {end : ℕ} {quoted : Bool} → IsToken s from p end quoted → IsWord TokenStart TokenByte s from end
+      go (bare-token x) = x
+      go (quoted-token x) = absurd (false≢true (sym u ∙ x .opens))
 
-      here : IsQuoted s from to → tokenAt s from ≡ found (from + 1) to (to + 1) true
-      here x =
-          let h = x .inside in
-          let k = x .goes-on .onward in
-          let b : isAt (getD s from 0) s to ≡ true = sym (at-here s to (getD s from 0) h) ∙ eq-eqb _ _ (x .closes) in
-          sym
-          (token-quoted s from true (omega arith) (sym (x .opens)) _ refl
-          (quoted-found (getD s from 0) s from (omega arith) (x .first) to (run-one (inClass (Unquoted (getD s from 0))) s (from + 1 + 1) _ _ (x .goes-on) (run-is (inClass (Unquoted (getD s from 0))) s (from + 1 + 1) (omega arith))) true (sym b) refl))
+  -- and of a quoted one.
+  pub quoted-iff : (to : ℕ) → (tokenAt s from ≡ found (from + 1) to (to + 1) true) ↔ IsQuoted s from to
+  quoted-iff to = (λ e. go (told Told e tells) refl, quote-found s from to)
+    where
+      go : {p : Place} {end : ℕ} {quoted : Bool} → IsToken s from p end quoted → quoted ≡ true → IsQuoted s from (p .to)
+      go (bare-token x) e = absurd (false≢true e)
+      go (quoted-token x) e = x
 
+-- "A bare token has no dots.": as a word,
+pub no-dot : (s : List ℕ) (from to k : ℕ) → IsWord TokenStart TokenByte s from to → from ≤ k → k < to → getD s k 0 ≡ 46 → ⊥
+unfolding inClass isLetter isDigit
+no-dot s from to k x h l e =
+    elim (ℕ-discrete k from) [
+      | yes q ↦ false≢true (rw (← q, e) at (x .begins))
+      | no q ↦ false≢true (rw e at (x .goes-on .each k (omega arith) l))
+    ]
+
+-- and as what is read.
+pub token-no-dot : (s : List ℕ) (from : ℕ) (p : Place) (end : ℕ) → tokenAt s from ≡ Found p end false → (k : ℕ) → p .from ≤ k → k < p .to → getD s k 0 ≡ 46 → ⊥
+token-no-dot s from p end e = go (token-iff s from p end false .0 e) refl
+  where
+    go : {p : Place} {end : ℕ} {quoted : Bool} → IsToken s from p end quoted → quoted ≡ false → (k : ℕ) → p .from ≤ k → k < p .to → getD s k 0 ≡ 46 → ⊥
+    go (bare-token x) f = λ k h l. no-dot s from _ k x h l
+    go (quoted-token x) f = absurd (false≢true (sym f))
+
+module _ (s : List ℕ) (from to : ℕ) where
   -- An integer is read exactly where digits stand whose decimal value fits 64 bits.
   pub int-iff : (v : ℕ) → from ≤ length s → (intAt s from ≡ Value v to) ↔ IsInt s from to v
   unfolding intAt counted

@@ -102,3 +102,8 @@ pub record IsQuoted (s : List ℕ) (from to : ℕ) : Type 0 where
   pub goes-on : Runs (inClass (Unquoted (getD s from 0))) s (from + 1 + 1) to
   pub closes : getD s to 0 ≡ getD s from 0
   pub inside : to < length s
+
+-- A token is bare or quoted: its place, the end behind it, and which of the two it is. "Its span leaves out the quotes."
+pub data IsToken (s : List ℕ) (from : ℕ) : Place → ℕ → Bool → Type 0 where
+  bare-token : {to : ℕ} → IsWord TokenStart TokenByte s from to → IsToken s from (record { from = from; to = to }) to false
+  quoted-token : {to : ℕ} → IsQuoted s from to → IsToken s from (record { from = from + 1; to = to }) (to + 1) true

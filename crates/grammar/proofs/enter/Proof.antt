@@ -13,8 +13,8 @@ rows c =
 
 full : tie.Need-returns-2
 full c =
-    let p = c .before .before .before .before in
-    (enter-full _ _ _ _ _ _ _ _ _ (p .before .before .count-of .ensures) (p .enter-token .ensures) (c .enum-told .given .1), search needs)
+    let p = c .before .before .before .before .before .before in
+    (enter-full _ _ _ _ _ _ _ _ _ (p .before .before .count-of .ensures) (p .enter-token .ensures) _ (c .before .before .enum-told .given .1) (c .no-room .ensures), search needs)
 
 pub enter-spec : {M : Type 1} → statement M
 enter-spec =
@@ -26,7 +26,7 @@ enter-spec =
     (λ c κs. search needs)
     (λ c. search needs)
     (λ c. search needs)
-    (λ c. search needs)
+    (λ c κs. search needs)
     (λ c. search needs)
     rows
     (λ c. search needs)

@@ -17,12 +17,12 @@ one-more c =
 ok : tie.Need-returns
 ok c =
     let p = c .before .before .before .before in
-    (push-ok _ _ _ _ _ _ _ _ _ (p .before .before .count-of .ensures) (p .add-row .ensures) _ (c .before .if1 .taken) (c .with-count .ensures), ap (λ (x : State). x .at) (c .with-count .ensures))
+    (push-ok _ _ _ _ _ _ _ (p .before .before .count-of .ensures) (p .add-row .ensures) _ (c .before .if1 .taken) (c .with-count .ensures), ap (λ (x : State). x .at) (c .with-count .ensures))
 
 full : tie.Need-returns-2
 full c =
-    let p = c .before .before .before in
-    (push-full _ _ _ _ _ _ _ _ _ (p .before .before .count-of .ensures) (p .add-row .ensures) (c .if1 .left), search needs)
+    let p = c .before .before .before .before in
+    (push-full _ _ _ _ _ _ _ (p .before .before .count-of .ensures) (p .add-row .ensures) _ (c .before .if1 .left) (c .no-room .ensures), search needs)
 
 pub push-spec : {M : Type 1} → statement M
 push-spec =
@@ -32,7 +32,7 @@ push-spec =
     (λ c κs. search needs)
     one-more
     (λ c κs. search needs)
-    (λ c. search needs)
+    (λ c κs. search needs)
     (λ c. search needs)
     ok
     (λ c. search needs)

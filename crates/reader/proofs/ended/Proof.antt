@@ -10,8 +10,9 @@ none c = accepted _ _ _ (c .before .before .count-of .ensures) (c .before .if1 .
 
 some : tie.Need-returns-2
 some c =
-    let z = c .before .before .before in
-    repeated _ _ _ (z .before .count-of .ensures) _ _ _ (z .if1 .left) (c .before .before .cell .ensures) (c .before .cell2 .ensures) (c .cell3 .ensures)
+    let w = c .before .before in
+    let z = w .before .before in
+    repeated _ _ _ (z .before .count-of .ensures) _ _ _ _ (z .if1 .left) (w .before .cell .ensures) (w .repeat-of .ensures) (c .before .cell2 .ensures) (c .cell3 .ensures)
 
 pub ended-spec : {M : Type 1} → statement M
 ended-spec =
@@ -22,5 +23,7 @@ ended-spec =
     none
     (λ c κs. search needs)
     (λ c κs. search needs)
+    (λ c κs. search needs)
+    (λ c. search needs)
     (λ c κs. search needs)
     some)

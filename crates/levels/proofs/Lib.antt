@@ -1,0 +1,4 @@
+pub mod Onward
+pub mod Laid
+pub mod Section
+pub mod Read

@@ -1,0 +1,186 @@
+-- A declaration that goes on comes to stand behind its keyword, or where that ends. Assumes nothing.
+use Prim.Native.Nat.{ℕ, _+_, _≤_, _<_}
+use mathlib.Core.Path.{_≡_, refl}
+use mathlib.Core.List.{List}
+use mathlib.Core.Bool.{Bool, true, false}
+use mathlib.Core.Logic.{⊎-elim}
+use native.Mathlib.Omega.{arith}
+use lib.Dec.{leb}
+use lib.ListN.{length}
+use borrow.Author.Tests.{leb-false}
+use Rattle.scan.specs.declared.Place.{Place}
+use Rattle.scan.proofs.Bytes.{le-or-lt, on-test, told}
+use Rattle.spacing.specs.Spacing.{Spaces}
+use Rattle.spacing.proofs.Places.{spaces}
+use Rattle.words.specs.declared.Name.{Name}
+use Rattle.words.specs.declared.Name.the-variants.{NameTo, NoName}
+use Rattle.words.specs.declared.Int.{Int}
+use Rattle.words.specs.declared.Int.the-variants.{Value, NoDigits, TooLarge}
+use Rattle.words.specs.declared.Token.the-variants.{Found}
+use Rattle.words.specs.Words.{nameAt, tokenAt, Named, Tokened}
+use Rattle.words.specs.Numbers.{intAt, Counted}
+use Rattle.words.specs.Strings.{stringAt, Stringed}
+use Rattle.words.proofs.Words.{name-placed, token-placed}
+use Rattle.words.proofs.Numbers.{int-placed}
+use Rattle.words.proofs.Strings.{string-placed}
+use Rattle.texts.specs.declared.ColonText.{ColonText}
+use Rattle.texts.specs.declared.ColonText.the-variants.{Upto, NoColon}
+use Rattle.texts.specs.Colon.{colonTextAt, ColonTexts}
+use Rattle.texts.specs.Line.{lineEndAt}
+use Rattle.texts.proofs.Laws.{colon-placed}
+use Rattle.tables.specs.Layout.{repeats}
+use Rattle.grammar.specs.declared.State.{State}
+use Rattle.grammar.specs.declared.Answer.{Answer}
+use Rattle.grammar.specs.declared.Answer.the-variants.{Going}
+use Rattle.grammar.specs.declared.Repeat.{Repeat}
+use Rattle.grammar.specs.declared.Gap.{Gap}
+use Rattle.grammar.specs.declared.Gap.the-variants.{GapTo, GapRefused}
+use Rattle.grammar.specs.State.{Out1, Out3, Passed, gapAt, Gapped, passOn}
+use Rattle.grammar.specs.Sound.{Tables, Far}
+use Rattle.grammar.proofs.Kept.{gapped, Held}
+use Rattle.settings.specs.Settings.{startName, startFrom, startDecl, expectInt, expectFrom, expectDecl, actiontypeFrom, actiontypeDecl, paramGiven, paramTyped, paramText, paramFrom, paramDecl, genericsFrom, genericsDecl}
+use Rattle.settings.proofs.Far.{line-end, start-held, expect-held, actiontype-held}
+use Rattle.lists.specs.Lists.{listDecl}
+use Rattle.lists.specs.Written.{Written, over, word, Listed, TokenWord, token, UnusedWord, rule, quote}
+use Rattle.lists.proofs.Meaning.{token-words, unused-words}
+use Rattle.lines.specs.Avoided.{avoidDecl}
+use Rattle.lines.specs.Grown.{NameTable}
+use Rattle.lines.proofs.Line.{line-passed}
+use Rattle.lines.proofs.Avoided.{avoid-words}
+use Rattle.epps.specs.Epps.{eppDecl}
+use Rattle.epps.proofs.Meaning.{epp-given}
+use Rattle.items.proofs.Far.{pass-onward}
+
+module _ {src : List ℕ} {done : ℕ} {s : State} {T : Tables} (f : Far src done s T) where
+  -- spacing behind a step that stayed where it stood
+  passed : (j : ℕ) (a : Answer) (u : State) → u .at ≡ s .at → s .at ≤ j → j ≤ length src → s .at ≤ passOn src false j a u .state .at
+  passed j a u e h k = let x = pass-onward src j u a k .forth (omega arith) in omega arith
+
+  held : (j : ℕ) (o : Out1) → Held src done T repeats s o → s .at ≤ j → j ≤ length src → s .at ≤ passOn src false j (o .answer) (o .state) .state .at
+  held j o x h k = passed j (o .answer) (o .state) (x .stays) h k
+
+  pub start-onward : s .at ≤ startDecl src s (T .t10) .state .at
+  unfolding startDecl
+  start-onward = go (gapAt false src (s .at)) (gapped false src (s .at) (f .here))
+    where
+      named : (i : ℕ) → s .at ≤ i → (n : Name) → Named src i n → s .at ≤ startName n i src s (T .t10) .state .at
+      named i h (NameTo j) x = let a = x .0 in let b = x .1 in held j _ (start-held f i j (record { onward = omega arith; inside = b })) (omega arith) b
+      named i h (NoName k) x = omega arith
+
+      go : (g : Gap) → Gapped src (s .at) g → s .at ≤ startFrom g src s (T .t10) .state .at
+      go (GapTo i n) x = let a = x .0 in named i (omega arith) (nameAt src i) (name-placed src i (nameAt src i) refl .1)
+      go (GapRefused e) x = omega arith
+
+  pub expect-onward : (rr : Bool) → s .at ≤ expectDecl src s rr (T .t10) .state .at
+  unfolding expectDecl
+  expect-onward rr = go (gapAt false src (s .at)) (gapped false src (s .at) (f .here))
+    where
+      counted : (i : ℕ) → s .at ≤ i → (n : Int) → Counted src i n → s .at ≤ expectInt n i src s rr (T .t10) .state .at
+      counted i h (Value v j) x = let a = x .0 in let b = x .1 in held j _ (expect-held f rr v i j (record { onward = omega arith; inside = b })) (omega arith) b
+      counted i h (NoDigits k) x = omega arith
+      counted i h (TooLarge k) x = omega arith
+
+      go : (g : Gap) → Gapped src (s .at) g → s .at ≤ expectFrom g src s rr (T .t10) .state .at
+      go (GapTo i n) x = let a = x .0 in counted i (omega arith) (intAt src i) (int-placed src i (x .1) (intAt src i) refl .1)
+      go (GapRefused e) x = omega arith
+
+  pub actiontype-onward : s .at ≤ actiontypeDecl src s (T .t10) .state .at
+  unfolding actiontypeDecl
+  actiontype-onward = go (gapAt false src (s .at)) (gapped false src (s .at) (f .here))
+    where
+      go : (g : Gap) → Gapped src (s .at) g → s .at ≤ actiontypeFrom g src s (T .t10) .state .at
+      go (GapTo i n) x =
+          let a = x .0 in
+          let e = line-end src i (x .1) in
+          let b = e .0 in
+          held (lineEndAt src i) _ (actiontype-held f i (lineEndAt src i) (record { onward = b; inside = e .1 })) (omega arith) (e .1)
+      go (GapRefused e) x = omega arith
+
+  -- the text to the line end, where spacing led
+  line-passed-on : (k i n : ℕ) → s .at ≤ k → Gapped src k (GapTo i n) → (u : State) → u .at ≡ s .at → s .at ≤ passOn src false (lineEndAt src i) Going u .state .at
+  line-passed-on k i n h x u q = let a = x .0 in let e = line-end src i (x .1) in let b = e .0 in passed (lineEndAt src i) Going u q (omega arith) (e .1)
+
+  pub generics-onward : s .at ≤ genericsDecl src s .state .at
+  unfolding genericsDecl
+  generics-onward = go (gapAt false src (s .at)) (gapped false src (s .at) (f .here))
+    where
+      go : (g : Gap) → Gapped src (s .at) g → s .at ≤ genericsFrom g src s .state .at
+      go (GapTo i n) x = line-passed-on (s .at) i n (omega arith) x _ refl
+      go (GapRefused e) x = omega arith
+
+  typed-onward : (a b k : ℕ) → s .at ≤ k → k ≤ length src → s .at ≤ paramTyped src s a b k .state .at
+  unfolding paramTyped
+  typed-onward a b k h l = go (gapAt false src k) (gapped false src k l)
+    where
+      go : (g : Gap) → Gapped src k g → s .at ≤ paramGiven g src s a b .state .at
+      go (GapTo i n) x = line-passed-on k i n h x _ refl
+      go (GapRefused e) x = omega arith
+
+  pub param-onward : s .at ≤ paramDecl src s .state .at
+  unfolding paramDecl
+  param-onward = go (gapAt false src (s .at)) (gapped false src (s .at) (f .here))
+    where
+      text : (i : ℕ) → s .at ≤ i → (t : ColonText) → ColonTexts src i t → s .at ≤ paramText t src s .state .at
+      text i h (Upto j n p) x = let a = x .0 in let b = x .1 in typed-onward (p .from) (p .to) (j + 1) (omega arith) (omega arith)
+      text i h (NoColon k) x = omega arith
+
+      go : (g : Gap) → Gapped src (s .at) g → s .at ≤ paramFrom g src s .state .at
+      go (GapTo i n) x = let a = x .0 in text i (omega arith) (colonTextAt src i) (colon-placed src i (x .1) (colonTextAt src i) refl .1)
+      go (GapRefused e) x = omega arith
+
+-- where spacing led
+gap-to : (ok : Bool) (src : List ℕ) (at i n : ℕ) → at ≤ length src → gapAt ok src at ≡ GapTo i n → Passed src at i
+gap-to ok src at i n h e = let x = told (Gapped src at) e (gapped ok src at h) in record { onward = omega (arith, x .0); inside = x .1 }
+
+-- words up to the next `%`, where each word goes onward
+module _ {A : Type 0} (Word : ℕ → ℕ → A → Type 0) (src : List ℕ) (goes : (i end : ℕ) (x : A) → Word i end x → Passed src i end) where
+  written-onward : {i j : ℕ} {xs : List A} → Written Word src i j xs → i ≤ j
+  written-onward (over e) = omega arith
+  written-onward (word {i} {end} {k} {n} {j} {x} e w g l) =
+      let a = goes i end x w in
+      let b = gap-to true src end k n (a .inside) g in
+      let c = written-onward l in
+      omega (arith, a .onward, b .onward)
+
+  listed-onward : (at j : ℕ) (xs : List A) → at ≤ length src → Listed Word src at j xs → at ≤ j
+  listed-onward at j xs h l = let a = gap-to false src at (l .from) (l .lines) h (l .gap) in let b = written-onward (l .words) in omega (arith, a .onward)
+
+token-passed : (src : List ℕ) (i : ℕ) (p : Place) (end : ℕ) (quoted : Bool) → tokenAt src i ≡ Found p end quoted → Passed src i end
+token-passed src i p end quoted e = let x = told (Tokened src i) e (token-placed src i (tokenAt src i) refl .1) in record { onward = omega (arith, x .0, x .1, x .2); inside = x .3 }
+
+token-word : (src : List ℕ) (i end : ℕ) (p : Place) → TokenWord src i end p → Passed src i end
+token-word src i end p (token e) = token-passed src i _ end _ e
+
+unused-word : (src : List ℕ) (i end : ℕ) (x : List ℕ) → UnusedWord src i end x → Passed src i end
+unused-word src i end x (rule e) = let y = told (Named src i) e (name-placed src i (nameAt src i) refl .1) in record { onward = omega (arith, y .0); inside = y .1 }
+unused-word src i end x (quote n e) = token-passed src i _ end _ e
+
+module _ (src : List ℕ) (s : State) (here : s .at ≤ length src) (ten : length (s .counts .n) ≡ 10) where
+  pub list-onward : (which : Bool) (t : List ℕ) → listDecl src s which t .answer ≡ Going → s .at ≤ listDecl src s which t .state .at
+  list-onward true t g = let x = token-words src s t ten g in listed-onward (TokenWord src) src (token-word src) (s .at) _ (x .0) here (x .1)
+  list-onward false t g = let x = unused-words src s t ten g in listed-onward (UnusedWord src) src (unused-word src) (s .at) _ (x .0) here (x .1)
+
+  pub avoid-onward : (k : ℕ) → NameTable k → (what : Repeat) (t1 t t10 : List ℕ) → avoidDecl src s k what t1 t t10 .answer ≡ Going → s .at ≤ avoidDecl src s k what t1 t t10 .state .at
+  unfolding avoidDecl
+  avoid-onward k nt what t1 t t10 g = ⊎-elim end line (le-or-lt (length src) (s .at))
+    where
+      end : length src ≤ s .at → s .at ≤ avoidDecl src s k what t1 t t10 .state .at
+      end h = on-test (λ (o : Out3). s .at ≤ o .state .at) (leb (length src) (s .at)) _ _ (λ e. omega arith) (λ e. absurd (let x = leb-false (length src) (s .at) e in omega arith))
+
+      line : s .at < length src → s .at ≤ avoidDecl src s k what t1 t t10 .state .at
+      line h =
+          let l = avoid-words src k nt what s t1 t t10 ten h g in
+          let x = told (Spaces src (s .at)) (l .gap) (spaces false src (s .at) here) in
+          let y = line-passed src (x .1) (l .line) in
+          omega (arith, x .0, y .onward)
+
+  pub epp-onward : (t5 t10 : List ℕ) → eppDecl src s t5 t10 .answer ≡ Going → s .at ≤ eppDecl src s t5 t10 .state .at
+  epp-onward t5 t10 g =
+      let x = epp-given src s t5 t10 ten g in
+      let k = x .stand in
+      let a = gap-to false src (s .at) _ _ here (k .behind-keyword) in
+      let b = token-passed src _ _ _ _ (k .spelled) in
+      let c = gap-to false src _ _ _ (b .inside) (k .behind-key) in
+      let d = told (Stringed src (x .value .from)) (k .text) (string-placed src (x .value .from) (stringAt src (x .value .from)) refl .1) in
+      let e = gap-to true src _ _ _ (d .1) (x .behind) in
+      omega (arith, a .onward, b .onward, c .onward, d .0, e .onward)

@@ -1,0 +1,204 @@
+-- The promises through the C names: on what the C name of read wrote, the others give what the operations give on the reading; so the third demand holds of them,
+-- and none answers 44 on a full reading. Assumes nothing.
+use Prim.Native.Nat.{ℕ, _*_, _≤_, _<_}
+use mathlib.Core.Path.{_≡_, refl, sym, ap, _∙_}
+use mathlib.Core.List.{List, [], _∷_, _++_}
+use mathlib.Core.Logic.{_↔_, _⊎_, inl, inr, ⊎-elim}
+use native.Mathlib.Omega.{arith}
+use lib.ListN.{length, getD}
+use Rattle.scan.proofs.Bytes.{told}
+use Rattle.tables.specs.Layout.{epps}
+use Rattle.grammar.specs.declared.Counts.{Counts}
+use Rattle.grammar.specs.declared.Singles.{Singles}
+use Rattle.grammar.specs.declared.Cause.{Cause}
+use Rattle.grammar.specs.declared.Cause.the-variants.{IntegerEmpty, IntegerTooLarge, IllegalName, IllegalString, IncompleteRule, IncompleteComment, IncompleteAction, MissingColon, MissingRightArrow, NonEmptyProduction, PrematureEnd, NotTerminated, UnknownDeclaration, ReachedEol, ReachedEnd, StringNotOpened, StringLineEnd, StringEscape, StringNotClosed, UnknownSymbol, NotUtf8}
+use Rattle.grammar.specs.declared.Refusal.the-variants.{Fault, Repeated, NoRoom as no-room, TooLong, BadKind}
+use Rattle.grammar.specs.Refusals.{numberOfCause}
+use Rattle.grammar.specs.Sound.{Tables}
+use Rattle.reader.specs.declared.Verdict.{Verdict}
+use Rattle.reader.specs.declared.Verdict.the-variants.{Accepted, Rejected}
+use Rattle.reader.specs.Read.{Result, verdictNumbers, readAll}
+use Rattle.reader.specs.Allowed.{Full}
+use Rattle.reader.proofs.Sound.{read-ten}
+use Rattle.sound.specs.Test.{countAt}
+use Rattle.validation.specs.declared.Flaw.{Flaw}
+use Rattle.validation.specs.declared.Flaw.the-variants.{NoStartRule, InvalidStartRule, UnknownRuleRef, UnknownTokenRef, UnknownPrecToken, NoPrecForToken, UnknownEppKey}
+use Rattle.validation.specs.declared.Validity.{Validity}
+use Rattle.validation.specs.declared.Validity.the-variants.{Valid, UnsoundTables, Invalid}
+use Rattle.validation.specs.Faults.{flawNumber, flawNumbers, validityNumbers, validity}
+use Rattle.reach.specs.Reach.{Grammar, need}
+use Rattle.usage.specs.declared.Listing.{Listing}
+use Rattle.usage.specs.declared.Listing.the-variants.{Unused, OfUnsound, OfInvalid, NoWords, NoRoom}
+use Rattle.usage.specs.Report.{Excuses, Reported}
+use Rattle.usage.specs.Standing.{UnusedRows}
+use Rattle.names.specs.Name.{partAt, nameOf}
+use Rattle.values.specs.declared.Valuation.{Valuation}
+use Rattle.values.specs.declared.Valuation.the-variants.{Written, OfUnsoundTables, PastCount, NotString, NoTextRoom}
+use Rattle.values.specs.Value.{valuationNumbers, eppValue}
+use Rattle.quiltrudder.specs.Report.{grammarRead, excusesRead, Roomy, Exactly}
+use Rattle.quiltrudder.specs.Face.{singlesCells, countsCells, readingCells, readFace, FullNumber, countsOf, singlesOf, validateFace, listingCells, ReportFace, ExactlyFace, CrowdedFace, nameAt, placeCells, nameFace, ValueFace, valuationCells, valueFaceOf, valueFace}
+use Rattle.quiltrudder.proofs.Face.{singles-back, all-counts-back, name-part}
+use Rattle.quiltrudder.proofs.Operations.{validate-not-44, report-not-44, value-row-not-44, report-either, report-fits, report-exactly}
+
+-- ---- which answer has which number
+
+-- a cause's number is none of a full read
+cause-number : (c : Cause) → FullNumber (numberOfCause c) → ⊥
+cause-number IntegerEmpty = ⊎-elim (λ e. omega arith) (λ e. omega arith)
+cause-number IntegerTooLarge = ⊎-elim (λ e. omega arith) (λ e. omega arith)
+cause-number IllegalName = ⊎-elim (λ e. omega arith) (λ e. omega arith)
+cause-number IllegalString = ⊎-elim (λ e. omega arith) (λ e. omega arith)
+cause-number IncompleteRule = ⊎-elim (λ e. omega arith) (λ e. omega arith)
+cause-number IncompleteComment = ⊎-elim (λ e. omega arith) (λ e. omega arith)
+cause-number IncompleteAction = ⊎-elim (λ e. omega arith) (λ e. omega arith)
+cause-number MissingColon = ⊎-elim (λ e. omega arith) (λ e. omega arith)
+cause-number MissingRightArrow = ⊎-elim (λ e. omega arith) (λ e. omega arith)
+cause-number NonEmptyProduction = ⊎-elim (λ e. omega arith) (λ e. omega arith)
+cause-number PrematureEnd = ⊎-elim (λ e. omega arith) (λ e. omega arith)
+cause-number NotTerminated = ⊎-elim (λ e. omega arith) (λ e. omega arith)
+cause-number UnknownDeclaration = ⊎-elim (λ e. omega arith) (λ e. omega arith)
+cause-number ReachedEol = ⊎-elim (λ e. omega arith) (λ e. omega arith)
+cause-number ReachedEnd = ⊎-elim (λ e. omega arith) (λ e. omega arith)
+cause-number StringNotOpened = ⊎-elim (λ e. omega arith) (λ e. omega arith)
+cause-number StringLineEnd = ⊎-elim (λ e. omega arith) (λ e. omega arith)
+cause-number StringEscape = ⊎-elim (λ e. omega arith) (λ e. omega arith)
+cause-number StringNotClosed = ⊎-elim (λ e. omega arith) (λ e. omega arith)
+cause-number UnknownSymbol = ⊎-elim (λ e. omega arith) (λ e. omega arith)
+cause-number NotUtf8 = ⊎-elim (λ e. omega arith) (λ e. omega arith)
+
+-- a flaw has three numbers, and its first is neither 0 nor 44
+flaw-number : (f : Flaw) → (flawNumbers f ≡ flawNumber f ∷ getD (flawNumbers f) 1 0 ∷ getD (flawNumbers f) 2 0 ∷ []) × (0 < flawNumber f) × (flawNumber f < 44)
+flaw-number NoStartRule = (refl, omega arith, omega arith)
+flaw-number (InvalidStartRule a b) = (refl, omega arith, omega arith)
+flaw-number (UnknownRuleRef a b) = (refl, omega arith, omega arith)
+flaw-number (UnknownTokenRef a b) = (refl, omega arith, omega arith)
+flaw-number (UnknownPrecToken a b) = (refl, omega arith, omega arith)
+flaw-number (NoPrecForToken a b) = (refl, omega arith, omega arith)
+flaw-number (UnknownEppKey a b) = (refl, omega arith, omega arith)
+
+validity-0 : (v : Validity) → getD (validityNumbers v ++ (0 ∷ [])) 0 0 ≡ 0 → v ≡ Valid
+validity-0 Valid e = refl
+validity-0 UnsoundTables e = absurd (omega arith)
+validity-0 (Invalid f) e = let q = flaw-number f in absurd (omega (arith, rw (q .0) at e, q .1))
+
+validity-44 : (v : Validity) → getD (validityNumbers v ++ (0 ∷ [])) 0 0 ≡ 44 → v ≡ UnsoundTables
+validity-44 Valid e = absurd (omega arith)
+validity-44 UnsoundTables e = refl
+validity-44 (Invalid f) e = let q = flaw-number f in absurd (omega (arith, rw (q .0) at e, q .2))
+
+listing-44 : (l : Listing) → getD (listingCells l) 0 0 ≡ 44 → l ≡ OfUnsound
+listing-44 (Unused n) e = absurd (omega arith)
+listing-44 OfUnsound e = refl
+listing-44 (OfInvalid f) e = let q = flaw-number f in absurd (omega (arith, rw (q .0) at e, q .2))
+listing-44 NoWords e = absurd (omega arith)
+listing-44 NoRoom e = absurd (omega arith)
+
+valuation-number : (v : Valuation) → getD (valuationCells v) 0 0 ≡ getD (valuationNumbers v) 0 0
+valuation-number (Written n) = refl
+valuation-number OfUnsoundTables = refl
+valuation-number PastCount = refl
+valuation-number NotString = refl
+valuation-number NoTextRoom = refl
+
+module _ (src : List ℕ) (kind : ℕ) (T : Tables) where
+  abbrev o : Result
+  o = readAll src kind T
+
+  -- the numbers that the C name of read wrote, and the tables that it left
+  abbrev m : List ℕ
+  m = readFace src kind T .answer
+
+  abbrev left : Tables
+  left = readFace src kind T .tables
+
+  -- What the others take out of those numbers is what was read.
+  pub face-back : (countsOf m ≡ o .counts) × (singlesOf m ≡ o .singles)
+  face-back = (all-counts-back o (read-ten src kind T), singles-back o)
+
+  forth : (P : Counts → Singles → Type 0) → P (countsOf m) (singlesOf m) → P (o .counts) (o .singles)
+  forth P p = told (λ (c : Counts). P c (o .singles)) (face-back .0) (told (P (countsOf m)) (face-back .1) p)
+
+  back : (P : Counts → Singles → Type 0) → P (o .counts) (o .singles) → P (countsOf m) (singlesOf m)
+  back P p = told (λ (c : Counts). P c (singlesOf m)) (sym (face-back .0)) (told (P (o .counts)) (sym (face-back .1)) p)
+
+  -- So they give what the operations give on the reading: the validation in numbers,
+  pub same-validity : validateFace src m left ≡ validityNumbers (validity src (o .counts) (o .singles) (o .tables)) ++ (0 ∷ [])
+  same-validity = forth (λ c g. validateFace src m left ≡ validityNumbers (validity src c g left) ++ (0 ∷ [])) refl
+
+  -- the report with its answer in numbers,
+  pub same-report : (ws₀ ws out₀ out a : List ℕ) → ReportFace src m left ws₀ ws out₀ out a ↔ ((l : Listing) × Reported src (o .counts) (o .singles) (o .tables) l ws₀ ws out₀ out × (a ≡ listingCells l))
+  same-report ws₀ ws out₀ out a = (
+    (λ r. (r .listing, forth (λ c g. Reported src c g left (r .listing) ws₀ ws out₀ out) (r .reported), r .numbers)),
+    (λ r. record { listing = r .0; reported = back (λ c g. Reported src c g left (r .0) ws₀ ws out₀ out) (r .1); numbers = r .2 }),
+  )
+
+  -- the place of a row's name,
+  pub same-place : (table row : ℕ) → nameFace src m left table row ≡ placeCells (nameAt src (o .counts) (o .singles) (o .tables) table row)
+  same-place table row = forth (λ c g. nameFace src m left table row ≡ placeCells (nameAt src c g left table row)) refl
+
+  -- at which the name stands in the source,
+  pub same-name : (table row : ℕ) → let a = nameFace src m left table row in partAt src (record { from = getD a 0 0; to = getD a 1 0 }) ≡ nameOf src (o .counts) (o .singles) (o .tables) table row
+  same-name table row =
+      name-part src (countsOf m) (singlesOf m) left table row ∙ forth (λ c g. nameOf src (countsOf m) (singlesOf m) left table row ≡ nameOf src c g left table row) refl
+
+  -- and the value with its answer in numbers.
+  pub same-value : (row : ℕ) (out : List ℕ) → valueFace src m left row out ≡ valueFaceOf (eppValue src (o .counts) (o .singles) (o .tables) row out)
+  same-value row out = forth (λ c g. valueFace src m left row out ≡ valueFaceOf (eppValue src c g left row out)) refl
+
+  -- A read is full where its number says so.
+  pub face-full : FullNumber (getD m 0 0) → Full (o .answer)
+  unfolding readingCells
+  face-full = go (o .answer) (countsCells (o .counts)) (singlesCells (o .singles))
+    where
+      go : (v : Verdict) (xs ys : List ℕ) → FullNumber (getD (verdictNumbers v ++ xs ++ ys) 0 0) → Full v
+      go (Accepted i) xs ys n = tt
+      go (Rejected (Fault c i)) xs ys n = cause-number c n
+      go (Rejected (Repeated k a b)) xs ys n = tt
+      go (Rejected (no-room t a b)) xs ys n = ⊎-elim (λ e. omega arith) (λ e. omega arith) n
+      go (Rejected TooLong) xs ys n = ⊎-elim (λ e. omega arith) (λ e. omega arith) n
+      go (Rejected BadKind) xs ys n = ⊎-elim (λ e. omega arith) (λ e. omega arith) n
+
+  -- After a full read none of them answers 44;
+  module _ (full : Full (o .answer)) where
+    pub face-validate-not-44 : getD (validateFace src m left) 0 0 ≡ 44 → ⊥
+    face-validate-not-44 e = validate-not-44 src kind T full (validity-44 _ (rw same-validity at e))
+
+    pub face-report-not-44 : (ws₀ ws out₀ out a : List ℕ) → ReportFace src m left ws₀ ws out₀ out a → getD a 0 0 ≡ 44 → ⊥
+    face-report-not-44 ws₀ ws out₀ out a r e =
+        let q = same-report ws₀ ws out₀ out a .0 r in
+        let l : q .0 ≡ OfUnsound = listing-44 (q .0) (rw (q .2) at e) in
+        report-not-44 src kind T full ws₀ ws out₀ out (told (λ (l : Listing). Reported src (o .counts) (o .singles) left l ws₀ ws out₀ out) l (q .1))
+
+    pub face-value-not-44 : (row : ℕ) (out : List ℕ) → row < countAt (countsOf m) epps → getD (valueFace src m left row out .answer) 0 0 ≡ 44 → ⊥
+    face-value-not-44 row out h e =
+        let k : row < countAt (o .counts) epps = forth (λ c g. row < countAt c epps) h in
+        let v = eppValue src (o .counts) (o .singles) left row out .answer in
+        value-row-not-44 src kind T full row out k (sym (valuation-number v) ∙ ap (λ (f : ValueFace). getD (f .answer) 0 0) (sym (same-value row out)) ∙ e)
+
+    -- and the third demand holds, where the number of validation is 0.
+    abbrev grammar : Grammar
+    grammar = grammarRead src o
+
+    abbrev excuses : Excuses
+    excuses = excusesRead src o
+
+    module _ (ws₀ ws out₀ out a : List ℕ) (valid : getD (validateFace src m left) 0 0 ≡ 0) (r : ReportFace src m left ws₀ ws out₀ out a) where
+      reading-valid : validity src (o .counts) (o .singles) (o .tables) ≡ Valid
+      reading-valid = validity-0 _ (rw same-validity at valid)
+
+      -- what the operation reported, and the numbers that tell it
+      told-by : {Q : Type 0} → ((l : Listing) → Reported src (o .counts) (o .singles) (o .tables) l ws₀ ws out₀ out → a ≡ listingCells l → Q) → Q
+      told-by f = let q = same-report ws₀ ws out₀ out a .0 r in f (q .0) (q .1) (q .2)
+
+      in-numbers : (l : Listing) → a ≡ listingCells l → Exactly grammar excuses l out → ExactlyFace grammar excuses out a
+      in-numbers l e x = record { count = x .count; numbers = e ∙ ap listingCells (x .listed); rows = x .rows }
+
+      pub face-report-either : need grammar ≤ length ws₀ → ExactlyFace grammar excuses out a ⊎ CrowdedFace grammar excuses out₀ a
+      face-report-either words =
+          told-by (λ l p e. ⊎-elim (λ x. inl (in-numbers l e x)) (λ x. inr (record { numbers = e ∙ ap listingCells (x .0); many = x .1 })) (report-either src kind T full l ws₀ ws out₀ out reading-valid words p))
+
+      pub face-report-fits : need grammar ≤ length ws₀ → (n : ℕ) (list : List ℕ) → UnusedRows grammar excuses n list → n * 2 ≤ length out₀ → ExactlyFace grammar excuses out a
+      face-report-fits words n list x h = told-by (λ l p e. in-numbers l e (report-fits src kind T full l ws₀ ws out₀ out reading-valid words p n list x h))
+
+      pub face-report-exactly : Roomy grammar ws₀ out₀ → ExactlyFace grammar excuses out a
+      face-report-exactly room = told-by (λ l p e. in-numbers l e (report-exactly src kind T full l ws₀ ws out₀ out reading-valid room p))

@@ -1,0 +1,9 @@
+pub mod Steps
+pub mod Settings
+pub mod Lists
+pub mod Lines
+pub mod Epps
+pub mod Declarations
+pub mod Items
+pub mod Rules
+pub mod Read
