@@ -93,7 +93,7 @@ pub record Quiet (s : State) (a : Answer) (u : State) : Type 0 where
 going-undone : Going ≡ Done → ⊥
 going-undone e = let z : _≡_ {A = ℕ} 0 1 = cc in omega arith
 
-refused-undone : (f : Refusal) → Refused f ≡ Done → ⊥
+pub refused-undone : (f : Refusal) → Refused f ≡ Done → ⊥
 refused-undone f e = let z : _≡_ {A = ℕ} 0 1 = cc in omega arith
 
 quiet-push : (s : State) (k : ℕ) (row : List ℕ) (t : List ℕ) → (rules ≡ k → ⊥) → Quiet s (pushRow s k row t .answer) (pushRow s k row t .state)
@@ -353,6 +353,12 @@ end-production-far {src} {done} {s} {T} {d} f x =
     row : List ℕ
     row = productionCells (withLast d (count s symbols))
 
+-- behind a `;` a rule does not go on
+pub rule-end-never : (a : Answer) → ruleEnd a ≡ Going → ⊥
+rule-end-never Going r = going-undone (sym r)
+rule-end-never Done r = going-undone (sym r)
+rule-end-never (Refused e) r = let z : _≡_ {A = ℕ} 0 1 = cc in omega arith
+
 -- An item that ends its production: the ranges end at some `done`, which is behind the last symbol unless it was refused; a next production is a draft. It
 -- stands at `least` or behind it.
 pub record Ended (src : List ℕ) (T : Tables) (least : ℕ) (a : Answer) (s : State) (d : Production) : Type 0 where
@@ -391,13 +397,8 @@ module _ {src : List ℕ} {done : ℕ} {s : State} {T : Tables} {d : Production}
   end-far =
       let e = endProduction s d (T .t8) in
       let j = end-production-far f x in
-      record { done = j .done; far = j .far; next = λ r. absurd (never (e .answer) r); whole = λ t. j .whole (taken (e .answer) t); forth = let h = j .stays in omega arith }
+      record { done = j .done; far = j .far; next = λ r. absurd (rule-end-never (e .answer) r); whole = λ t. j .whole (taken (e .answer) t); forth = let h = j .stays in omega arith }
     where
-      never : (a : Answer) → ruleEnd a ≡ Going → ⊥
-      never Going r = going-undone (sym r)
-      never Done r = going-undone (sym r)
-      never (Refused e) r = let z : _≡_ {A = ℕ} 0 1 = cc in omega arith
-
       taken : (a : Answer) → Taken (ruleEnd a) → Taken a
       taken Going t = going-taken Going refl
       taken Done t = done-taken Done refl

@@ -1,14 +1,14 @@
 -- The first of the marks: it stands here, or the later ones are tried; where a mark lies. Actions and `%empty`: one law for each answer. Assumes nothing.
 use Prim.Native.Nat.{ℕ, _+_, _≤_}
-use mathlib.Core.Path.{_≡_, refl}
+use mathlib.Core.Path.{_≡_, refl, sym, _∙_}
 use mathlib.Core.List.{List, [], _∷_}
-use mathlib.Core.Bool.{Bool, true, false, _&&_, _||_, and-eq-true-iff}
+use mathlib.Core.Bool.{Bool, true, false, _&&_, _||_, and-eq-true-iff, false≢true}
 use native.Mathlib.Omega.{arith}
 use lib.Dec.{ltb, eqb}
 use lib.ListN.{length}
-use borrow.Author.Tests.{ltb-true}
-use Rattle.scan.specs.Scan.{isAt, startsAt}
-use Rattle.scan.proofs.Bytes.{on-test, starts-fits}
+use borrow.Author.Tests.{ltb-true, eq-eqb}
+use Rattle.scan.specs.Scan.{isAt, begins, startsAt}
+use Rattle.scan.proofs.Bytes.{on-test, starts-fits, drop-key, at-true}
 use Rattle.scan.specs.declared.Place.{Place}
 use Rattle.texts.specs.declared.Action.{Action}
 use Rattle.texts.specs.declared.Action.the-variants.{Body, OpenAction}
@@ -35,6 +35,21 @@ module _ (m : Mark) (ms : List Mark) (src : List ℕ) (at : ℕ) (b : Bool) (is 
   pub mark-miss : b ≡ false → firstMark ms src at ≡ firstMark (m ∷ ms) src at
   unfolding firstMark
   mark-miss h = rw (firstMark, ← is, h)
+
+-- a word of one byte stands where the byte does
+pub starts-one : (b : ℕ) (s : List ℕ) (k : ℕ) → isAt b s k ≡ true → startsAt (b ∷ []) s k ≡ true
+unfolding startsAt begins
+starts-one b s k t = let h = at-true s k b t in rw (drop-key s k b (h .0) (h .1), begins, eq-eqb b b refl)
+
+-- where neither mark stands, neither `|` nor `;` does
+pub ends-not : (src : List ℕ) (at : ℕ) → startsAt (124 ∷ []) src at ≡ false → startsAt (59 ∷ []) src at ≡ false → mayEnd src at ≡ true → ⊥
+unfolding mayEnd
+ends-not src at f g = go (isAt 124 src at) (isAt 59 src at) refl refl
+  where
+    go : (x y : Bool) → isAt 124 src at ≡ x → isAt 59 src at ≡ y → (x || y) ≡ true → ⊥
+    go true y p q h = false≢true (sym f ∙ starts-one 124 src at p)
+    go false true p q h = false≢true (sym g ∙ starts-one 59 src at q)
+    go false false p q h = false≢true h
 
 pub mark-none : (src : List ℕ) (at : ℕ) → record { sort = BareSort; end = at } ≡ firstMark [] src at
 unfolding firstMark

@@ -37,6 +37,8 @@ use Rattle.productions.specs.Cells.{actionCells, productionCells, pushProductio
 use Rattle.items.specs.declared.Sort.{Sort}
 use Rattle.items.specs.declared.Sort.the-variants.{BarSort, EndSort, QuotedSort, PrecSort, ActionSort, EmptySort, BareSort}
 use Rattle.items.specs.declared.Spotted.{Spotted}
+use Rattle.items.proofs.Marks.{starts-one, ends-not}
+use Rattle.items.proofs.Far.{rule-end-never}
 use Rattle.items.specs.Items.{Made0, Made3, precWord, firstMark, sortAt, withTo, withLast, withAction, symbolEntered, tokenSymbol, quotedGap, quotedRows, quotedFound, quotedItem, precFound, precName, precGap, precItem, mayEnd, actionGap, afterAction, actionFound, actionItem, mayFollow, emptyGap, emptyItem, symbolKind, bareFound, bareItem, endProduction, barItem, ruleEnd, endItem, bySort, itemStep, itemNext, itemOrEnd, itemTurn, itemList}
 use Rattle.meaning.specs.Regions.{ActionMade}
 use Rattle.meaning.specs.Made.{SymbolMade, ProductionMade, MadeAt}
@@ -94,20 +96,7 @@ Tells src at ActionSort = (mayEnd src at ≡ true → ⊥) × (at < length src) 
 Tells src at EmptySort = mayEnd src at ≡ true → ⊥
 Tells src at BareSort = (mayEnd src at ≡ true → ⊥) × (at < length src → isQuote (getD src at 0) ≡ false)
 
-starts-one : (b : ℕ) (s : List ℕ) (k : ℕ) → isAt b s k ≡ true → startsAt (b ∷ []) s k ≡ true
-unfolding startsAt begins
-starts-one b s k t = let h = at-true s k b t in rw (drop-key s k b (h .0) (h .1), begins, eq-eqb b b refl)
-
 module _ (src : List ℕ) (at : ℕ) where
-  ends-not : startsAt (124 ∷ []) src at ≡ false → startsAt (59 ∷ []) src at ≡ false → mayEnd src at ≡ true → ⊥
-  unfolding mayEnd
-  ends-not f g = go (isAt 124 src at) (isAt 59 src at) refl refl
-    where
-      go : (x y : Bool) → isAt 124 src at ≡ x → isAt 59 src at ≡ y → (x || y) ≡ true → ⊥
-      go true y p q h = false≢true (sym f ∙ starts-one 124 src at p)
-      go false true p q h = false≢true (sym g ∙ starts-one 59 src at q)
-      go false false p q h = false≢true h
-
   quote-not : startsAt (34 ∷ []) src at ≡ false → startsAt (39 ∷ []) src at ≡ false → at < length src → isQuote (getD src at 0) ≡ false
   unfolding isQuote
   quote-not f g l = go (eqb (getD src at 0) 34) (eqb (getD src at 0) 39) refl refl
@@ -122,11 +111,11 @@ module _ (src : List ℕ) (at : ℕ) where
   tells =
       on-test T (startsAt (124 ∷ []) src at) _ _ (λ t. tt)
       (λ a. on-test T (startsAt (59 ∷ []) src at) _ _ (λ t. tt)
-      (λ b. on-test T (startsAt (34 ∷ []) src at) _ _ (λ t. ends-not a b)
-      (λ c. on-test T (startsAt (39 ∷ []) src at) _ _ (λ t. ends-not a b)
-      (λ d. on-test T (startsAt precWord src at) _ _ (λ t. ends-not a b)
-      (λ e. on-test T (startsAt (123 ∷ []) src at) _ _ (λ t. (ends-not a b, brace t .0, brace t .1))
-      (λ f. on-test T (startsAt (37 ∷ 101 ∷ 109 ∷ 112 ∷ 116 ∷ 121 ∷ []) src at) _ _ (λ t. ends-not a b) (λ g. (ends-not a b, quote-not c d))))))))
+      (λ b. on-test T (startsAt (34 ∷ []) src at) _ _ (λ t. ends-not src at a b)
+      (λ c. on-test T (startsAt (39 ∷ []) src at) _ _ (λ t. ends-not src at a b)
+      (λ d. on-test T (startsAt precWord src at) _ _ (λ t. ends-not src at a b)
+      (λ e. on-test T (startsAt (123 ∷ []) src at) _ _ (λ t. (ends-not src at a b, brace t .0, brace t .1))
+      (λ f. on-test T (startsAt (37 ∷ 101 ∷ 109 ∷ 112 ∷ 116 ∷ 121 ∷ []) src at) _ _ (λ t. ends-not src at a b) (λ g. (ends-not src at a b, quote-not c d))))))))
     where
       T : Spotted → Type 0
       T r = Tells src at (r .sort)
@@ -290,11 +279,6 @@ module _ (src : List ℕ) (t : Text src) (kind : ℕ) (t7 : List ℕ) where
       go (Body end n p q) e = gap (p .from) (p .to) (q .from) (q .to) (action-region src t (s .at) end n p q h b e) (gapAt true src end)
       go (OpenAction i) e = λ g. absurd (refused-going _ g)
 
-  semi-never : (a : Answer) → ruleEnd a ≡ Going → ⊥
-  semi-never Going r = let z : _≡_ {A = ℕ} 0 1 = cc in omega arith
-  semi-never Done r = let z : _≡_ {A = ℕ} 0 1 = cc in omega arith
-  semi-never (Refused f) r = let z : _≡_ {A = ℕ} 0 1 = cc in omega arith
-
   module _ (s : State) (d : Production) (t1 t8 t9 : List ℕ) (x : MadeAt src kind s t7 t8 t9) (y : Acts src (s .at) (d .to) (d .action)) where
     none : (mayEnd src (s .at) ≡ true → ⊥) → (i to : ℕ) → Acts src i to (d .action)
     none n i to = acts-on src (s .at) (d .to) i to (d .action) y n
@@ -304,7 +288,7 @@ module _ (src : List ℕ) (t : Text src) (kind : ℕ) (t7 : List ℕ) where
     by-sort BarSort j h =
         let e = endProduction (withAt s j) d t8 in
         record { made = pass-made src kind (e .state) t7 (e .a) t9 (end-made (withAt s j) d t8 t9 x (s .at) y) false j (e .answer); acts = λ g. tt }
-    by-sort EndSort j h = record { made = end-made (withAt s j) d t8 t9 x (s .at) y; acts = λ g. absurd (semi-never (endProduction (withAt s j) d t8 .answer) g) }
+    by-sort EndSort j h = record { made = end-made (withAt s j) d t8 t9 x (s .at) y; acts = λ g. absurd (rule-end-never (endProduction (withAt s j) d t8 .answer) g) }
     by-sort QuotedSort j h = record { made = quoted-made s d t8 t9 x t1; acts = λ g. quoted-acts s d (none h) t1 t9 }
     by-sort PrecSort j h = record { made = prec-made (withAt s j) d t8 t9 x t1; acts = λ g. prec-acts (withAt s j) d (none h) t1 }
     by-sort ActionSort j h = record { made = action-made s d t8 t9 x; acts = action-acts s d (h .1) (h .2) }
