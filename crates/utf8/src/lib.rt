@@ -17,13 +17,33 @@ pub enum Decoded {
     Bad,
 }
 
-// Unicode White_Space.
+// Unicode White_Space, line by line as PropList.txt has it.
 pub fn is_white(p: u32) -> bool
     ensures { λ r. ⌜ r ≡ isWhite p ⌝ }
 {
     match p {
-        9..=13 | 32 => true,
-        133 | 160 | 5760 | 8192..=8202 | 8232 | 8233 | 8239 | 8287 | 12288 => true,
+        // <control-0009>..<control-000D>
+        0x0009..=0x000D => true,
+        // SPACE
+        0x0020 => true,
+        // <control-0085>
+        0x0085 => true,
+        // NO-BREAK SPACE
+        0x00A0 => true,
+        // OGHAM SPACE MARK
+        0x1680 => true,
+        // EN QUAD..HAIR SPACE
+        0x2000..=0x200A => true,
+        // LINE SEPARATOR
+        0x2028 => true,
+        // PARAGRAPH SEPARATOR
+        0x2029 => true,
+        // NARROW NO-BREAK SPACE
+        0x202F => true,
+        // MEDIUM MATHEMATICAL SPACE
+        0x205F => true,
+        // IDEOGRAPHIC SPACE
+        0x3000 => true,
         _ => false,
     }
 }
