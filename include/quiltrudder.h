@@ -105,8 +105,9 @@ void quiltrudder_validate(
     uint32_t answer[QUILTRUDDER_VALIDITY_CELLS]);
 
 /* The unused rules and tokens of a valid reading, into `out`: rows of kind and row number, rules first, each once, in ascending order; the cells
- * behind them are zero. `work` holds a bit for each rule and token that a chain of productions from the start rule reaches, 32 to a word, the
- * lowest first, rules' words before tokens' words; further words are zero.
+ * behind them are zero. A token is used where it is a symbol of a production of a rule that a chain of productions from the start rule reaches,
+ * or the name of the %prec that such a production holds. `work` holds a bit for each rule and token that is used so, 32 to a word, the lowest
+ * first, rules' words before tokens' words; further words are zero.
  *
  * Number 0 with the count of rows; 44; validate's number and place; 42 with table 11 where `work` has too few words; 42 with table 12 where `out`
  * has too few rows. After a refusal `work` and `out` are zero. */

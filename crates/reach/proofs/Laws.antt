@@ -13,14 +13,14 @@ use lib.Dec.{eqb}
 use Rattle.bits.specs.Bits.{bit, setBit, BitSet}
 use Rattle.bits.proofs.Bits.{bit-cases, set-there, ones-more, set-again, set-only}
 use Rattle.tables.specs.Table.{cell, findName}
-use Rattle.tables.specs.Layout.{productions, symbols, ruleRow, symbolsFrom, symbolsTo, kindName, width}
+use Rattle.tables.specs.Layout.{productions, symbols, ruleRow, symbolsFrom, symbolsTo, prec, kindName, width}
 use Rattle.tables.specs.declared.Found.{Found}
 use Rattle.tables.specs.declared.Found.the-variants.{RowAt, NoRow}
 use Rattle.tables.proofs.Cases.{find-iff, none-iff}
 use Rattle.grammar.specs.declared.Part.{Part}
 use Rattle.grammar.specs.declared.Part.the-variants.{Absent, At}
 use Rattle.reach.specs.declared.Sort.{Sort}
-use Rattle.reach.specs.Reach.{Named, Net, Calls, Begins, Apart, Grew, Adds, Added, Fits, Called, Among, Held, Within, Visited}
+use Rattle.reach.specs.Reach.{Named, Net, Calls, Begins, Apart, Grew, Adds, Added, Fits, Called, Among, Held, HeldPrec, Within, Visited}
 
 -- ---- what a step adds, and whether something is new
 
@@ -199,6 +199,24 @@ module _ (g : Net) (d : Named) (p rule : ℕ) (e : rule ≡ cell (width producti
 
 pub visit-held : (g : Net) (d : Named) (p : ℕ) (ws vs ds : List ℕ) (r : Bool) → Added (Held g d ws p) ws vs r → Visited g d ds p ws vs r
 visit-held g d p ws vs ds r x = record { size = x .adds .size; kept = x .adds .kept; only = x .adds .only; all = λ k q. inr (x .adds .all k q); grew = x .grew }
+
+-- ---- a production's `%prec`
+
+module _ (src ps : List ℕ) (d : Named) (p : ℕ) where
+  pub prec-absent : (x : ℕ) (ws : List ℕ) → x ≡ cell (width productions) ps p prec → (x ≡ 1 → ⊥) → Added (HeldPrec src ps d ws p) ws ws false
+  prec-absent x ws e ne = added-none ws (λ k q. absurd (ne (e ∙ q .holds .given)))
+
+  pub prec-unmarked : (rule : ℕ) (ws : List ℕ) (b : Bool) → rule ≡ cell (width productions) ps p ruleRow → b ≡ eqb (bit ws rule) 1 → b ≡ false → Added (HeldPrec src ps d ws p) ws ws false
+  prec-unmarked rule ws b e t h = added-none ws (λ k q. absurd (omega (arith, q .marked, ap (bit ws) e, is-zero ws rule b t h)))
+
+  pub prec-named : (x rule from to : ℕ) (ws vs : List ℕ) (b r : Bool) → x ≡ cell (width productions) ps p prec → x ≡ 1 → rule ≡ cell (width productions) ps p ruleRow → b ≡ eqb (bit ws rule) 1 → b ≡ true
+      → from ≡ cell (width productions) ps p (prec + 1) → to ≡ cell (width productions) ps p (prec + 2) → Added (Called src d from to) ws vs r → Added (HeldPrec src ps d ws p) ws vs r
+  prec-named x rule from to ws vs b r ex one e t h ef et m =
+      let on : bit ws (cell (width productions) ps p ruleRow) ≡ 1 = sym (ap (bit ws) e) ∙ is-one ws rule b t h in
+      added-same
+      (λ k q. record { marked = on; row = q .row; holds = record { given = sym ex ∙ one; row = rw (← ef, ← et) (q .calls) }; bit-is = q .bit-is })
+      (λ k q. record { row = q .row; calls = rw (ef, et) (q .holds .row); bit-is = q .bit-is })
+      m
 
 -- ---- the start
 

@@ -10,8 +10,8 @@ use lib.ListN.{length, getD, replicate}
 use Rattle.bits.specs.Bits.{bit}
 use Rattle.bits.proofs.Bits.{bit-zeros, bits-ext, bit-cases}
 use Rattle.tables.specs.Table.{cell}
-use Rattle.tables.specs.Layout.{productions, ruleRow, symbolsFrom, symbolsTo, width}
-use Rattle.reach.specs.Reach.{Net, Named, Grammar, Holds, From, Begins, UsedRule, Uses, symbol, Owned, Adds, Added, Held, Spread, TokenOf, Marked, rule, token, Work}
+use Rattle.tables.specs.Layout.{productions, ruleRow, width}
+use Rattle.reach.specs.Reach.{Net, Named, Grammar, Names, NamesPrec, From, Begins, UsedRule, Uses, symbol, precedence, Owned, Adds, Added, Held, HeldPrec, Spread, TokenOf, Marked, rule, token, Work}
 use Rattle.reach.proofs.Chains.{used-in}
 
 -- the pass over the productions below p
@@ -19,18 +19,17 @@ pub record TokensTo (g : Net) (d : Named) (p : ℕ) (ws vs : List ℕ) : Type 0 
   pub size : length vs ≡ length ws
   pub kept : (k : ℕ) → bit ws k ≡ 1 → bit vs k ≡ 1
   pub only : (k : ℕ) → bit vs k ≡ 1 → (bit ws k ≡ 1) ⊎ TokenOf g d ws k
-  pub all : (q : ℕ) → q < p → (s t : ℕ) → bit ws (cell (width productions) (g .prods) q ruleRow) ≡ 1
-      → Holds (g .src) (g .syms) d (cell (width productions) (g .prods) q symbolsFrom) (cell (width productions) (g .prods) q symbolsTo) s t → bit vs (d .sort .base + t) ≡ 1
+  pub all : (q : ℕ) → q < p → (k : ℕ) → Held g d ws q k ⊎ HeldPrec (g .src) (g .prods) d ws q k → bit vs k ≡ 1
 
 pub tokens-none : (g : Net) (d : Named) (ws : List ℕ) → TokensTo g d 0 ws ws
 tokens-none g d ws = record {
   size = refl;
   kept = λ k e. e;
   only = λ k e. inl e;
-  all = λ q h s t e n. absurd (omega arith);
+  all = λ q h k n. absurd (omega arith);
 }
 
-module _ (g : Net) (d : Named) (m : ℕ) (below : m ≤ d .sort .base) (owned : Owned g m) (p : ℕ) (ws vs us : List ℕ) (b : Bool) (h : p < g .count) (x : TokensTo g d p ws vs) (y : Added (Held g d vs p) vs us b) where
+module _ (g : Net) (d : Named) (m : ℕ) (below : m ≤ d .sort .base) (owned : Owned g m) (p : ℕ) (ws vs us ts : List ℕ) (a b : Bool) (h : p < g .count) (x : TokensTo g d p ws vs) (y : Added (Held g d vs p) vs us a) (z : Added (HeldPrec (g .src) (g .prods) d us p) us ts b) where
   -- a rule's bit is no token's
   was-marked : bit vs (cell (width productions) (g .prods) p ruleRow) ≡ 1 → bit ws (cell (width productions) (g .prods) p ruleRow) ≡ 1
   was-marked e =
@@ -39,47 +38,69 @@ module _ (g : Net) (d : Named) (m : ℕ) (below : m ≤ d .sort .base) (owned : 
       (λ t. absurd (omega (arith, owned p h, t .bit-is)))
       (x .only (cell (width productions) (g .prods) p ruleRow) e)
 
-  tokens-only : (k : ℕ) → bit us k ≡ 1 → (bit ws k ≡ 1) ⊎ TokenOf g d ws k
+  still-marked : bit us (cell (width productions) (g .prods) p ruleRow) ≡ 1 → bit ws (cell (width productions) (g .prods) p ruleRow) ≡ 1
+  still-marked e =
+      ⊎-elim
+      was-marked
+      (λ t. absurd (omega (arith, owned p h, t .among .bit-is)))
+      (y .adds .only (cell (width productions) (g .prods) p ruleRow) e)
+
+  by-symbol : (k : ℕ) → Held g d vs p k → TokenOf g d ws k
+  by-symbol k q = record {
+    by = cell (width productions) (g .prods) p ruleRow;
+    tok = q .among .row;
+    marked = was-marked (q .marked);
+    names = inl (record { prod = p; there = h; of = refl; sym = q .among .sym; holds = q .among .holds });
+    bit-is = q .among .bit-is;
+  }
+
+  by-prec : (k : ℕ) → HeldPrec (g .src) (g .prods) d us p k → TokenOf g d ws k
+  by-prec k q = record {
+    by = cell (width productions) (g .prods) p ruleRow;
+    tok = q .row;
+    marked = still-marked (q .marked);
+    names = inr (record { prod = p; there = h; of = refl; holds = q .holds });
+    bit-is = q .bit-is;
+  }
+
+  tokens-only : (k : ℕ) → bit ts k ≡ 1 → (bit ws k ≡ 1) ⊎ TokenOf g d ws k
   tokens-only k e =
       ⊎-elim
-      (λ o. x .only k o)
-      (λ q. inr (record {
-        by = cell (width productions) (g .prods) p ruleRow;
-        tok = q .among .row;
-        marked = was-marked (q .marked);
-        names = record { prod = p; there = h; of = refl; sym = q .among .sym; holds = q .among .holds };
-        bit-is = q .among .bit-is;
-      }))
-      (y .adds .only k e)
+      (λ u. ⊎-elim (λ o. x .only k o) (λ q. inr (by-symbol k q)) (y .adds .only k u))
+      (λ q. inr (by-prec k q))
+      (z .adds .only k e)
 
-  tokens-all : (q : ℕ) → q < p + 1 → (s t : ℕ) → bit ws (cell (width productions) (g .prods) q ruleRow) ≡ 1
-      → Holds (g .src) (g .syms) d (cell (width productions) (g .prods) q symbolsFrom) (cell (width productions) (g .prods) q symbolsTo) s t → bit us (d .sort .base + t) ≡ 1
-  tokens-all q l s t e n =
+  of-symbol : (k : ℕ) → Held g d ws p k → bit ts k ≡ 1
+  of-symbol k n = z .adds .kept k (y .adds .all k (record { marked = x .kept _ (n .marked); among = n .among }))
+
+  of-prec : (k : ℕ) → HeldPrec (g .src) (g .prods) d ws p k → bit ts k ≡ 1
+  of-prec k n = z .adds .all k (record { marked = y .adds .kept _ (x .kept _ (n .marked)); row = n .row; holds = n .holds; bit-is = n .bit-is })
+
+  tokens-all : (q : ℕ) → q < p + 1 → (k : ℕ) → Held g d ws q k ⊎ HeldPrec (g .src) (g .prods) d ws q k → bit ts k ≡ 1
+  tokens-all q l k n =
       elim (decLt q p) [
-        | yes l' ↦ y .adds .kept _ (x .all q l' s t e n)
+        | yes l' ↦ z .adds .kept k (y .adds .kept k (x .all q l' k n))
         | no l' ↦
             let eq : q ≡ p = omega arith in
-            y .adds .all (d .sort .base + t) (record {
-              marked = x .kept _ (rw eq at e);
-              among = record { sym = s; row = t; holds = rw eq at n; bit-is = refl };
-            })
+            ⊎-elim (of-symbol k) (of-prec k) (rw eq at n)
       ]
 
-  pub tokens-more : TokensTo g d (p + 1) ws us
+  pub tokens-more : TokensTo g d (p + 1) ws ts
   tokens-more = record {
-    size = y .adds .size ∙ x .size;
-    kept = λ k e. y .adds .kept k (x .kept k e);
+    size = z .adds .size ∙ y .adds .size ∙ x .size;
+    kept = λ k e. z .adds .kept k (y .adds .kept k (x .kept k e));
     only = tokens-only;
     all = tokens-all;
   }
 
 pub tokens-done : (g : Net) (d : Named) (p : ℕ) (ws vs : List ℕ) → g .count ≤ p → TokensTo g d p ws vs → Adds (TokenOf g d ws) ws vs
-tokens-done g d p ws vs h x = record {
-  size = x .size;
-  kept = x .kept;
-  only = x .only;
-  all = λ k t. rw (t .bit-is) (x .all (t .names .prod) (omega (arith, t .names .there)) (t .names .sym) (t .tok) (rw (t .names .of) (t .marked)) (t .names .holds));
-}
+tokens-done g d p ws vs h x = record { size = x .size; kept = x .kept; only = x .only; all = λ k t. ⊎-elim (symbols k t) (precs k t) (t .names) }
+  where
+    symbols : (k : ℕ) (t : TokenOf g d ws k) → Names g d (t .by) (t .tok) → bit vs k ≡ 1
+    symbols k t n = x .all (n .prod) (omega (arith, n .there)) k (inl (record { marked = rw (n .of) (t .marked); among = record { sym = n .sym; row = t .tok; holds = n .holds; bit-is = t .bit-is } }))
+
+    precs : (k : ℕ) (t : TokenOf g d ws k) → NamesPrec g d (t .by) (t .tok) → bit vs k ≡ 1
+    precs k t n = x .all (n .prod) (omega (arith, n .there)) k (inr (record { marked = rw (n .of) (t .marked); row = t .tok; holds = n .holds; bit-is = t .bit-is }))
 
 -- ---- zeros, then the start rule's bit, then along every chain, then the tokens
 
@@ -99,13 +120,19 @@ module _ (g : Grammar) (n : ℕ) (w1 w2 w3 : List ℕ) (b : Adds (Begins (g .net
   works-all k (token i h e m) = token-on (m .by) (m .used) (m .uses)
     where
       token-on : (a : ℕ) → UsedRule g a → Uses g a i → bit w3 k ≡ 1
-      token-on a u (symbol x) = t .all k (record { by = a; tok = i; marked = used-on a u; names = x; bit-is = e })
+      token-on a u (symbol x) = t .all k (record { by = a; tok = i; marked = used-on a u; names = inl x; bit-is = e })
+      token-on a u (precedence x) = t .all k (record { by = a; tok = i; marked = used-on a u; names = inr x; bit-is = e })
 
   works-only : (k : ℕ) → bit w3 k ≡ 1 → Marked g k
   works-only k e =
       ⊎-elim
       (λ o. let u = reached k (s .only k o) in rule (used-in g k u) u)
-      (λ m. token (m .tok) (m .names .holds .row .inside) (m .bit-is) (record { by = m .by; used = reached (m .by) (s .only (m .by) (m .marked)); uses = symbol (m .names) }))
+      (λ m.
+      let u = reached (m .by) (s .only (m .by) (m .marked)) in
+      ⊎-elim
+      (λ n. token (m .tok) (n .holds .row .inside) (m .bit-is) (record { by = m .by; used = u; uses = symbol n }))
+      (λ n. token (m .tok) (n .holds .row .inside) (m .bit-is) (record { by = m .by; used = u; uses = precedence n }))
+      (m .names))
       (t .only k e)
 
   pub works : ((i : ℕ) → getD w3 i 0 < 2 ^ 32) → Work g w3

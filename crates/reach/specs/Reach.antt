@@ -6,7 +6,7 @@ use mathlib.Core.List.{List}
 use mathlib.Core.Logic.{_⊎_}
 use lib.ListN.{length, getD, replicate}
 use Rattle.tables.specs.Table.{cell, hasName, zeroed}
-use Rattle.tables.specs.Layout.{tokens, rules, productions, symbols, ruleRow, symbolsFrom, symbolsTo, kindName, width}
+use Rattle.tables.specs.Layout.{tokens, rules, productions, symbols, ruleRow, symbolsFrom, symbolsTo, prec, kindName, width}
 use Rattle.grammar.specs.declared.Counts.{Counts}
 use Rattle.grammar.specs.declared.Part.{Part}
 use Rattle.grammar.specs.declared.Part.the-variants.{Absent, At}
@@ -63,6 +63,18 @@ pub record Names (g : Net) (d : Named) (a b : ℕ) : Type 0 where
   pub sym : ℕ
   pub holds : Holds (g .src) (g .syms) d (cell (width productions) (g .prods) prod symbolsFrom) (cell (width productions) (g .prods) prod symbolsTo) sym b
 
+-- "A production's `%prec` is either absent or a name with its place": production p has one, and row r has its name
+pub record HoldsPrec (src ps : List ℕ) (d : Named) (p r : ℕ) : Type 0 where
+  pub given : cell (width productions) ps p prec ≡ 1
+  pub row : Calls src d (cell (width productions) ps p (prec + 1)) (cell (width productions) ps p (prec + 2)) r
+
+-- a production of rule a has a `%prec` that names row b
+pub record NamesPrec (g : Net) (d : Named) (a b : ℕ) : Type 0 where
+  pub prod : ℕ
+  pub there : prod < g .count
+  pub of : cell (width productions) (g .prods) prod ruleRow ≡ a
+  pub holds : HoldsPrec (g .src) (g .prods) d prod b
+
 -- "each next rule is named by a rule symbol of a production of the one before": a chain from rule a to rule b
 pub data Chain (g : Net) (d : Named) (a : ℕ) : ℕ → Type 0 where
   here : Chain g d a a
@@ -86,9 +98,11 @@ pub record UsedRule (g : Grammar) (r : ℕ) : Type 0 where
   pub begins : Begins (g .net .src) (g .rules) (g .start) first
   pub chain : Chain (g .net) (g .rules) first r
 
--- tokens among symbols of productions of such rules": the ways in which rule a uses token t
+-- tokens among symbols of productions of such rules"; and by document 02, request Two, "the `%prec` name that a production of a reached rule holds is a used
+-- token; one that a later `%prec` replaced isn't": the ways in which rule a uses token t
 pub data Uses (g : Grammar) (a t : ℕ) : Type 0 where
   symbol : Names (g .net) (g .tokens) a t → Uses g a t
+  precedence : NamesPrec (g .net) (g .tokens) a t → Uses g a t
 
 pub record UsedToken (g : Grammar) (t : ℕ) : Type 0 where
   pub by : ℕ
@@ -170,6 +184,13 @@ pub record Held (g : Net) (d : Named) (ws : List ℕ) (p k : ℕ) : Type 0 where
   pub marked : bit ws (cell (width productions) (g .prods) p ruleRow) ≡ 1
   pub among : Among (g .src) (g .syms) d (cell (width productions) (g .prods) p symbolsFrom) (cell (width productions) (g .prods) p symbolsTo) k
 
+-- bit k stands for the row that the `%prec` of production p names, whose rule is marked in ws
+pub record HeldPrec (src ps : List ℕ) (d : Named) (ws : List ℕ) (p k : ℕ) : Type 0 where
+  pub marked : bit ws (cell (width productions) ps p ruleRow) ≡ 1
+  pub row : ℕ
+  pub holds : HoldsPrec src ps d p row
+  pub bit-is : k ≡ d .sort .base + row
+
 -- a chain leads to b from a rule that is marked in ws
 pub record From (g : Net) (d : Named) (ws : List ℕ) (b : ℕ) : Type 0 where
   pub root : ℕ
@@ -210,12 +231,12 @@ pub record Spread (g : Net) (d : Named) (ws vs : List ℕ) : Type 0 where
   pub only : (b : ℕ) → bit vs b ≡ 1 → From g d ws b
   pub all : (b : ℕ) → From g d ws b → bit vs b ≡ 1
 
--- bit k stands for a token that a marked rule names
+-- bit k stands for a token that a marked rule names, by a symbol or by a `%prec`
 pub record TokenOf (g : Net) (d : Named) (ws : List ℕ) (k : ℕ) : Type 0 where
   pub by : ℕ
   pub tok : ℕ
   pub marked : bit ws by ≡ 1
-  pub names : Names g d by tok
+  pub names : Names g d by tok ⊎ NamesPrec g d by tok
   pub bit-is : k ≡ d .sort .base + tok
 
 -- the marking: the used rows, or all zero where there are too few words

@@ -7,7 +7,7 @@ ghost use Prim.Native.Nat.{ℕ, _+_, _*_, _^_, _<_, _≤_};
 ghost use mathlib.Core.Bool.{Bool, true, false, _||_};
 ghost use lib.ListN.{length, getD};
 ghost use Rattle.bits.specs.Bits.{bit};
-ghost use Rattle.reach.specs.Reach.{wordsFor, ruleSort, tokenSort, named, net, grammarOf, Begins, Apart, Owned, Fair, Adds, Added, Fits, Called, Among, Held, Swept, Within, Done, Visited, Spread, TokenOf, Marks};
+ghost use Rattle.reach.specs.Reach.{wordsFor, ruleSort, tokenSort, named, net, grammarOf, Begins, Apart, Owned, Fair, Adds, Added, Fits, Called, Among, Held, HeldPrec, Swept, Within, Done, Visited, Spread, TokenOf, Marks};
 
 // One sort of rows: its code, the width of its rows, their count, and the bit of row 0.
 pub struct Sort {
@@ -137,6 +137,24 @@ fn mark_production(
     mark_symbols(w, src, names, z, syms, from, to)
 }
 
+// The row that the `%prec` of production `p` names, if its rule is marked.
+fn mark_prec(w: &mut [u32], src: &[u8], names: &[u32], z: Sort, prods: &[u32], p: u32) -> bool
+    requires { ⌜ Fits z (now w) × Apart (now src) (named (now names) z) ⌝ }
+    ensures { λ r. ⌜ Added (HeldPrec (now (src .entry)) (now (prods .entry)) (named (now (names .entry)) z) (now (w .entry)) p) (now (w .entry)) (now (w .exit)) r ⌝ }
+{
+    let wide = tables::PRODUCTION_WIDTH;
+    if tables::cell(prods, wide, p, tables::PREC) != 1 {
+        return false;
+    }
+    let owner = tables::cell(prods, wide, p, tables::RULE_ROW);
+    if !bits::test_bit(w, owner as usize) {
+        return false;
+    }
+    let a = tables::cell(prods, wide, p, tables::PREC_FROM);
+    let b = tables::cell(prods, wide, p, tables::PREC_TO);
+    mark_name(w, src, names, z, a, b)
+}
+
 fn word_of(w: &[u32], i: usize) -> u32
     ensures { λ r. ⌜ r ≡ getD (now (w .entry)) i 0 ⌝ }
 {
@@ -230,7 +248,7 @@ fn spread(w: &mut [u32], src: &[u8], c: Counts, rules: &[u32], prods: &[u32], sy
     while round(w, &mut done, src, c, rules, prods, syms) {}
 }
 
-// One pass that marks the tokens of productions of marked rules.
+// One pass that marks the tokens of productions of marked rules: symbols', and that of the `%prec`.
 fn mark_tokens(w: &mut [u32], src: &[u8], c: Counts, tokens: &[u32], prods: &[u32], syms: &[u32])
     requires { ⌜ Fits (tokenSort c) (now w) × Apart (now src) (named (now tokens) (tokenSort c)) × Owned (net (now src) c (now prods) (now syms)) (ruleSort c .count) ⌝ }
     ensures { λ r. ⌜ Adds (TokenOf (net (now (src .entry)) c (now (prods .entry)) (now (syms .entry))) (named (now (tokens .entry)) (tokenSort c)) (now (w .entry))) (now (w .entry)) (now (w .exit)) ⌝ }
@@ -240,6 +258,7 @@ fn mark_tokens(w: &mut [u32], src: &[u8], c: Counts, tokens: &[u32], prods: &[u3
     let mut p = 0;
     while p < n {
         mark_production(w, src, tokens, z, c, prods, syms, p);
+        mark_prec(w, src, tokens, z, prods, p);
         p += 1;
     }
 }

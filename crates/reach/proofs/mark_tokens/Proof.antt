@@ -1,5 +1,6 @@
 -- `reach::mark_tokens` meets its contract: production by production. Assumes nothing.
 use Prim.Native.Nat.{_-_, _≤_}
+use mathlib.Core.Path.{_∙_}
 use native.Mathlib.Omega.{arith}
 use borrow.Author.Needs.{needs}
 use denote.Ref.{now}
@@ -21,13 +22,20 @@ begin c = (omega arith, tokens-none _ _ _)
 ready : tie.Need-mark-production-requires Inv-loop μ-loop
 ready c κs = rw (c .before .before .before .before .token-sort .ensures) (fits-on _ (now (c .before .before .before .before .before .before .before .before .before .before .args .w)) _ (c .before .before .loop .inv .1 .size) (c .before .before .before .before .before .before .before .before .before .before .pre .0), c .before .before .before .before .before .before .before .before .before .before .pre .1)
 
+prec-ready : tie.Need-mark-prec-requires Inv-loop μ-loop
+prec-ready c κs =
+    let e = c .before .before .before .before .before .before .before .before .token-sort .ensures in
+    let q = rw e at (c .before .before .before .mark-production .ensures) in
+    rw e (fits-on _ (now (c .before .before .before .before .before .before .before .before .before .before .before .before .before .before .args .w)) _ (q .adds .size ∙ c .before .before .before .before .before .before .loop .inv .1 .size) (c .before .before .before .before .before .before .before .before .before .before .before .before .before .before .pre .0), c .before .before .before .before .before .before .before .before .before .before .before .before .before .before .pre .1)
+
 again : tie.Need-loop-again Inv-loop μ-loop
 again c =
-    let a = c .before .before .before .before .before .before .before .before .before .before .before .before .before .args in
-    let l = c .before .before .before .before .before .loop in (
+    let a = c .before .before .before .before .before .before .before .before .before .before .before .before .before .before .before .before .before .args in
+    let l = c .before .before .before .before .before .before .before .before .before .loop in
+    let e = c .before .before .before .before .before .before .before .before .before .before .before .token-sort .ensures in (
       omega arith,
-      tokens-more (net (now (a .src)) (a .c) (now (a .prods)) (now (a .syms))) (named (now (a .tokens)) (tokenSort (a .c))) (ruleSort (a .c) .count) (omega arith) (c .before .before .before .before .before .before .before .before .before .before .before .before .before .pre .2) (l .p) (now (a .w)) (l .w) _ _
-          (rw (c .before .before .before .before .before .before .rows-of .ensures) at (c .before .before .before .before .loop-test .taken)) (l .inv .1) (rw (c .before .before .before .before .before .before .before .token-sort .ensures) at (c .before .before .mark-production .ensures)),
+      tokens-more (net (now (a .src)) (a .c) (now (a .prods)) (now (a .syms))) (named (now (a .tokens)) (tokenSort (a .c))) (ruleSort (a .c) .count) (omega arith) (c .before .before .before .before .before .before .before .before .before .before .before .before .before .before .before .before .before .pre .2) (l .p) (now (a .w)) (l .w) _ _ _ _
+          (rw (c .before .before .before .before .before .before .before .before .before .before .rows-of .ensures) at (c .before .before .before .before .before .before .before .before .loop-test .taken)) (l .inv .1) (rw e at (c .before .before .before .before .before .before .mark-production .ensures)) (rw e at (c .before .before .mark-prec .ensures)),
     )
 
 all : tie.Need-returns Inv-loop μ-loop
@@ -45,6 +53,7 @@ mark-tokens-spec =
     (λ c κs. search needs)
     begin
     ready
+    prec-ready
     (λ c. omega arith)
     (λ c. omega arith)
     again
