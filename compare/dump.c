@@ -22,7 +22,7 @@ static void errors(void) {
             printf("\n");
         }
     free(done);
-    if (o[0] >= 1 && o[0] <= 15) printf("error %u %u %u\n", o[0], o[1], o[2]);
+    if (o[0] >= 1 && o[0] <= 19) printf("error %u %u %u\n", o[0], o[1], o[2]);
 }
 
 static void epp(uint32_t row) {

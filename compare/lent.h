@@ -28,6 +28,6 @@ static int next_input(FILE *f, uint8_t **bytes) {
 }
 
 /* Whether the read stopped early. */
-static int is_fatal(void) { return (o[0] >= 1 && o[0] <= 15) || o[0] >= 40; }
+static int is_fatal(void) { return (o[0] >= 1 && o[0] <= 19) || o[0] >= 40; }
 
 #endif

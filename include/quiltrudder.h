@@ -50,6 +50,47 @@ extern "C" {
 #define QUILTRUDDER_TO 2
 #define QUILTRUDDER_TABLE 3
 
+/* The numbers that answers begin with. */
+#define QUILTRUDDER_ACCEPTED 0 /* nothing is refused */
+#define QUILTRUDDER_ILLEGAL_INTEGER 1 /* a whole number that fits 64 bits is wanted */
+#define QUILTRUDDER_ILLEGAL_NAME 2 /* a name is wanted */
+#define QUILTRUDDER_ILLEGAL_STRING 3 /* a token is wanted */
+#define QUILTRUDDER_INCOMPLETE_RULE 4 /* the source ends inside a rule */
+#define QUILTRUDDER_INCOMPLETE_COMMENT 5 /* a comment does not end */
+#define QUILTRUDDER_INCOMPLETE_ACTION 6 /* a brace does not close */
+#define QUILTRUDDER_MISSING_COLON 7 /* a colon is wanted behind the rule's name */
+#define QUILTRUDDER_MISSING_RIGHT_ARROW 8 /* -> is wanted behind the rule's name */
+#define QUILTRUDDER_NON_EMPTY_PRODUCTION 9 /* %empty in a production that is not empty */
+#define QUILTRUDDER_PREMATURE_END 10 /* the source ends inside the declarations */
+#define QUILTRUDDER_PRODUCTION_NOT_TERMINATED 11 /* only | or ; may stand behind an action */
+#define QUILTRUDDER_UNKNOWN_DECLARATION 12 /* no declaration of this kind */
+#define QUILTRUDDER_REACHED_EOL 13 /* a line end where none may stand */
+#define QUILTRUDDER_INVALID_STRING 14 /* a string is wanted: no opening quote */
+#define QUILTRUDDER_UNKNOWN_SYMBOL 15 /* a rule's name or a quoted token is wanted */
+#define QUILTRUDDER_NO_SINGLE_COLON 16 /* no single colon follows */
+#define QUILTRUDDER_STRING_LINE_END 17 /* a line end inside a string */
+#define QUILTRUDDER_STRING_ESCAPE 18 /* a backslash in a string before anything but a quote */
+#define QUILTRUDDER_STRING_NOT_CLOSED 19 /* a string that is not closed */
+#define QUILTRUDDER_REPEATED_PRECEDENCE 20 /* given before, as are those to 27 */
+#define QUILTRUDDER_REPEATED_AVOID_INSERT 21
+#define QUILTRUDDER_REPEATED_IMPLICIT_TOKENS 22
+#define QUILTRUDDER_REPEATED_EXPECT 23
+#define QUILTRUDDER_REPEATED_EXPECT_RR 24
+#define QUILTRUDDER_REPEATED_START 25
+#define QUILTRUDDER_REPEATED_ACTIONTYPE 26
+#define QUILTRUDDER_REPEATED_EPP 27
+#define QUILTRUDDER_NO_START_RULE 30 /* validate: there is no start rule */
+#define QUILTRUDDER_INVALID_START_RULE 31 /* the start rule does not exist */
+#define QUILTRUDDER_UNKNOWN_RULE_REF 32 /* a rule that does not exist */
+#define QUILTRUDDER_UNKNOWN_TOKEN 33 /* a token that does not exist */
+#define QUILTRUDDER_NO_PREC_FOR_TOKEN 34 /* a %prec names a token without a precedence */
+#define QUILTRUDDER_UNKNOWN_EPP 35 /* an %epp key that is no token */
+#define QUILTRUDDER_NOT_UTF8 40 /* not UTF-8 from this byte on */
+#define QUILTRUDDER_TOO_LONG 41 /* more than QUILTRUDDER_SOURCE_BYTES */
+#define QUILTRUDDER_NO_ROOM 42 /* a lent table is full */
+#define QUILTRUDDER_BAD_KIND 43 /* no such kind */
+#define QUILTRUDDER_UNSOUND 44 /* numbers and tables that are no reading of this source */
+
 /* In a reading: the ten counts of tables 1 to 10, and then the singles. Each single is led by its flag: 0 absent, its numbers zero; 1 given. */
 #define QUILTRUDDER_COUNTS 4
 #define QUILTRUDDER_START 14 /* flag, from, to */
@@ -66,7 +107,7 @@ extern "C" {
 /* Reads a source of kind 1, 2 or 3 into the lent tables, whatever they held.
  *
  * Number 0: accepted, and the place is the end reached, twice. 20 to 27: all of it was read and something was given twice; the place is the
- * first one's, table 10 lists the repeats, and the tables hold the full reading. 1 to 15, 40, 41, 43: refused at the place. 42: the table that
+ * first one's, table 10 lists the repeats, and the tables hold the full reading. 1 to 19, 40, 41, 43: refused at the place. 42: the table that
  * is named has no room for the row at the place. After a refusal but 20 to 27, tables 1 to 9 and their counts are zero and the singles absent,
  * and repeats met before stay listed. */
 void quiltrudder_read(

@@ -445,7 +445,7 @@ fn put_groups(o: &mut [u8], at: usize, t10: &[u32], n: u32) -> usize {
 
 fn put_errors(o: &mut [u8], at: usize, told: Told, t10: &[u32], n: u32) -> usize {
     let p = put_groups(o, at, t10, n);
-    if (told.number < 1) | (15 < told.number) {
+    if (told.number < 1) | (19 < told.number) {
         return p;
     }
     let q = put_error(o, p, told.number, told.from, told.to);
@@ -457,7 +457,7 @@ fn put_errors(o: &mut [u8], at: usize, told: Told, t10: &[u32], n: u32) -> usize
 // A refusal after which tables 1 to 9 are empty.
 fn is_fatal(number: u32) -> bool {
     match number {
-        1..=15 | 40..=43 => true,
+        1..=19 | 40..=43 => true,
         _ => false,
     }
 }

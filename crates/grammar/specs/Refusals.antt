@@ -11,7 +11,8 @@ use Rattle.grammar.specs.declared.Repeat.{Repeat}
 use Rattle.grammar.specs.declared.Repeat.the-variants.{RepeatedPrecedence, RepeatedAvoidInsert, RepeatedImplicitTokens, RepeatedExpect, RepeatedExpectRr, RepeatedStart, RepeatedActiontype, RepeatedEpp}
 use Rattle.grammar.specs.declared.Told.{Told}
 
--- "1 IllegalInteger, 2 IllegalName, 3 IllegalString", and so on: several causes may share a number
+-- "1 IllegalInteger, 2 IllegalName, 3 IllegalString", and so on; and by document 02, request Four, "16 where no single colon follows", "17 is a line end
+-- inside, 18 a backslash before anything but a quote or at the end, 19 a string that isn't closed"
 abbrev pub numberOfCause : Cause → ℕ
 numberOfCause IntegerEmpty = 1
 numberOfCause IntegerTooLarge = 1
@@ -27,11 +28,11 @@ numberOfCause PrematureEnd = 10
 numberOfCause NotTerminated = 11
 numberOfCause UnknownDeclaration = 12
 numberOfCause ReachedEol = 13
-numberOfCause ReachedEnd = 13
+numberOfCause ReachedEnd = 16
 numberOfCause StringNotOpened = 14
-numberOfCause StringLineEnd = 14
-numberOfCause StringEscape = 14
-numberOfCause StringNotClosed = 14
+numberOfCause StringLineEnd = 17
+numberOfCause StringEscape = 18
+numberOfCause StringNotClosed = 19
 numberOfCause UnknownSymbol = 15
 numberOfCause NotUtf8 = 40
 

@@ -214,7 +214,7 @@ cleared T U s f e = record { tables = zeros; counts = none; singles = refl }
     none (suc (suc (suc (suc (suc (suc (suc (suc zero)))))))) h = refl
     none (suc (suc (suc (suc (suc (suc (suc (suc (suc k))))))))) h = absurd (omega arith)
 
--- "After 1 to 15, 40 to 43, tables 1 to 9 and their counts are zero, the singles absent."
+-- After 1 to 19 and 40 to 43 "tables 1 to 9 and their counts are zero, the singles absent."
 pub stopped-clean : (src : List ℕ) (kind : ℕ) (T : Tables) (f : Refusal) → readAll src kind T .answer ≡ Rejected f → (RepeatsOnly f → ⊥) → Cleared T (readAll src kind T)
 unfolding readAll attempted endedAt
 stopped-clean src kind T f = let r = attempted src kind (zeroAll T) in go (r .answer) (r .state) (r .tables) (run (admitted src kind) ∙ zero-lengths T)

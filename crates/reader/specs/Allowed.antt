@@ -30,7 +30,7 @@ abbrev pub Full : Verdict → Type 0
 Full (Accepted i) = Unit {0}
 Full (Rejected f) = RepeatsOnly f
 
--- "After 1 to 15, 40 to 43, tables 1 to 9 and their counts are zero, the singles absent."
+-- "After 1 to 15, 40 to 43, tables 1 to 9 and their counts are zero, the singles absent.": with document 02, request Four, after 1 to 19
 pub record Cleared (T : Tables) (o : Result) : Type 0 where
   pub tables : (k : ℕ) → k < repeats → tab (o .tables) k ≡ zeroed (tab T k)
   pub counts : (k : ℕ) → k < repeats → getD (o .counts .n) k 0 ≡ 0

@@ -120,7 +120,8 @@ attemptOf (Unfit f) src kind T = record { answer = Refused f; state = fresh; tab
 unfoldable pub attempted : List ℕ → ℕ → Tables → Run
 attempted src kind T = attemptOf (admitted src kind) src kind T
 
--- "After 1 to 15, 40 to 43, tables 1 to 9 and their counts are zero, the singles absent"; "repeats met before it stay listed"
+-- "After 1 to 15, 40 to 43, tables 1 to 9 and their counts are zero, the singles absent", and with document 02, request Four, after 16 to 19; "repeats met before
+-- it stay listed"
 abbrev pub onlyRepeats : ℕ → Counts
 onlyRepeats n = record { n = 0 ∷ 0 ∷ 0 ∷ 0 ∷ 0 ∷ 0 ∷ 0 ∷ 0 ∷ 0 ∷ n ∷ [] }
 

@@ -149,8 +149,8 @@ first-place o x y =
     rw (← y .from, ← y .to, ← row-cell (width repeats) (o .tables .t10) 0 firstPlace (omega arith), ← row-cell (width repeats) (o .tables .t10) 0 (firstPlace + 1) (omega arith))
     (x .each 0 (y .some) .first)
 
--- a cause's number is 1 to 15, or 40
-cause-number : (c : Cause) → ((1 ≤ numberOfCause c) × (numberOfCause c ≤ 15)) ⊎ (numberOfCause c ≡ 40)
+-- a cause's number is 1 to 19, or 40
+cause-number : (c : Cause) → ((1 ≤ numberOfCause c) × (numberOfCause c ≤ 19)) ⊎ (numberOfCause c ≡ 40)
 cause-number IntegerEmpty = inl (omega arith, omega arith)
 cause-number IntegerTooLarge = inl (omega arith, omega arith)
 cause-number IllegalName = inl (omega arith, omega arith)
@@ -180,7 +180,7 @@ refusal-documented src kind T f e = go f (told (Verdicts src (readAll src kind T
     go : (f : Refusal) → Verdicts src (readAll src kind T) (Rejected f) → Documented src f
     go (Fault c i) x = fault (cause-number c)
       where
-        fault : ((1 ≤ numberOfCause c) × (numberOfCause c ≤ 15)) ⊎ (numberOfCause c ≡ 40) → Documented src (Fault c i)
+        fault : ((1 ≤ numberOfCause c) × (numberOfCause c ≤ 19)) ⊎ (numberOfCause c ≡ 40) → Documented src (Fault c i)
         fault (inl y) = let l = y .1 in record { number = inl y; place = record { onward = omega arith; inside = omega arith }; other = λ d. refl; full = λ n. absurd (omega arith) }
         fault (inr y) = record { number = inr (inr (omega arith, omega arith)); place = record { onward = omega arith; inside = omega arith }; other = λ d. refl; full = λ n. absurd (omega arith) }
     go (Repeated what a b) x =

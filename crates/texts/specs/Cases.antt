@@ -46,9 +46,9 @@ lines-hold = refl
 unfoldable pub colons : List (Case Input)
 colons =
     -- nothing at 0
-    row [] 0 (13 ∷ 0 ∷ [])
+    row [] 0 (16 ∷ 0 ∷ [])
     -- `a` at 0
-    ∷ row (97 ∷ []) 0 (13 ∷ 1 ∷ [])
+    ∷ row (97 ∷ []) 0 (16 ∷ 1 ∷ [])
     -- `:` at 0
     ∷ row (58 ∷ []) 0 (0 ∷ 0 ∷ 0 ∷ 0 ∷ 0 ∷ [])
     -- `a:b` at 0
@@ -56,7 +56,7 @@ colons =
     -- ` a ::b : c` at 0
     ∷ row (32 ∷ 97 ∷ 32 ∷ 58 ∷ 58 ∷ 98 ∷ 32 ∷ 58 ∷ 32 ∷ 99 ∷ []) 0 (0 ∷ 7 ∷ 0 ∷ 1 ∷ 6 ∷ [])
     -- `a::` at 0
-    ∷ row (97 ∷ 58 ∷ 58 ∷ []) 0 (13 ∷ 3 ∷ [])
+    ∷ row (97 ∷ 58 ∷ 58 ∷ []) 0 (16 ∷ 3 ∷ [])
     -- `a:::` at 0
     ∷ row (97 ∷ 58 ∷ 58 ∷ 58 ∷ []) 0 (0 ∷ 3 ∷ 0 ∷ 0 ∷ 3 ∷ [])
     -- `a\r\n b :` at 0
@@ -68,7 +68,7 @@ colons =
     -- `x->T:` at 3
     ∷ row (120 ∷ 45 ∷ 62 ∷ 84 ∷ 58 ∷ []) 3 (0 ∷ 4 ∷ 0 ∷ 3 ∷ 4 ∷ [])
     -- `a\n` at 0
-    ∷ row (97 ∷ 10 ∷ []) 0 (13 ∷ 2 ∷ [])
+    ∷ row (97 ∷ 10 ∷ []) 0 (16 ∷ 2 ∷ [])
     ∷ []
 
 pub colons-hold : all (λ x. colonNumbers (colonTextAt (x .src) (x .at))) colons ≡ true

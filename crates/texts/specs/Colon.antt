@@ -44,7 +44,7 @@ colonText s from (NoSingle end) = NoColon end
 unfoldable pub colonTextAt : List ℕ → ℕ → ColonText
 colonTextAt s from = colonText s from (singleAt s from)
 
--- Places: the colon found is a colon of the source; 13 is at the source end if there is no single colon; the trimmed place lies behind `from`.
+-- Places: the colon found is a colon of the source; 16 is at the source end if there is no single colon; the trimmed place lies behind `from`.
 abbrev pub Singled : List ℕ → ℕ → Colon → Type 0
 Singled s from (Single to n) = (from + n ≤ to) × (to < length s) × (getD s to 0 ≡ 58)
 Singled s from (NoSingle end) = end ≡ length s
@@ -53,7 +53,7 @@ abbrev pub ColonTexts : List ℕ → ℕ → ColonText → Type 0
 ColonTexts s from (Upto to n p) = (from + n ≤ to) × (to < length s) × (getD s to 0 ≡ 58) × (from ≤ p .from) × (p .from ≤ p .to) × (p .to ≤ length s)
 ColonTexts s from (NoColon end) = end ≡ length s
 
--- document 01's number and values: 0, the colon, the line ends and the trimmed place; 13 ReachedEOL at the source end if there is no single colon
+-- document 01's number and values: 0, the colon, the line ends and the trimmed place; by document 02, request Four, 16 at the source end "where no single colon follows"
 unfoldable pub colonNumbers : ColonText → List ℕ
 colonNumbers (Upto to n p) = 0 ∷ to ∷ n ∷ p .from ∷ p .to ∷ []
-colonNumbers (NoColon end) = 13 ∷ end ∷ []
+colonNumbers (NoColon end) = 16 ∷ end ∷ []

@@ -42,7 +42,7 @@ stringAt s i =
       | false ↦ elim (isQuote (getD s i 0)) [ true ↦ stringFrom (getD s i 0) plain s (i + 1) | false ↦ NotOpened i ]
     ]
 
--- Places: a string with its quotes ends in the source; 14 is at a byte of it, where it was sought, or at the source's end.
+-- Places: a string with its quotes ends in the source; 14 is where it was sought, 17 and 18 at a byte of it, 19 at the source's end.
 abbrev pub Stringed : List ℕ → ℕ → Quote → Type 0
 Stringed s from (Closed to) = (from + 1 < to) × (to ≤ length s)
 Stringed s from (NotOpened i) = i ≡ from
@@ -50,10 +50,11 @@ Stringed s from (LineInside i) = (from < i) × (i < length s)
 Stringed s from (BadEscape i) = (from < i) × (i < length s)
 Stringed s from (NotClosed i) = i ≡ length s
 
--- document 01's number and values: 0 and the end; 14 InvalidString and its place
+-- document 01's number and values: 0 and the end; 14 InvalidString and its place, which document 02, request Four, keeps "for a missing opening quote"; 17 to
+-- 19 are the other ways that a string fails
 unfoldable pub stringNumbers : Quote → List ℕ
 stringNumbers (Closed to) = 0 ∷ to ∷ []
 stringNumbers (NotOpened i) = 14 ∷ i ∷ []
-stringNumbers (LineInside i) = 14 ∷ i ∷ []
-stringNumbers (BadEscape i) = 14 ∷ i ∷ []
-stringNumbers (NotClosed i) = 14 ∷ i ∷ []
+stringNumbers (LineInside i) = 17 ∷ i ∷ []
+stringNumbers (BadEscape i) = 18 ∷ i ∷ []
+stringNumbers (NotClosed i) = 19 ∷ i ∷ []
