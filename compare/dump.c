@@ -73,10 +73,32 @@ static void singles(void) {
     part("programs", o + 35);
 }
 
+/* In a table with a row for each test, in one that has just enough, and in one that is a row short; each full of rubbish. */
+static void faults(void) {
+    size_t cells = QUILTRUDDER_FAULT_WIDTH * QUILTRUDDER_TESTS(o);
+    uint32_t *t14 = malloc(4 * cells), *again = malloc(4 * cells), a[6], b[6];
+    for (size_t i = 0; i < cells; i++) t14[i] = again[i] = 0xdeadbeef;
+    quiltrudder_faults(src, len, o, TABLES, t14, cells, a);
+    if (a[0]) printf("faults refused %u\n", a[0]);
+    for (uint32_t i = 0; i < a[4]; i++) printf("fault %u %u %u\n", t14[3 * i], t14[3 * i + 1], t14[3 * i + 2]);
+    for (size_t i = 3 * (size_t)a[4]; i < cells; i++) if (t14[i]) printf("fault cell %zu is not zero\n", i);
+    quiltrudder_faults(src, len, o, TABLES, again, 3 * (size_t)a[4], b);
+    if (memcmp(a, b, sizeof a) || memcmp(t14, again, 12 * (size_t)a[4])) printf("faults differ with just enough room\n");
+    if (a[4]) {
+        quiltrudder_faults(src, len, o, TABLES, again, 3 * (size_t)a[4] - 1, b);
+        int wrong = b[0] != 42 || b[1] || b[2] || b[3] != 14 || b[4] || b[5];
+        for (size_t i = 0; i < 3 * (size_t)a[4] - 1; i++) wrong |= again[i] != 0;
+        if (wrong) printf("faults without room answer %u, table %u\n", b[0], b[3]);
+    }
+    free(t14);
+    free(again);
+}
+
 static void use(void) {
     uint32_t v[4], a[6], words = (o[10] + 31) / 32 + (o[4] + 31) / 32;
     quiltrudder_validate(src, len, o, TABLES, v);
     printf("validate %u %u %u\n", v[0], v[1], v[2]);
+    faults();
     if (v[0]) return;
     size_t rows = 2 * ((size_t)o[10] + o[4]);
     uint32_t *work = malloc(4 * (words + 1)), *out = malloc(4 * (rows + 1));

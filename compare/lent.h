@@ -5,6 +5,7 @@
 #include "../include/quiltrudder.h"
 #include <stdio.h>
 #include <stdlib.h>
+#include <string.h>
 
 static const unsigned width[11] = {0, QUILTRUDDER_T1_WIDTH, QUILTRUDDER_T2_WIDTH, QUILTRUDDER_T3_WIDTH, QUILTRUDDER_T4_WIDTH, QUILTRUDDER_T5_WIDTH,
     QUILTRUDDER_T6_WIDTH, QUILTRUDDER_T7_WIDTH, QUILTRUDDER_T8_WIDTH, QUILTRUDDER_T9_WIDTH, QUILTRUDDER_T10_WIDTH};

@@ -1,4 +1,5 @@
-/* embed KIND FILE: reads a specification, validates it, and prints the rules and tokens that nothing uses, or the answer that refuses it. */
+/* embed KIND FILE: reads a specification, validates it, and prints the rules and tokens that nothing uses; or the answer that refuses it, and every fault
+   of a file that does not validate. */
 #include <stdio.h>
 #include <stdlib.h>
 
@@ -17,6 +18,7 @@ static uint32_t t7[ROWS * QUILTRUDDER_T7_WIDTH];
 static uint32_t t8[ROWS * QUILTRUDDER_T8_WIDTH];
 static uint32_t t9[ROWS * QUILTRUDDER_T9_WIDTH];
 static uint32_t t10[ROWS * QUILTRUDDER_T10_WIDTH];
+static uint32_t t14[(1 + 4 * ROWS) * QUILTRUDDER_FAULT_WIDTH];
 static uint32_t work[2 * ROWS / 32];
 static uint32_t out[2 * ROWS * QUILTRUDDER_REPORT_WIDTH];
 
@@ -27,6 +29,19 @@ static uint32_t out[2 * ROWS * QUILTRUDDER_REPORT_WIDTH];
 static void print_answer(const uint32_t *answer)
 {
     printf("answer %u %u %u\n", (unsigned)answer[QUILTRUDDER_NUMBER], (unsigned)answer[QUILTRUDDER_FROM], (unsigned)answer[QUILTRUDDER_TO]);
+}
+
+/* A table of one row for the start and one for each row of tables 5, 6, 8 and 9 takes every fault. */
+static void print_faults(size_t length, const uint32_t *reading)
+{
+    uint32_t faults[QUILTRUDDER_FAULTS_CELLS];
+
+    quiltrudder_faults(src, length, reading, TABLES, WHOLE(t14), faults);
+    for (uint32_t i = 0; i < faults[QUILTRUDDER_COUNT_LOW]; i++) {
+        const uint32_t *row = t14 + i * QUILTRUDDER_FAULT_WIDTH;
+
+        printf("fault %u %u %u\n", (unsigned)row[0], (unsigned)row[1], (unsigned)row[2]);
+    }
 }
 
 int main(int count, char **args)
@@ -51,6 +66,7 @@ int main(int count, char **args)
     quiltrudder_validate(src, length, reading, TABLES, validity);
     if (validity[QUILTRUDDER_NUMBER] != 0) {
         print_answer(validity);
+        print_faults(length, reading);
         return 0;
     }
     quiltrudder_report(src, length, reading, TABLES, WHOLE(work), WHOLE(out), listing);

@@ -1,4 +1,5 @@
-//! embed KIND FILE: reads a specification, validates it, and prints the rules and tokens that nothing uses, or the answer that refuses it.
+//! embed KIND FILE: reads a specification, validates it, and prints the rules and tokens that nothing uses; or the answer that refuses it, and every fault of a
+//! file that does not validate.
 
 /// Quiltrudder for Rust. Every function of the library takes any bytes, numbers and lengths, so the wrapper tests nothing: it makes the slices, and
 /// the types see to it that what a function writes is lent to it alone.
@@ -30,6 +31,7 @@ mod quiltrudder {
         declare! {
             quiltrudder_read(kind: u32; *mut u32; answer: *mut [u32; 38]);
             quiltrudder_validate(reading: *const [u32; 38]; *const u32; answer: *mut [u32; 4]);
+            quiltrudder_faults(reading: *const [u32; 38]; *const u32; t14: *mut u32, t14_length: usize, answer: *mut [u32; 6]);
             quiltrudder_report(reading: *const [u32; 38]; *const u32; work: *mut u32, work_length: usize, out: *mut u32, out_length: usize, answer: *mut [u32; 6]);
             quiltrudder_name(reading: *const [u32; 38]; *const u32; table: u32, row: u32, answer: *mut [u32; 2]);
             quiltrudder_epp_value(reading: *const [u32; 38]; *const u32; row: u32, out: *mut u8, out_length: usize, answer: *mut [u32; 6]);
@@ -54,6 +56,14 @@ mod quiltrudder {
 
     fn count(cells: [u32; 6]) -> usize {
         (u64::from(cells[4]) + (u64::from(cells[5]) << 32)) as usize
+    }
+
+    /// A test of validation that fails: its number, and where to look.
+    #[derive(Clone, Copy, Debug, PartialEq)]
+    pub struct Fault {
+        pub number: u32,
+        pub from: u32,
+        pub to: u32,
     }
 
     /// What is unused: a row of table 7 or of table 1.
@@ -107,6 +117,19 @@ mod quiltrudder {
             let mut cells = [0; 4];
             call!(quiltrudder_validate, self.src, (&self.cells), &self.tables, as_ptr, (&mut cells));
             answer(&cells)
+        }
+
+        /// Every fault, in the order of the tests: one for the start, and one for each row of tables 5, 6, 8 and 9 at most.
+        pub fn faults(&self) -> Result<Vec<Fault>, Answer> {
+            let tests = 1 + [5, 6, 8, 9].map(|table| self.rows(table) as usize).iter().sum::<usize>();
+            let mut t14 = vec![0u32; tests * 3];
+            let mut cells = [0; 6];
+            call!(quiltrudder_faults, self.src, (&self.cells), &self.tables, as_ptr, (t14.as_mut_ptr(), t14.len(), &mut cells));
+            if cells[0] != 0 {
+                return Err(answer(&cells));
+            }
+            let fault = |row: &[u32]| Fault { number: row[0], from: row[1], to: row[2] };
+            Ok(t14.chunks(3).take(count(cells)).map(fault).collect())
         }
 
         /// The rules and tokens that nothing uses, in order.
@@ -166,7 +189,11 @@ fn print_report(src: &[u8], kind: u32) {
     }
     let validity = reading.validate();
     if validity.number != 0 {
-        return print_answer(validity);
+        print_answer(validity);
+        for fault in reading.faults().unwrap_or_default() {
+            println!("fault {} {} {}", fault.number, fault.from, fault.to);
+        }
+        return;
     }
     match reading.report() {
         Err(refused) => print_answer(refused),
@@ -218,6 +245,14 @@ mod tests {
         assert_eq!(reading.rows(5), 1);
         assert_eq!(reading.epp_value(0).unwrap(), b"x\"y");
         assert_eq!(reading.epp_value(1).unwrap_err().number, 44);
+    }
+
+    #[test]
+    fn faults_are_listed_in_the_order_of_the_tests() {
+        let src = b"%start q%%s:x %prec P;";
+        let numbers: Vec<u32> = read(src, 1, 8).faults().unwrap().iter().map(|fault| fault.number).collect();
+        assert_eq!(numbers, [31, 34, 32]);
+        assert!(read(b"%%s:;", 1, 8).faults().unwrap().is_empty());
     }
 
     #[test]

@@ -1,4 +1,4 @@
-/* Quiltrudder for C: reading a Yacc specification, validating what was read, the unused report, the name of a row and the value of an
+/* Quiltrudder for C: reading a Yacc specification, validating what was read, the list of all its faults, the unused report, the name of a row and the value of an
  * `%epp` row. Each function's contract is proved; the comments here say what the contracts say.
  *
  * A slice is a pointer and a length, the length counted in elements. A pointer is never null, also where the length is 0, and no memory that a
@@ -35,11 +35,13 @@ extern "C" {
 #define QUILTRUDDER_T8_WIDTH 13 /* productions: rule row; from, to; symbols from, to; %prec flag, from, to; action flag, text from, to, span from, to */
 #define QUILTRUDDER_T9_WIDTH 3 /* symbols: kind (1 rule, 2 token), from, to */
 #define QUILTRUDDER_T10_WIDTH 5 /* repeats: number; first from, to; repeated from, to */
+#define QUILTRUDDER_FAULT_WIDTH 3 /* faults, table 14: number, from, to */
 #define QUILTRUDDER_REPORT_WIDTH 2 /* report: kind (1 rule, 2 token), row */
 
 /* How many numbers each answer has. */
 #define QUILTRUDDER_READING_CELLS 38
 #define QUILTRUDDER_VALIDITY_CELLS 4
+#define QUILTRUDDER_FAULTS_CELLS 6
 #define QUILTRUDDER_LISTING_CELLS 6
 #define QUILTRUDDER_PLACE_CELLS 2
 #define QUILTRUDDER_VALUATION_CELLS 6
@@ -100,7 +102,7 @@ extern "C" {
 #define QUILTRUDDER_GENERICS 32 /* parse generics: flag, from, to */
 #define QUILTRUDDER_PROGRAMS 35 /* flag, from, to */
 
-/* In the answers of the report and of a value: the count, by its low and high 32 bits; 0 after a refusal. */
+/* In the answers of the faults, of the report and of a value: the count, by its low and high 32 bits; 0 after a refusal. */
 #define QUILTRUDDER_COUNT_LOW 4
 #define QUILTRUDDER_COUNT_HIGH 5
 
@@ -144,6 +146,30 @@ void quiltrudder_validate(
     const uint32_t *t9, size_t t9_length,
     const uint32_t *t10, size_t t10_length,
     uint32_t answer[QUILTRUDDER_VALIDITY_CELLS]);
+
+/* Every fault of a reading, into `t14`: rows of number, from and to, one for each test of validate that fails, in the order of the tests; the cells
+ * behind them are zero. The first row has validate's number, and there is none exactly where validate answers 0. A 33 or 34 of a %prec has the place
+ * of its name here, and a %prec has one of the two at most. A row for each test is always enough:
+ * 1 + the counts of tables 5, 6, 8 and 9 (QUILTRUDDER_TESTS).
+ *
+ * Number 0 with the count of rows; 44; 42 with table 14 where `t14` has too few rows. After a refusal `t14` is zero. */
+#define QUILTRUDDER_TESTS(reading) \
+    (1 + (size_t)(reading)[QUILTRUDDER_COUNTS + 4] + (reading)[QUILTRUDDER_COUNTS + 5] + (reading)[QUILTRUDDER_COUNTS + 7] + (reading)[QUILTRUDDER_COUNTS + 8])
+void quiltrudder_faults(
+    const uint8_t *src, size_t src_length,
+    const uint32_t reading[QUILTRUDDER_READING_CELLS],
+    const uint32_t *t1, size_t t1_length,
+    const uint32_t *t2, size_t t2_length,
+    const uint32_t *t3, size_t t3_length,
+    const uint32_t *t4, size_t t4_length,
+    const uint32_t *t5, size_t t5_length,
+    const uint32_t *t6, size_t t6_length,
+    const uint32_t *t7, size_t t7_length,
+    const uint32_t *t8, size_t t8_length,
+    const uint32_t *t9, size_t t9_length,
+    const uint32_t *t10, size_t t10_length,
+    uint32_t *t14, size_t t14_length,
+    uint32_t answer[QUILTRUDDER_FAULTS_CELLS]);
 
 /* The unused rules and tokens of a valid reading, into `out`: rows of kind and row number, rules first, each once, in ascending order; the cells
  * behind them are zero. A token is used where it is a symbol of a production of a rule that a chain of productions from the start rule reaches,

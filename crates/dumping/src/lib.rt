@@ -11,8 +11,8 @@ use usage::Listing;
 use values::Valuation;
 ghost use Rattle.io.specs.Counts.{Counts as Leading};
 
-// The rooms of this program: 21,900 rows of tables 1, 2, 3, 4 and 7, 8,192 of table 5, 32,768 of tables 6, 8, 9 and 10; work bits and a report for the rules and tokens; a
-// byte more than a source may have. No source of up to 65,536 bytes fills tables 1 to 7, 9 and 10. One of little else than `|` has more productions than table 8 has room
+// The rooms of this program: 21,900 rows of tables 1, 2, 3, 4 and 7, 8,192 of table 5, 32,768 of tables 6, 8, 9, 10 and 14; work bits and a report for the rules and
+// tokens; a byte more than a source may have. No source of up to 65,536 bytes fills tables 1 to 7, 9, 10 and 14. One of little else than `|` has more productions than table 8 has room
 // for, and is refused with 42.
 type Cells1 = [u32; 65700];
 
@@ -36,7 +36,7 @@ type Cells10 = [u32; 163840];
 
 type Words = [u32; 1370];
 
-type Report = [u32; 87600];
+type Report = [u32; 98304];
 
 type Bytes = [u8; 65536];
 
@@ -821,6 +821,50 @@ fn put_tables(
     put_repeats(o, r, src, c, t10)
 }
 
+// ---- The faults. ----
+
+fn put_fault(o: &mut [u8], at: usize, t14: &[u32], row: u32) -> usize {
+    let p = put_word(o, at, b"fault");
+    let q = put_cells(o, p, t14, tables::FAULT_WIDTH, row, tables::FAULT_WIDTH);
+    put(o, q, b'\n')
+}
+
+fn put_all_faults(o: &mut [u8], at: usize, t14: &[u32], n: usize) -> usize {
+    let mut p = at;
+    let mut row = 0u32;
+    while row < 4294967295 && (row as usize) < n {
+        p = put_fault(o, p, t14, row);
+        row += 1;
+    }
+    p
+}
+
+fn put_faults(
+    o: &mut [u8],
+    at: usize,
+    src: &[u8],
+    c: Counts,
+    g: Singles,
+    t1: &[u32],
+    t2: &[u32],
+    t3: &[u32],
+    t4: &[u32],
+    t5: &[u32],
+    t6: &[u32],
+    t7: &[u32],
+    t8: &[u32],
+    t9: &[u32],
+    t10: &[u32],
+    t14: &mut [u32],
+) -> usize {
+    let l = quiltrudder::faults(src, c, g, t1, t2, t3, t4, t5, t6, t7, t8, t9, t10, t14);
+    let told = numbers::of_fault_listing(l);
+    if told.number != 0 {
+        return put_answer(o, at, b"faults", told);
+    }
+    put_all_faults(o, at, t14, numbers::faulted(l))
+}
+
 // ---- The report. ----
 
 // Row `row` of the report, with the place of the rule's or token's name.
@@ -993,6 +1037,7 @@ fn put_valid(
     )
 }
 
+// The report's rows serve as table 14 before the report is made.
 fn put_validity(
     o: &mut [u8],
     at: usize,
@@ -1015,12 +1060,30 @@ fn put_validity(
     let v = quiltrudder::validate(src, c, g, t1, t2, t3, t4, t5, t6, t7, t8, t9, t10);
     let told = numbers::of_validity(v);
     let p = put_answer(o, at, b"validate", told);
+    let q = put_faults(
+        o,
+        p,
+        src,
+        c,
+        g,
+        t1,
+        t2,
+        t3,
+        t4,
+        t5,
+        t6,
+        t7,
+        t8,
+        t9,
+        t10,
+        out,
+    );
     if told.number != 0 {
-        return p;
+        return q;
     }
     put_valid(
         o,
-        p,
+        q,
         src,
         c,
         g,
@@ -1415,7 +1478,7 @@ pub fn dump_input() {
     let mut t9 = [0u32; 98304];
     let mut t10 = [0u32; 163840];
     let mut work = [0u32; 1370];
-    let mut out = [0u32; 87600];
+    let mut out = [0u32; 98304];
     let mut rows = [0u32; 10];
     let f = read_rooms(&mut b, &mut rows);
     let at = dump_all(

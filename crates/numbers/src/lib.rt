@@ -2,6 +2,7 @@
 use grammar::Told;
 use reader::Verdict;
 use usage::Listing;
+use validation::FaultListing;
 use validation::Flaw;
 use validation::Validity;
 use values::Valuation;
@@ -10,6 +11,7 @@ ghost use mathlib.Core.List.{List, [], _∷_, _++_};
 ghost use lib.ListN.{take, getD};
 ghost use Rattle.reader.specs.Read.{verdictNumbers};
 ghost use Rattle.validation.specs.Faults.{flawNumbers, validityNumbers};
+ghost use Rattle.validation.specs.Walk.{faultListingNumbers};
 ghost use Rattle.usage.specs.Report.{listingNumbers};
 ghost use Rattle.values.specs.Value.{valuationNumbers};
 ghost use Rattle.numbers.specs.Numbers.{toldNumbers};
@@ -139,6 +141,42 @@ pub fn listed(l: Listing) -> usize
         Listing::OfInvalid(_) => 0,
         Listing::NoWords => 0,
         Listing::NoRoom => 0,
+    }
+}
+
+pub fn of_fault_listing(l: FaultListing) -> Told
+    ensures { λ r. ⌜ toldNumbers r ≡ take 4 (faultListingNumbers l) ⌝ }
+{
+    match l {
+        FaultListing::Faulted(_) => Told {
+            number: 0,
+            from: 0,
+            to: 0,
+            table: 0,
+        },
+        FaultListing::FaultsUnsound => Told {
+            number: 44,
+            from: 0,
+            to: 0,
+            table: 0,
+        },
+        FaultListing::FaultsNoRoom => Told {
+            number: 42,
+            from: 0,
+            to: 0,
+            table: 14,
+        },
+    }
+}
+
+// How many faults there are; 0 after a refusal.
+pub fn faulted(l: FaultListing) -> usize
+    ensures { λ r. ⌜ r ≡ getD (faultListingNumbers l) 4 0 ⌝ }
+{
+    match l {
+        FaultListing::Faulted(n) => n,
+        FaultListing::FaultsUnsound => 0,
+        FaultListing::FaultsNoRoom => 0,
     }
 }
 

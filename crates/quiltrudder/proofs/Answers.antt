@@ -27,13 +27,15 @@ use Rattle.sound.specs.Test.{countAt, soundTest}
 use Rattle.sound.proofs.Iff.{sound-iff}
 use Rattle.validation.specs.declared.Validity.{Validity}
 use Rattle.validation.specs.Faults.{validityNumbers, validity}
+use Rattle.validation.specs.declared.FaultListing.{FaultListing}
+use Rattle.validation.specs.Walk.{AllFaults, faultListing, faultListingNumbers}
 use Rattle.usage.specs.declared.Listing.{Listing}
 use Rattle.usage.specs.Report.{listingNumbers, Reported}
 use Rattle.names.specs.Name.{nowhere, rowPlace, namePlace}
 use Rattle.values.specs.declared.Valuation.{Valuation}
 use Rattle.values.specs.Value.{valuationNumbers, Valued, eppValue}
 use Rattle.numbers.specs.Numbers.{toldNumbers}
-use Rattle.quiltrudder.specs.Face.{halves, readingNumbers, ReadFace, readFaceOf, readFace, countsOf, partOf, expectOf, paramOf, singlesOf, validateFace, ReportFace, nameAt, placeCells, nameFace, ValueFace, valuationCells, valueFaceOf, valueFace}
+use Rattle.quiltrudder.specs.Face.{halves, readingNumbers, ReadFace, readFaceOf, readFace, countsOf, partOf, expectOf, paramOf, singlesOf, validateFace, FaultsFace, faultListingCells, faultsFaceOf, faultsFace, ReportFace, nameAt, placeCells, nameFace, ValueFace, valuationCells, valueFaceOf, valueFace}
 
 -- a single by its flag
 module _ (f a b : ℕ) where
@@ -83,6 +85,13 @@ module _ (src m : List ℕ) (T : Tables) (c : Counts) (g : Singles) (hc : c ≡ 
   face-validity t v hv ht =
       let e : validity src c g T ≡ validity src (countsOf m) (singlesOf m) T = rw (hc, hg) in
       ht ∙ ap (λ (x : Validity). validityNumbers x ++ (0 ∷ [])) (hv ∙ e)
+
+  pub face-faults : (t₀ u a : List ℕ) (l : FaultListing) (t : Told) (n : ℕ) → _≡_ {A = AllFaults} (record { answer = l; cells = u }) (faultListing src c g T t₀) → toldNumbers t ≡ take 4 (faultListingNumbers l) → n ≡ getD (faultListingNumbers l) 4 0 → a ≡ toldNumbers t ++ halves n
+      → _≡_ {A = FaultsFace} (record { answer = a; cells = u }) (faultsFace src m T t₀)
+  face-faults t₀ u a l t n e ht hn ha =
+      let k : a ≡ faultListingCells l = counted t (take 4 (faultListingNumbers l)) n (getD (faultListingNumbers l) 4 0) a ht hn ha in
+      let f : _≡_ {A = AllFaults} (record { answer = l; cells = u }) (faultListing src (countsOf m) (singlesOf m) T t₀) = rw (hc, hg) at e in
+      rw k (ap faultsFaceOf f)
 
   pub face-report : (ws₀ ws out₀ out a : List ℕ) (l : Listing) (t : Told) (n : ℕ) → Reported src c g T l ws₀ ws out₀ out → toldNumbers t ≡ take 4 (listingNumbers l) → n ≡ getD (listingNumbers l) 4 0 → a ≡ toldNumbers t ++ halves n → ReportFace src m T ws₀ ws out₀ out a
   face-report ws₀ ws out₀ out a l t n p ht hn ha = record { listing = l; reported = rw (hc, hg) at p; numbers = counted t (take 4 (listingNumbers l)) n (getD (listingNumbers l) 4 0) a ht hn ha }

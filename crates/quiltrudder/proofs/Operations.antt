@@ -2,11 +2,12 @@
 use Prim.Native.Nat.{ℕ, _*_, _≤_, _<_}
 use mathlib.Core.Path.{_≡_, refl, sym, _∙_}
 use mathlib.Core.List.{List}
-use mathlib.Core.Bool.{true, false, false≢true}
+use mathlib.Core.Bool.{Bool, true, false, false≢true}
 use mathlib.Core.Logic.{_↔_, _⊎_, inl, inr, ⊎-elim}
 use native.Mathlib.Omega.{arith}
+use lib.Dec.{leb}
 use lib.ListN.{length, getD}
-use Rattle.tables.specs.Layout.{epps}
+use Rattle.tables.specs.Layout.{epps, faultWidth}
 use Rattle.grammar.specs.declared.Counts.{Counts}
 use Rattle.grammar.specs.declared.Singles.{Singles}
 use Rattle.grammar.specs.Sound.{Tables}
@@ -17,7 +18,10 @@ use Rattle.sound.specs.Test.{countAt, soundTest}
 use Rattle.sound.proofs.Iff.{sound-iff}
 use Rattle.validation.specs.declared.Validity.{Validity}
 use Rattle.validation.specs.declared.Validity.the-variants.{Valid, UnsoundTables, Invalid}
-use Rattle.validation.specs.Faults.{validity}
+use Rattle.validation.specs.declared.Flaw.{Flaw}
+use Rattle.validation.specs.declared.FaultListing.the-variants.{FaultsUnsound}
+use Rattle.validation.specs.Faults.{faults, validity}
+use Rattle.validation.specs.Walk.{allFaultsIf, faultListing}
 use Rattle.validation.proofs.Order.{validity-unsound}
 use Rattle.reach.specs.Reach.{Grammar, need}
 use Rattle.usage.specs.declared.Listing.{Listing}
@@ -42,6 +46,18 @@ module _ (src : List ℕ) (kind : ℕ) (T : Tables) (full : Full (readAll src ki
   -- so that validation never answers 44 on it,
   pub validate-not-44 : validity src (o .counts) (o .singles) (o .tables) ≡ UnsoundTables → ⊥
   validate-not-44 e = false≢true (sym (validity-unsound src (o .counts) (o .singles) (o .tables) .0 e) ∙ read-passes)
+
+  -- nor does the list of all faults,
+  pub faults-not-44 : (t : List ℕ) → faultListing src (o .counts) (o .singles) (o .tables) t .answer ≡ FaultsUnsound → ⊥
+  unfolding faultListing
+  faults-not-44 t e = go (leb (length all * faultWidth) (length t)) (rw (faultListing, read-passes) at e)
+    where
+      all : List Flaw
+      all = faults src (o .counts) (o .singles) (o .tables .t1) (o .tables .t2) (o .tables .t4) (o .tables .t5) (o .tables .t6) (o .tables .t7) (o .tables .t8) (o .tables .t9)
+
+      go : (b : Bool) → allFaultsIf b all t .answer ≡ FaultsUnsound → ⊥
+      go true e = let z : _≡_ {A = ℕ} 0 1 = cc in omega arith
+      go false e = let z : _≡_ {A = ℕ} 0 1 = cc in omega arith
 
   -- nor does the report,
   pub report-not-44 : (ws₀ ws out₀ out : List ℕ) → Reported src (o .counts) (o .singles) (o .tables) OfUnsound ws₀ ws out₀ out → ⊥
@@ -84,6 +100,6 @@ module _ (src : List ℕ) (kind : ℕ) (T : Tables) (full : Full (readAll src ki
     pub report-exactly : Roomy grammar ws₀ out₀ → Reported src (o .counts) (o .singles) (o .tables) l ws₀ ws out₀ out → Exactly grammar excuses l out
     report-exactly room p = let r = report-room src (o .counts) (o .singles) (o .tables) l ws₀ ws out₀ out v (room .words) (room .rows) p in given (room .words) p (r .0) (r .1)
 
--- "Any two outcomes allowed by it are proved equal": of a name. `one-reading`, `validity-first`, `reported-one` and `valued-one` say it of the other operations.
+-- "Any two outcomes allowed by it are proved equal": of a name. `one-reading`, `validity-first`, `faults-one`, `reported-one` and `valued-one` say it of the other operations.
 pub name-one : (src : List ℕ) (c : Counts) (g : Singles) (T : Tables) (table row : ℕ) (a b : List ℕ) → a ≡ nameOf src c g T table row → b ≡ nameOf src c g T table row → a ≡ b
 name-one src c g T table row a b p q = p ∙ sym q

@@ -25,6 +25,9 @@ use Rattle.validation.specs.declared.Flaw.{Flaw}
 use Rattle.validation.specs.declared.Flaw.the-variants.{NoStartRule, InvalidStartRule, UnknownRuleRef, UnknownTokenRef, UnknownPrecToken, NoPrecForToken, UnknownEppKey}
 use Rattle.validation.specs.declared.Validity.{Validity}
 use Rattle.validation.specs.declared.Validity.the-variants.{Valid, UnsoundTables, Invalid}
+use Rattle.validation.specs.declared.FaultListing.{FaultListing}
+use Rattle.validation.specs.declared.FaultListing.the-variants.{Faulted, FaultsUnsound, FaultsNoRoom}
+use Rattle.validation.specs.Walk.{faultListing}
 use Rattle.validation.specs.Faults.{flawNumber, flawNumbers, validityNumbers, validity}
 use Rattle.reach.specs.Reach.{Grammar, need}
 use Rattle.usage.specs.declared.Listing.{Listing}
@@ -36,9 +39,9 @@ use Rattle.values.specs.declared.Valuation.{Valuation}
 use Rattle.values.specs.declared.Valuation.the-variants.{Written, OfUnsoundTables, PastCount, NotString, NoTextRoom}
 use Rattle.values.specs.Value.{valuationNumbers, eppValue}
 use Rattle.quiltrudder.specs.Report.{grammarRead, excusesRead, Roomy, Exactly}
-use Rattle.quiltrudder.specs.Face.{singlesCells, countsCells, readingCells, readFace, FullNumber, countsOf, singlesOf, validateFace, listingCells, ReportFace, ExactlyFace, CrowdedFace, nameAt, placeCells, nameFace, ValueFace, valuationCells, valueFaceOf, valueFace}
+use Rattle.quiltrudder.specs.Face.{singlesCells, countsCells, readingCells, readFace, FullNumber, countsOf, singlesOf, validateFace, FaultsFace, faultListingCells, faultsFaceOf, faultsFace, listingCells, ReportFace, ExactlyFace, CrowdedFace, nameAt, placeCells, nameFace, ValueFace, valuationCells, valueFaceOf, valueFace}
 use Rattle.quiltrudder.proofs.Face.{singles-back, all-counts-back, name-part}
-use Rattle.quiltrudder.proofs.Operations.{validate-not-44, report-not-44, value-row-not-44, report-either, report-fits, report-exactly}
+use Rattle.quiltrudder.proofs.Operations.{validate-not-44, faults-not-44, report-not-44, value-row-not-44, report-either, report-fits, report-exactly}
 
 -- ---- which answer has which number
 
@@ -93,6 +96,11 @@ listing-44 (OfInvalid f) e = let q = flaw-number f in absurd (omega (arith, rw (
 listing-44 NoWords e = absurd (omega arith)
 listing-44 NoRoom e = absurd (omega arith)
 
+faults-44 : (l : FaultListing) → getD (faultListingCells l) 0 0 ≡ 44 → l ≡ FaultsUnsound
+faults-44 (Faulted n) e = absurd (omega arith)
+faults-44 FaultsUnsound e = refl
+faults-44 FaultsNoRoom e = absurd (omega arith)
+
 valuation-number : (v : Valuation) → getD (valuationCells v) 0 0 ≡ getD (valuationNumbers v) 0 0
 valuation-number (Written n) = refl
 valuation-number OfUnsoundTables = refl
@@ -124,6 +132,10 @@ module _ (src : List ℕ) (kind : ℕ) (T : Tables) where
   -- So they give what the operations give on the reading: the validation in numbers,
   pub same-validity : validateFace src m left ≡ validityNumbers (validity src (o .counts) (o .singles) (o .tables)) ++ (0 ∷ [])
   same-validity = forth (λ c g. validateFace src m left ≡ validityNumbers (validity src c g left) ++ (0 ∷ [])) refl
+
+  -- all faults with their answer in numbers,
+  pub same-faults : (t : List ℕ) → faultsFace src m left t ≡ faultsFaceOf (faultListing src (o .counts) (o .singles) (o .tables) t)
+  same-faults t = forth (λ c g. faultsFace src m left t ≡ faultsFaceOf (faultListing src c g left t)) refl
 
   -- the report with its answer in numbers,
   pub same-report : (ws₀ ws out₀ out a : List ℕ) → ReportFace src m left ws₀ ws out₀ out a ↔ ((l : Listing) × Reported src (o .counts) (o .singles) (o .tables) l ws₀ ws out₀ out × (a ≡ listingCells l))
@@ -162,6 +174,9 @@ module _ (src : List ℕ) (kind : ℕ) (T : Tables) where
   module _ (full : Full (o .answer)) where
     pub face-validate-not-44 : getD (validateFace src m left) 0 0 ≡ 44 → ⊥
     face-validate-not-44 e = validate-not-44 src kind T full (validity-44 _ (rw same-validity at e))
+
+    pub face-faults-not-44 : (t : List ℕ) → getD (faultsFace src m left t .answer) 0 0 ≡ 44 → ⊥
+    face-faults-not-44 t e = faults-not-44 src kind T full t (faults-44 _ (ap (λ (f : FaultsFace). getD (f .answer) 0 0) (sym (same-faults t)) ∙ e))
 
     pub face-report-not-44 : (ws₀ ws out₀ out a : List ℕ) → ReportFace src m left ws₀ ws out₀ out a → getD a 0 0 ≡ 44 → ⊥
     face-report-not-44 ws₀ ws out₀ out a r e =

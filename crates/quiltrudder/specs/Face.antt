@@ -21,6 +21,8 @@ use Rattle.reader.specs.declared.Verdict.{Verdict}
 use Rattle.reader.specs.Read.{Result, verdictNumbers, readAll}
 use Rattle.sound.specs.Test.{soundTest}
 use Rattle.validation.specs.Faults.{validityNumbers, validity}
+use Rattle.validation.specs.declared.FaultListing.{FaultListing}
+use Rattle.validation.specs.Walk.{AllFaults, faultListing, faultListingNumbers}
 use Rattle.reach.specs.Reach.{Grammar}
 use Rattle.usage.specs.declared.Listing.{Listing}
 use Rattle.usage.specs.Report.{listingNumbers, Excuses, Reported}
@@ -107,8 +109,25 @@ abbrev pub validateFace : List ℕ → List ℕ → Tables → List ℕ
 validateFace src m T = validityNumbers (validity src (countsOf m) (singlesOf m) T) ++ (0 ∷ [])
 
 -- number, place, table number and the count in halves: "Each also answers a count"
+abbrev pub countedCells : List ℕ → List ℕ
+countedCells l = take 4 l ++ halves (getD l 4 0)
+
+-- all faults: that, and table 14
+pub record FaultsFace : Type 0 where
+  pub answer : List ℕ
+  pub cells : List ℕ
+
+abbrev pub faultListingCells : FaultListing → List ℕ
+faultListingCells l = countedCells (faultListingNumbers l)
+
+abbrev pub faultsFaceOf : AllFaults → FaultsFace
+faultsFaceOf o = record { answer = faultListingCells (o .answer); cells = o .cells }
+
+abbrev pub faultsFace : List ℕ → List ℕ → Tables → List ℕ → FaultsFace
+faultsFace src m T t = faultsFaceOf (faultListing src (countsOf m) (singlesOf m) T t)
+
 abbrev pub listingCells : Listing → List ℕ
-listingCells l = take 4 (listingNumbers l) ++ halves (getD (listingNumbers l) 4 0)
+listingCells l = countedCells (listingNumbers l)
 
 -- the report, with its answer in numbers
 pub record ReportFace (src m : List ℕ) (T : Tables) (ws₀ ws out₀ out answer : List ℕ) : Type 0 where
@@ -143,7 +162,7 @@ pub record ValueFace : Type 0 where
   pub out : List ℕ
 
 abbrev pub valuationCells : Valuation → List ℕ
-valuationCells v = take 4 (valuationNumbers v) ++ halves (getD (valuationNumbers v) 4 0)
+valuationCells v = countedCells (valuationNumbers v)
 
 abbrev pub valueFaceOf : Valued → ValueFace
 valueFaceOf o = record { answer = valuationCells (o .answer); out = o .out }

@@ -1,5 +1,5 @@
-// Quiltrudder's operations: reading a Yacc specification, validating what was read, the unused report, the name of a row and the value of an `%epp` row. None of
-// them requires anything.
+// Quiltrudder's operations: reading a Yacc specification, validating what was read, the list of all its faults, the unused report, the name of a row and the value
+// of an `%epp` row. None of them requires anything.
 use grammar::Counts;
 use grammar::Expect;
 use grammar::Param;
@@ -9,6 +9,7 @@ use grammar::Told;
 use reader::Reading;
 use reader::Verdict;
 use usage::Listing;
+use validation::FaultListing;
 use validation::Validity;
 use values::Valuation;
 ghost use mathlib.Core.Path.{_≡_};
@@ -18,11 +19,12 @@ ghost use Rattle.grammar.specs.Numbers.{paramNumbers};
 ghost use Rattle.grammar.specs.Sound.{Tables};
 ghost use Rattle.reader.specs.Read.{Result, readAll};
 ghost use Rattle.validation.specs.Faults.{validity};
+ghost use Rattle.validation.specs.Walk.{AllFaults, faultListing};
 ghost use Rattle.usage.specs.Report.{Reported};
 ghost use Rattle.names.specs.Name.{nameOf};
 ghost use Rattle.values.specs.Value.{Valued, eppValue};
 ghost use Rattle.numbers.specs.Numbers.{toldNumbers};
-ghost use Rattle.quiltrudder.specs.Face.{halves, expectCells, singlesCells, readingCells, ReadFace, readFace, countsOf, partOf, expectOf, paramOf, singlesOf, validateFace, ReportFace, nameAt, placeCells, nameFace, ValueFace, valueFace};
+ghost use Rattle.quiltrudder.specs.Face.{halves, expectCells, singlesCells, readingCells, ReadFace, readFace, countsOf, partOf, expectOf, paramOf, singlesOf, validateFace, FaultsFace, faultsFace, ReportFace, nameAt, placeCells, nameFace, ValueFace, valueFace};
 
 // Reads a source of kind 1, 2 or 3 into the lent tables.
 pub fn read(
@@ -63,6 +65,28 @@ pub fn validate(
     ensures { λ r. ⌜ r ≡ validity (now (src .entry)) c g (record { t1 = now (t1 .entry); t2 = now (t2 .entry); t3 = now (t3 .entry); t4 = now (t4 .entry); t5 = now (t5 .entry); t6 = now (t6 .entry); t7 = now (t7 .entry); t8 = now (t8 .entry); t9 = now (t9 .entry); t10 = now (t10 .entry) }) ⌝ }
 {
     validation::validate(src, c, g, t1, t2, t3, t4, t5, t6, t7, t8, t9, t10)
+}
+
+// Every fault that a reading has, as rows (number, from, to) of `t14`, in the order of the tests.
+pub fn faults(
+    src: &[u8],
+    c: Counts,
+    g: Singles,
+    t1: &[u32],
+    t2: &[u32],
+    t3: &[u32],
+    t4: &[u32],
+    t5: &[u32],
+    t6: &[u32],
+    t7: &[u32],
+    t8: &[u32],
+    t9: &[u32],
+    t10: &[u32],
+    t14: &mut [u32],
+) -> FaultListing
+    ensures { λ r. ⌜ _≡_ {A = AllFaults} (record { answer = r; cells = now (t14 .exit) }) (faultListing (now (src .entry)) c g (record { t1 = now (t1 .entry); t2 = now (t2 .entry); t3 = now (t3 .entry); t4 = now (t4 .entry); t5 = now (t5 .entry); t6 = now (t6 .entry); t7 = now (t7 .entry); t8 = now (t8 .entry); t9 = now (t9 .entry); t10 = now (t10 .entry) }) (now (t14 .entry))) ⌝ }
+{
+    validation::faults(src, c, g, t1, t2, t3, t4, t5, t6, t7, t8, t9, t10, t14)
 }
 
 // The unused rules and tokens of a valid reading, into `out`; `work` holds a bit for each row that is used.
@@ -395,6 +419,32 @@ pub extern "C" fn quiltrudder_validate(
     let g = singles_of(reading);
     let t = numbers::of_validity(validate(src, c, g, t1, t2, t3, t4, t5, t6, t7, t8, t9, t10));
     *answer = [t.number, t.from, t.to, t.table];
+}
+
+// Every fault that a reading has, as rows of `t14`.
+#[no_mangle]
+pub extern "C" fn quiltrudder_faults(
+    src: &[u8],
+    reading: &[u32; 38],
+    t1: &[u32],
+    t2: &[u32],
+    t3: &[u32],
+    t4: &[u32],
+    t5: &[u32],
+    t6: &[u32],
+    t7: &[u32],
+    t8: &[u32],
+    t9: &[u32],
+    t10: &[u32],
+    t14: &mut [u32],
+    answer: &mut [u32; 6],
+)
+    ensures { λ r. ⌜ _≡_ {A = FaultsFace} (record { answer = now (answer .exit); cells = now (t14 .exit) }) (faultsFace (now (src .entry)) (now (reading .entry)) (record { t1 = now (t1 .entry); t2 = now (t2 .entry); t3 = now (t3 .entry); t4 = now (t4 .entry); t5 = now (t5 .entry); t6 = now (t6 .entry); t7 = now (t7 .entry); t8 = now (t8 .entry); t9 = now (t9 .entry); t10 = now (t10 .entry) }) (now (t14 .entry))) ⌝ }
+{
+    let c = counts_of(reading);
+    let g = singles_of(reading);
+    let l = faults(src, c, g, t1, t2, t3, t4, t5, t6, t7, t8, t9, t10, t14);
+    *answer = counted_cells(numbers::of_fault_listing(l), numbers::faulted(l));
 }
 
 // The unused rules and tokens of a valid reading, into `out`.

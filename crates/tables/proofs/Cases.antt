@@ -80,19 +80,22 @@ same-part-sym src a b c d = both (samePart src a b c d) (samePart src c d a b) (
     both false true f g = g refl
     both false false f g = refl
 
--- the rows from row i on, none before it passing the test
-first-cases {κ} : (p : ℕ → Bool) (C : Found → Type κ) (n i : ℕ) → ((q : ℕ) → q < i → p q ≡ false)
-    → ((r : ℕ) → r < i + n → p r ≡ true → ((q : ℕ) → q < r → p q ≡ false) → C (RowAt r))
-    → (((r : ℕ) → r < i + n → p r ≡ false) → C NoRow)
+-- the rows from row i on, none from row a up to it passing the test
+abbrev NoneOf : (ℕ → Bool) → ℕ → ℕ → Type 0
+NoneOf p a b = (q : ℕ) → a ≤ q → q < b → p q ≡ false
+
+pub first-cases {κ} : (p : ℕ → Bool) (C : Found → Type κ) (a n i : ℕ) → a ≤ i → NoneOf p a i
+    → ((r : ℕ) → a ≤ r → r < i + n → p r ≡ true → NoneOf p a r → C (RowAt r))
+    → (NoneOf p a (i + n) → C NoRow)
     → C (firstRow p n i)
 unfolding firstRow
-first-cases p C zero i before f g = g (λ r h. before r (omega arith))
-first-cases p C (suc n) i before f g = go (p i) refl (first-cases p C n (i + 1))
+first-cases p C a zero i l before f g = g (λ r h k. before r h (omega arith))
+first-cases p C a (suc n) i l before f g = go (p i) refl (first-cases p C a n (i + 1) (omega arith))
   where
-    go : (b : Bool) → p i ≡ b → (((q : ℕ) → q < i + 1 → p q ≡ false) → ((r : ℕ) → r < i + 1 + n → p r ≡ true → ((q : ℕ) → q < r → p q ≡ false) → C (RowAt r)) → (((r : ℕ) → r < i + 1 + n → p r ≡ false) → C NoRow) → C (firstRow p n (i + 1))) → C (elim b [ true ↦ RowAt i | false ↦ firstRow p n (i + 1) ])
-    go true e rest = f i (omega arith) e before
+    go : (b : Bool) → p i ≡ b → (NoneOf p a (i + 1) → ((r : ℕ) → a ≤ r → r < i + 1 + n → p r ≡ true → NoneOf p a r → C (RowAt r)) → (NoneOf p a (i + 1 + n) → C NoRow) → C (firstRow p n (i + 1))) → C (elim b [ true ↦ RowAt i | false ↦ firstRow p n (i + 1) ])
+    go true e rest = f i l (omega arith) e before
     go false e rest =
-        rest (λ q h. elim (ℕ-discrete q i) [ yes k ↦ rw k e | no k ↦ before q (omega arith) ]) (λ r h. f r (omega arith)) (λ k. g (λ r h. k r (omega arith)))
+        rest (λ q h j. elim (ℕ-discrete q i) [ yes k ↦ rw k e | no k ↦ before q h (omega arith) ]) (λ r h j. f r h (omega arith)) (λ k. g (λ r h j. k r h (omega arith)))
 
 -- a name is found in its first row, or no row has it
 pub find-cases {κ} : (C : Found → Type κ) (src : List ℕ) (w k n : ℕ) (t : List ℕ) (a b : ℕ)
@@ -101,7 +104,7 @@ pub find-cases {κ} : (C : Found → Type κ) (src : List ℕ) (w k n : ℕ) (t 
     → C (findName src w k n t a b)
 unfolding findName
 find-cases C src w k n t a b f g =
-    first-cases (hasName src w k t a b) C n 0 (λ q h. absurd (omega arith)) (λ r h. f r (omega arith)) (λ k. g (λ r h. k r (omega arith)))
+    first-cases (hasName src w k t a b) C 0 n 0 (omega arith) (λ q l h. absurd (omega arith)) (λ r l h e x. f r (omega arith) e (λ q. x q (omega arith))) (λ x. g (λ r h. x r (omega arith) (omega arith)))
 
 module _ (src : List ℕ) (w k n : ℕ) (t : List ℕ) (a b : ℕ) where
   pub find-iff : (r : ℕ) → (findName src w k n t a b ≡ RowAt r) ↔ First src w k n t a b r

@@ -6,7 +6,7 @@ use mathlib.Core.List.{List, [], _∷_, _++_}
 use native.Mathlib.Omega.{arith}
 use native.Mathlib.Numerals.{add-one}
 use native.Mathlib.Decide.{decLt, ℕ-discrete}
-use native.Mathlib.Nat.{suc-mul, mul-le-mul-right, zero-mul, sub-zero}
+use native.Mathlib.Nat.{suc-mul, mul-le-mul-right, zero-mul, sub-zero, add-zero}
 use lib.ListN.{length, getD, set, take, drop, replicate, length-append, length-drop, length-set, length-replicate, List·getD-append}
 use lib.Seq.{sets, sets-eq, take-at, drop-at, drop-drop, getD-at, getD-append-add, getD-take, getD-drop, length-take-le, ext-getD, drop-set-add, drop-set-lt, take-set-lt, take-set-le}
 use Rattle.tables.specs.Table.{put, cell, zeroed}
@@ -21,10 +21,26 @@ put-sets (v ∷ vs) t at = put-sets vs (set t at v) (at + 1) ∙ ap (λ (i : ℕ
 pub put-eq : (vs t : List ℕ) (at : ℕ) → at + length vs ≤ length t → put t at vs ≡ take at t ++ vs ++ drop (at + length vs) t
 put-eq vs t at h = put-sets vs t at ∙ sets-eq vs t at h
 
-drop-replicate : (k m : ℕ) → drop {A = ℕ} k (replicate m 0) ≡ replicate (m - k) 0
-drop-replicate zero m = rw (sub-zero m)
-drop-replicate (suc k) zero = let e : zero - suc k ≡ zero = omega arith in rw e
-drop-replicate (suc k) (suc m) = let e : suc m - suc k ≡ m - k = omega arith in rw e (drop-replicate k m)
+pub drop-zeros : (k m : ℕ) → drop {A = ℕ} k (replicate m 0) ≡ replicate (m - k) 0
+drop-zeros zero m = rw (sub-zero m)
+drop-zeros (suc k) zero = let e : zero - suc k ≡ zero = omega arith in rw e
+drop-zeros (suc k) (suc m) = let e : suc m - suc k ≡ m - k = omega arith in rw e (drop-zeros k m)
+
+-- cells stored over zeros: those cells, and zeros behind them
+pub put-zeros : (vs : List ℕ) (n : ℕ) → length vs ≤ n → put (replicate n 0) 0 vs ≡ vs ++ replicate (n - length vs) 0
+put-zeros vs n h =
+    let e : 0 + length vs ≡ length vs = omega arith in
+    put-eq vs (replicate n 0) 0 (rw (length-replicate {A = ℕ} n 0, e) h) ∙ rw (e, drop-zeros)
+
+-- two runs of cells stored one behind the other
+pub sets-append : (l vs us : List ℕ) (i : ℕ) → sets l i (vs ++ us) ≡ sets (sets l i vs) (i + length vs) us
+sets-append l [] us i = rw (add-zero i)
+sets-append l (v ∷ vs) us i =
+    let e : suc i + length vs ≡ i + suc (length vs) = omega arith in
+    sets-append (set l i v) vs us (suc i) ∙ rw e
+
+pub put-append : (vs us t : List ℕ) (at : ℕ) → put t at (vs ++ us) ≡ put (put t at vs) (at + length vs) us
+put-append vs us t at = rw (put-sets (vs ++ us) t at, put-sets vs t at, put-sets us (sets t at vs) (at + length vs)) (sets-append t vs us at)
 
 -- a row below the count ends below the count's cells
 pub row-below : (w r n : ℕ) → r < n → r * w + w ≤ n * w
@@ -73,7 +89,7 @@ module _ (w n : ℕ) (row t : List ℕ) (wide : length row ≡ w) (fits : n * w 
   pub clean-add : Clean w n t → Clean w (suc n) (put t (n * w) row)
   clean-add c =
       let e : length t - n * w - w ≡ length t - suc n * w = rw (suc-mul n w) (omega arith) in
-      record { zeros = behind ∙ rw (c .zeros, drop-replicate, e, put-length) }
+      record { zeros = behind ∙ rw (c .zeros, drop-zeros, e, put-length) }
 
   -- a cell of the new row, and one of an earlier row
   pub cell-new : (k : ℕ) → k < w → cell w (put t (n * w) row) n k ≡ getD row k 0

@@ -95,3 +95,7 @@ rowPlace k = getD (0 ∷ 0 ∷ 0 ∷ 0 ∷ 0 ∷ kindName ∷ 0 ∷ place ∷ ki
 -- the widths in number order; no table is nowhere wide
 abbrev pub width : ℕ → ℕ
 width k = getD (3 ∷ 4 ∷ 2 ∷ 2 ∷ 6 ∷ 3 ∷ 5 ∷ 13 ∷ 3 ∷ 5 ∷ []) k 1
+
+-- Document 02, request One, "table 14": number and place of a fault
+abbrev pub faultWidth : ℕ
+faultWidth = 3

@@ -46,6 +46,9 @@ pub const SYMBOL_WIDTH: u32 = 3;
 
 pub const REPEAT_WIDTH: u32 = 5;
 
+// Table 14, the faults of a reading: number, from, to.
+pub const FAULT_WIDTH: u32 = 3;
+
 // Where a row's name begins: in most tables with the first cell; behind the key as spelled in table 5; behind the kind in tables 6 and 9.
 pub const NAME: u8 = 0;
 

@@ -10,6 +10,7 @@ use native.Mathlib.Nat.{add-zero, sub-zero, zero-sub, suc-sub-suc}
 use native.Mathlib.Decide.{ℕ-discrete, decLt}
 use lib.ListN.{length, set, length-append, drop, replicate, length-replicate, getD, List·getD-append}
 use lib.Seq.{sets, length-sets, sets-eq, getD-append-seam}
+use Rattle.tables.proofs.Rows.{drop-zeros, sets-append}
 use Rattle.usage.specs.Report.{Picks, none, take, skip, Counted, rowsOf, Says, Wrote, Room, Written}
 
 module _ {P : ℕ → Type 0} where
@@ -86,12 +87,6 @@ pub rows-append : (kd : ℕ) (l m : List ℕ) → rowsOf kd (l ++ m) ≡ rowsOf 
 rows-append kd [] m = refl
 rows-append kd (r ∷ l) m = rw (rows-append kd l m)
 
-pub sets-append : (l vs us : List ℕ) (i : ℕ) → sets l i (vs ++ us) ≡ sets (sets l i vs) (i + length vs) us
-sets-append l [] us i = rw (add-zero i)
-sets-append l (v ∷ vs) us i =
-    let e : suc i + length vs ≡ i + suc (length vs) = omega arith in
-    sets-append (set l i v) vs us (suc i) ∙ rw e
-
 -- ---- listing
 
 -- one row more
@@ -139,11 +134,6 @@ written-size {P} {kd} {n} {at} {next} {out₀} x = ap length (x .cells) ∙ leng
 
 -- ---- both lists
 
-drop-zeros : (n k : ℕ) → drop {A = ℕ} k (replicate n 0) ≡ replicate (n - k) 0
-drop-zeros n zero = rw (sub-zero n)
-drop-zeros zero (suc k) = rw (zero-sub (suc k))
-drop-zeros (suc n) (suc k) = rw (suc-sub-suc n k) (drop-zeros n k)
-
 pub both-cells : (n : ℕ) (lr lt out1 out2 : List ℕ) (at : ℕ) → at ≡ length lr → (length lr + length lt) * 2 ≤ n
     → out1 ≡ sets (replicate n 0) 0 (rowsOf 1 lr) → out2 ≡ sets out1 (at * 2) (rowsOf 2 lt)
     → out2 ≡ (rowsOf 1 lr ++ rowsOf 2 lt) ++ replicate (n - (length lr + length lt) * 2) 0
@@ -152,7 +142,7 @@ both-cells n lr lt out1 out2 at a h e f =
     let l : 0 + length (rowsOf 1 lr ++ rowsOf 2 lt) ≡ (length lr + length lt) * 2 = omega (arith, length-append (rowsOf 1 lr) (rowsOf 2 lt), rows-length 1 lr, rows-length 2 lt) in
     f ∙ rw (e, s) (sym (sets-append (replicate n 0) (rowsOf 1 lr) (rowsOf 2 lt) 0))
     ∙ sets-eq (rowsOf 1 lr ++ rowsOf 2 lt) (replicate n 0) 0 (omega (arith, length-replicate {A = ℕ} n 0))
-    ∙ rw (l, drop-zeros n ((length lr + length lt) * 2))
+    ∙ rw (l, drop-zeros ((length lr + length lt) * 2) n)
 
 -- ---- what a picked list is, said by members and by order
 

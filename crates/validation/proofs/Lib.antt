@@ -1,2 +1,4 @@
 pub mod Laws
+pub mod Noted
 pub mod Order
+pub mod Theorems

@@ -42,6 +42,20 @@ flawNumbers (UnknownPrecToken a b) = 33 ∷ 0 ∷ 0 ∷ []
 flawNumbers (NoPrecForToken a b) = 34 ∷ 0 ∷ 0 ∷ []
 flawNumbers (UnknownEppKey a b) = 35 ∷ a ∷ b ∷ []
 
+-- the place in the list of all faults: the name's, also where document 02, request One, says of a 33 or 34 from `%prec` "the place of the `%prec` name here"
+abbrev pub faultPlace : Flaw → List ℕ
+faultPlace NoStartRule = 0 ∷ 0 ∷ []
+faultPlace (InvalidStartRule a b) = a ∷ b ∷ []
+faultPlace (UnknownRuleRef a b) = a ∷ b ∷ []
+faultPlace (UnknownTokenRef a b) = a ∷ b ∷ []
+faultPlace (UnknownPrecToken a b) = a ∷ b ∷ []
+faultPlace (NoPrecForToken a b) = a ∷ b ∷ []
+faultPlace (UnknownEppKey a b) = a ∷ b ∷ []
+
+-- a fault as a row of that list: number and place
+abbrev pub faultCells : Flaw → List ℕ
+faultCells f = flawNumber f ∷ faultPlace f
+
 abbrev pub validityNumbers : Validity → List ℕ
 validityNumbers Valid = 0 ∷ 0 ∷ 0 ∷ []
 validityNumbers UnsoundTables = 44 ∷ 0 ∷ 0 ∷ []
@@ -51,11 +65,6 @@ validityNumbers (Invalid f) = flawNumbers f
 abbrev pub first : List Flaw → Validity
 first [] = Valid
 first (f ∷ fs) = Invalid f
-
-abbrev pub orElse : Validity → Validity → Validity
-orElse Valid w = w
-orElse UnsoundTables w = UnsoundTables
-orElse (Invalid f) w = Invalid f
 
 -- what a function gives for each number below n, one behind the other
 unfoldable pub upto : ℕ → (ℕ → List Flaw) → List Flaw

@@ -1,12 +1,16 @@
-// Validation: the tests of document 01 in their order, and the first that fails.
+// Validation: the tests of document 01 in their order, and the first that fails, or all that fail. One walk serves both.
 use grammar::Counts;
 use grammar::Part;
 use grammar::Singles;
 use productions::Prec;
 use tables::Found;
 ghost use mathlib.Core.Path.{_≡_};
+ghost use mathlib.Core.List.{_++_};
+ghost use Rattle.tables.specs.Layout.{tokens, precedences, implicit, epps, unused, rules, productions};
+ghost use Rattle.sound.specs.Test.{countAt};
 ghost use Rattle.grammar.specs.Sound.{Tables};
-ghost use Rattle.validation.specs.Faults.{known, first, orElse, startFaults, precFaults, nameFaults, kindFaults, kindsFaults, productionFaults, ruleFaults, rulesFaults, eppFaults, eppsFaults, faults, validity};
+ghost use Rattle.validation.specs.Faults.{faultCells, known, first, startFaults, precFaults, nameFaults, kindFaults, kindsFaults, productionFaults, ruleFaults, rulesFaults, eppFaults, eppsFaults, faults, validity};
+ghost use Rattle.validation.specs.Walk.{failing, Walked, noted, nextOfRule, AllFaults, faultListing};
 
 // What a reading lacks, by the place of the name.
 pub enum Flaw {
@@ -27,6 +31,28 @@ pub enum Validity {
     Invalid(Flaw),
 }
 
+// What one test comes to.
+pub enum Test {
+    Met,
+    Failed(Flaw),
+}
+
+// How far a walk over the tests came.
+pub enum Walk {
+    // The row of table 14 behind the last that was written.
+    NextRow(usize),
+    // The first fault that has no row.
+    Unwritten(Flaw),
+}
+
+pub enum FaultListing {
+    // How many faults there are.
+    Faulted(usize),
+    FaultsUnsound,
+    // Table 14 is too small.
+    FaultsNoRoom,
+}
+
 // Whether one of the `n` rows has the name, which stands in their first cells.
 pub fn is_known(src: &[u8], t: &[u32], w: u32, n: u32, a: u32, b: u32) -> bool
     ensures { λ r. ⌜ r ≡ known (now (src .entry)) (now (t .entry)) w n a b ⌝ }
@@ -37,16 +63,16 @@ pub fn is_known(src: &[u8], t: &[u32], w: u32, n: u32, a: u32, b: u32) -> bool
     }
 }
 
-pub fn start_fault(src: &[u8], start: Part, t7: &[u32], rules: u32) -> Validity
-    ensures { λ r. ⌜ r ≡ first (startFaults (now (src .entry)) start (now (t7 .entry)) rules) ⌝ }
+pub fn start_fault(src: &[u8], start: Part, t7: &[u32], rules: u32) -> Test
+    ensures { λ r. ⌜ failing r ≡ startFaults (now (src .entry)) start (now (t7 .entry)) rules ⌝ }
 {
     match start {
-        Part::Absent => Validity::Invalid(Flaw::NoStartRule),
+        Part::Absent => Test::Failed(Flaw::NoStartRule),
         Part::At(a, b) => {
             if is_known(src, t7, tables::RULE_WIDTH, rules, a, b) {
-                Validity::Valid
+                Test::Met
             } else {
-                Validity::Invalid(Flaw::InvalidStartRule(a, b))
+                Test::Failed(Flaw::InvalidStartRule(a, b))
             }
         }
     }
@@ -60,19 +86,19 @@ pub fn prec_fault(
     tokens: u32,
     t2: &[u32],
     precedences: u32,
-) -> Validity
-    ensures { λ r. ⌜ r ≡ first (precFaults (now (src .entry)) p (now (t1 .entry)) tokens (now (t2 .entry)) precedences) ⌝ }
+) -> Test
+    ensures { λ r. ⌜ failing r ≡ precFaults (now (src .entry)) p (now (t1 .entry)) tokens (now (t2 .entry)) precedences ⌝ }
 {
     match p {
-        Prec::NoPrec => Validity::Valid,
+        Prec::NoPrec => Test::Met,
         Prec::PrecAt(a, b) => {
             if !is_known(src, t1, tables::TOKEN_WIDTH, tokens, a, b) {
-                return Validity::Invalid(Flaw::UnknownPrecToken(a, b));
+                return Test::Failed(Flaw::UnknownPrecToken(a, b));
             }
             if is_known(src, t2, tables::PRECEDENCE_WIDTH, precedences, a, b) {
-                Validity::Valid
+                Test::Met
             } else {
-                Validity::Invalid(Flaw::NoPrecForToken(a, b))
+                Test::Failed(Flaw::NoPrecForToken(a, b))
             }
         }
     }
@@ -88,19 +114,19 @@ pub fn name_fault(
     tokens: u32,
     t7: &[u32],
     rules: u32,
-) -> Validity
-    ensures { λ r. ⌜ r ≡ first (nameFaults (now (src .entry)) kind a b (now (t1 .entry)) tokens (now (t7 .entry)) rules) ⌝ }
+) -> Test
+    ensures { λ r. ⌜ failing r ≡ nameFaults (now (src .entry)) kind a b (now (t1 .entry)) tokens (now (t7 .entry)) rules ⌝ }
 {
     if kind == 1 {
         if is_known(src, t7, tables::RULE_WIDTH, rules, a, b) {
-            return Validity::Valid;
+            return Test::Met;
         }
-        return Validity::Invalid(Flaw::UnknownRuleRef(a, b));
+        return Test::Failed(Flaw::UnknownRuleRef(a, b));
     }
     if is_known(src, t1, tables::TOKEN_WIDTH, tokens, a, b) {
-        return Validity::Valid;
+        return Test::Met;
     }
-    Validity::Invalid(Flaw::UnknownTokenRef(a, b))
+    Test::Failed(Flaw::UnknownTokenRef(a, b))
 }
 
 // Row `r` of table 6 or 9.
@@ -112,8 +138,8 @@ pub fn kind_fault(
     tokens: u32,
     t7: &[u32],
     rules: u32,
-) -> Validity
-    ensures { λ q. ⌜ q ≡ first (kindFaults (now (src .entry)) (now (t .entry)) (now (t1 .entry)) tokens (now (t7 .entry)) rules r) ⌝ }
+) -> Test
+    ensures { λ q. ⌜ failing q ≡ kindFaults (now (src .entry)) (now (t .entry)) (now (t1 .entry)) tokens (now (t7 .entry)) rules r ⌝ }
 {
     let w = tables::SYMBOL_WIDTH;
     name_fault(
@@ -128,8 +154,68 @@ pub fn kind_fault(
     )
 }
 
+// The key of row `r` of table 5 is a token, or an implicit one.
+pub fn epp_fault(
+    src: &[u8],
+    t1: &[u32],
+    tokens: u32,
+    t4: &[u32],
+    implicit: u32,
+    t5: &[u32],
+    r: u32,
+) -> Test
+    ensures { λ q. ⌜ failing q ≡ eppFaults (now (src .entry)) (now (t1 .entry)) tokens (now (t4 .entry)) implicit (now (t5 .entry)) r ⌝ }
+{
+    let w = tables::EPP_WIDTH;
+    let a = tables::cell(t5, w, r, 2);
+    let b = tables::cell(t5, w, r, 3);
+    if is_known(src, t1, tables::TOKEN_WIDTH, tokens, a, b) {
+        return Test::Met;
+    }
+    if is_known(src, t4, tables::NAME_WIDTH, implicit, a, b) {
+        return Test::Met;
+    }
+    Test::Failed(Flaw::UnknownEppKey(tables::cell(t5, w, r, 0), tables::cell(t5, w, r, 1)))
+}
+
+// A fault as its row of table 14.
+pub fn fault_row(f: Flaw) -> [u32; 3]
+    ensures { λ r. ⌜ r ≡ faultCells f ⌝ }
+{
+    match f {
+        Flaw::NoStartRule => [30, 0, 0],
+        Flaw::InvalidStartRule(a, b) => [31, a, b],
+        Flaw::UnknownRuleRef(a, b) => [32, a, b],
+        Flaw::UnknownTokenRef(a, b) => [33, a, b],
+        Flaw::UnknownPrecToken(a, b) => [33, a, b],
+        Flaw::NoPrecForToken(a, b) => [34, a, b],
+        Flaw::UnknownEppKey(a, b) => [35, a, b],
+    }
+}
+
+// A test's fault becomes row `at` of table 14, where that is free.
+pub fn note(v: Test, at: usize, t14: &mut [u32]) -> Walk
+    ensures { λ q. ⌜ _≡_ {A = Walked} (record { answer = q; cells = now (t14 .exit) }) (noted (failing v) at (now (t14 .entry))) ⌝ }
+{
+    match v {
+        Test::Met => Walk::NextRow(at),
+        Test::Failed(f) => {
+            let w = tables::FAULT_WIDTH as usize;
+            if t14.len() / w <= at {
+                return Walk::Unwritten(f);
+            }
+            let row = fault_row(f);
+            let to = at * w;
+            t14[to] = row[0];
+            t14[to + 1] = row[1];
+            t14[to + 2] = row[2];
+            Walk::NextRow(at + 1)
+        }
+    }
+}
+
 // The rows of table 6 or 9 from `from` up to `to`.
-pub fn kinds_fault(
+pub fn note_kinds(
     src: &[u8],
     t: &[u32],
     from: u32,
@@ -138,29 +224,30 @@ pub fn kinds_fault(
     tokens: u32,
     t7: &[u32],
     rules: u32,
-) -> Validity
-    ensures { λ q. ⌜ q ≡ first (kindsFaults (now (src .entry)) (now (t .entry)) (now (t1 .entry)) tokens (now (t7 .entry)) rules from to) ⌝ }
+    at: usize,
+    t14: &mut [u32],
+) -> Walk
+    ensures { λ q. ⌜ _≡_ {A = Walked} (record { answer = q; cells = now (t14 .exit) }) (noted (kindsFaults (now (src .entry)) (now (t .entry)) (now (t1 .entry)) tokens (now (t7 .entry)) rules from to) at (now (t14 .entry))) ⌝ }
 {
+    let mut next = at;
     let mut r = from;
     while r < to {
         let v = kind_fault(src, t, r, t1, tokens, t7, rules);
-        match v {
-            Validity::Valid => {
+        match note(v, next, t14) {
+            Walk::NextRow(n) => {
+                next = n;
                 r += 1;
             }
-            Validity::UnsoundTables => {
-                return v;
-            }
-            Validity::Invalid(_) => {
-                return v;
+            Walk::Unwritten(f) => {
+                return Walk::Unwritten(f);
             }
         }
     }
-    Validity::Valid
+    Walk::NextRow(next)
 }
 
 // Row `r` of table 8: its `%prec`, then its symbols.
-pub fn production_fault(
+pub fn note_production(
     src: &[u8],
     t1: &[u32],
     tokens: u32,
@@ -171,21 +258,36 @@ pub fn production_fault(
     t8: &[u32],
     t9: &[u32],
     r: u32,
-) -> Validity
-    ensures { λ q. ⌜ q ≡ first (productionFaults (now (src .entry)) (now (t1 .entry)) tokens (now (t2 .entry)) precedences (now (t7 .entry)) rules (now (t8 .entry)) (now (t9 .entry)) r) ⌝ }
+    at: usize,
+    t14: &mut [u32],
+) -> Walk
+    ensures { λ q. ⌜ _≡_ {A = Walked} (record { answer = q; cells = now (t14 .exit) }) (noted (productionFaults (now (src .entry)) (now (t1 .entry)) tokens (now (t2 .entry)) precedences (now (t7 .entry)) rules (now (t8 .entry)) (now (t9 .entry)) r) at (now (t14 .entry))) ⌝ }
 {
     let p = productions::load_production(t8, r);
     let q = p.prec;
     let v = prec_fault(src, q, t1, tokens, t2, precedences);
-    match v {
-        Validity::Valid => kinds_fault(src, t9, p.first, p.last, t1, tokens, t7, rules),
-        Validity::UnsoundTables => v,
-        Validity::Invalid(_) => v,
+    match note(v, at, t14) {
+        Walk::NextRow(n) => note_kinds(src, t9, p.first, p.last, t1, tokens, t7, rules, n, t14),
+        Walk::Unwritten(f) => Walk::Unwritten(f),
     }
 }
 
+// The first production of rule `k` from row `from` of table 8 on, or `n`, behind the last.
+pub fn next_of_rule(t8: &[u32], from: u32, n: u32, k: u32) -> u32
+    ensures { λ r. ⌜ r ≡ nextOfRule (now (t8 .entry)) from n k ⌝ }
+{
+    let mut r = from;
+    while r < n {
+        if tables::cell(t8, tables::PRODUCTION_WIDTH, r, tables::RULE_ROW) == k {
+            return r;
+        }
+        r += 1;
+    }
+    n
+}
+
 // The productions of rule `k`, among the `n` of table 8.
-pub fn rule_fault(
+pub fn note_rule(
     src: &[u8],
     t1: &[u32],
     tokens: u32,
@@ -197,30 +299,42 @@ pub fn rule_fault(
     t9: &[u32],
     n: u32,
     k: u32,
-) -> Validity
-    ensures { λ q. ⌜ q ≡ first (ruleFaults (now (src .entry)) (now (t1 .entry)) tokens (now (t2 .entry)) precedences (now (t7 .entry)) rules (now (t8 .entry)) (now (t9 .entry)) n k) ⌝ }
+    at: usize,
+    t14: &mut [u32],
+) -> Walk
+    ensures { λ q. ⌜ _≡_ {A = Walked} (record { answer = q; cells = now (t14 .exit) }) (noted (ruleFaults (now (src .entry)) (now (t1 .entry)) tokens (now (t2 .entry)) precedences (now (t7 .entry)) rules (now (t8 .entry)) (now (t9 .entry)) n k) at (now (t14 .entry))) ⌝ }
 {
-    let mut r = 0;
+    let mut next = at;
+    let mut r = next_of_rule(t8, 0, n, k);
     while r < n {
-        if tables::cell(t8, tables::PRODUCTION_WIDTH, r, tables::RULE_ROW) == k {
-            let v = production_fault(src, t1, tokens, t2, precedences, t7, rules, t8, t9, r);
-            match v {
-                Validity::Valid => {}
-                Validity::UnsoundTables => {
-                    return v;
-                }
-                Validity::Invalid(_) => {
-                    return v;
-                }
+        match note_production(
+            src,
+            t1,
+            tokens,
+            t2,
+            precedences,
+            t7,
+            rules,
+            t8,
+            t9,
+            r,
+            next,
+            t14,
+        ) {
+            Walk::NextRow(m) => {
+                next = m;
+                r = next_of_rule(t8, r + 1, n, k);
+            }
+            Walk::Unwritten(f) => {
+                return Walk::Unwritten(f);
             }
         }
-        r += 1;
     }
-    Validity::Valid
+    Walk::NextRow(next)
 }
 
 // Rules in order, their productions in order.
-pub fn rules_fault(
+pub fn note_rules(
     src: &[u8],
     t1: &[u32],
     tokens: u32,
@@ -231,52 +345,42 @@ pub fn rules_fault(
     t8: &[u32],
     t9: &[u32],
     n: u32,
-) -> Validity
-    ensures { λ q. ⌜ q ≡ first (rulesFaults (now (src .entry)) (now (t1 .entry)) tokens (now (t2 .entry)) precedences (now (t7 .entry)) rules (now (t8 .entry)) (now (t9 .entry)) n) ⌝ }
+    at: usize,
+    t14: &mut [u32],
+) -> Walk
+    ensures { λ q. ⌜ _≡_ {A = Walked} (record { answer = q; cells = now (t14 .exit) }) (noted (rulesFaults (now (src .entry)) (now (t1 .entry)) tokens (now (t2 .entry)) precedences (now (t7 .entry)) rules (now (t8 .entry)) (now (t9 .entry)) n) at (now (t14 .entry))) ⌝ }
 {
+    let mut next = at;
     let mut k = 0;
     while k < rules {
-        let v = rule_fault(src, t1, tokens, t2, precedences, t7, rules, t8, t9, n, k);
-        match v {
-            Validity::Valid => {
+        match note_rule(
+            src,
+            t1,
+            tokens,
+            t2,
+            precedences,
+            t7,
+            rules,
+            t8,
+            t9,
+            n,
+            k,
+            next,
+            t14,
+        ) {
+            Walk::NextRow(m) => {
+                next = m;
                 k += 1;
             }
-            Validity::UnsoundTables => {
-                return v;
-            }
-            Validity::Invalid(_) => {
-                return v;
+            Walk::Unwritten(f) => {
+                return Walk::Unwritten(f);
             }
         }
     }
-    Validity::Valid
+    Walk::NextRow(next)
 }
 
-// The key of row `r` of table 5 is a token, or an implicit one.
-pub fn epp_fault(
-    src: &[u8],
-    t1: &[u32],
-    tokens: u32,
-    t4: &[u32],
-    implicit: u32,
-    t5: &[u32],
-    r: u32,
-) -> Validity
-    ensures { λ q. ⌜ q ≡ first (eppFaults (now (src .entry)) (now (t1 .entry)) tokens (now (t4 .entry)) implicit (now (t5 .entry)) r) ⌝ }
-{
-    let w = tables::EPP_WIDTH;
-    let a = tables::cell(t5, w, r, 2);
-    let b = tables::cell(t5, w, r, 3);
-    if is_known(src, t1, tables::TOKEN_WIDTH, tokens, a, b) {
-        return Validity::Valid;
-    }
-    if is_known(src, t4, tables::NAME_WIDTH, implicit, a, b) {
-        return Validity::Valid;
-    }
-    Validity::Invalid(Flaw::UnknownEppKey(tables::cell(t5, w, r, 0), tables::cell(t5, w, r, 1)))
-}
-
-pub fn epps_fault(
+pub fn note_epps(
     src: &[u8],
     t1: &[u32],
     tokens: u32,
@@ -284,39 +388,116 @@ pub fn epps_fault(
     implicit: u32,
     t5: &[u32],
     n: u32,
-) -> Validity
-    ensures { λ q. ⌜ q ≡ first (eppsFaults (now (src .entry)) (now (t1 .entry)) tokens (now (t4 .entry)) implicit (now (t5 .entry)) n) ⌝ }
+    at: usize,
+    t14: &mut [u32],
+) -> Walk
+    ensures { λ q. ⌜ _≡_ {A = Walked} (record { answer = q; cells = now (t14 .exit) }) (noted (eppsFaults (now (src .entry)) (now (t1 .entry)) tokens (now (t4 .entry)) implicit (now (t5 .entry)) n) at (now (t14 .entry))) ⌝ }
 {
+    let mut next = at;
     let mut r = 0;
     while r < n {
         let v = epp_fault(src, t1, tokens, t4, implicit, t5, r);
-        match v {
-            Validity::Valid => {
+        match note(v, next, t14) {
+            Walk::NextRow(m) => {
+                next = m;
                 r += 1;
             }
-            Validity::UnsoundTables => {
-                return v;
-            }
-            Validity::Invalid(_) => {
-                return v;
+            Walk::Unwritten(f) => {
+                return Walk::Unwritten(f);
             }
         }
     }
-    Validity::Valid
+    Walk::NextRow(next)
 }
 
-// The first answer, or the second where the first finds nothing.
-pub fn or_else(v: Validity, w: Validity) -> Validity
-    ensures { λ r. ⌜ r ≡ orElse v w ⌝ }
+// Start and rules, the first two parts of all tests.
+pub fn note_start_rules(
+    src: &[u8],
+    c: Counts,
+    start: Part,
+    t1: &[u32],
+    t2: &[u32],
+    t7: &[u32],
+    t8: &[u32],
+    t9: &[u32],
+    t14: &mut [u32],
+) -> Walk
+    ensures { λ q. ⌜ _≡_ {A = Walked} (record { answer = q; cells = now (t14 .exit) }) (noted (startFaults (now (src .entry)) start (now (t7 .entry)) (countAt c rules) ++ rulesFaults (now (src .entry)) (now (t1 .entry)) (countAt c tokens) (now (t2 .entry)) (countAt c precedences) (now (t7 .entry)) (countAt c rules) (now (t8 .entry)) (now (t9 .entry)) (countAt c productions)) 0 (now (t14 .entry))) ⌝ }
 {
-    match v {
-        Validity::Valid => w,
-        Validity::UnsoundTables => v,
-        Validity::Invalid(_) => v,
+    let tokens = sound::rows_of(c, tables::TOKENS);
+    let precedences = sound::rows_of(c, tables::PRECEDENCES);
+    let rules = sound::rows_of(c, tables::RULES);
+    let n = sound::rows_of(c, tables::PRODUCTIONS);
+    let v = start_fault(src, start, t7, rules);
+    match note(v, 0, t14) {
+        Walk::NextRow(at) => note_rules(
+            src,
+            t1,
+            tokens,
+            t2,
+            precedences,
+            t7,
+            rules,
+            t8,
+            t9,
+            n,
+            at,
+            t14,
+        ),
+        Walk::Unwritten(f) => Walk::Unwritten(f),
     }
 }
 
-// The tests behind 44, in their order.
+// The `%epp` keys and the expected unused names, the other two.
+pub fn note_epps_unused(
+    src: &[u8],
+    c: Counts,
+    t1: &[u32],
+    t4: &[u32],
+    t5: &[u32],
+    t6: &[u32],
+    t7: &[u32],
+    at: usize,
+    t14: &mut [u32],
+) -> Walk
+    ensures { λ q. ⌜ _≡_ {A = Walked} (record { answer = q; cells = now (t14 .exit) }) (noted (eppsFaults (now (src .entry)) (now (t1 .entry)) (countAt c tokens) (now (t4 .entry)) (countAt c implicit) (now (t5 .entry)) (countAt c epps) ++ kindsFaults (now (src .entry)) (now (t6 .entry)) (now (t1 .entry)) (countAt c tokens) (now (t7 .entry)) (countAt c rules) 0 (countAt c unused)) at (now (t14 .entry))) ⌝ }
+{
+    let tokens = sound::rows_of(c, tables::TOKENS);
+    let implicit = sound::rows_of(c, tables::IMPLICIT);
+    let epps = sound::rows_of(c, tables::EPPS);
+    let unused = sound::rows_of(c, tables::UNUSED);
+    let rules = sound::rows_of(c, tables::RULES);
+    match note_epps(src, t1, tokens, t4, implicit, t5, epps, at, t14) {
+        Walk::NextRow(n) => note_kinds(src, t6, 0, unused, t1, tokens, t7, rules, n, t14),
+        Walk::Unwritten(f) => Walk::Unwritten(f),
+    }
+}
+
+// The tests behind 44, in their order, from row 0 of table 14 on.
+pub fn note_faults(
+    src: &[u8],
+    c: Counts,
+    g: Singles,
+    t1: &[u32],
+    t2: &[u32],
+    t4: &[u32],
+    t5: &[u32],
+    t6: &[u32],
+    t7: &[u32],
+    t8: &[u32],
+    t9: &[u32],
+    t14: &mut [u32],
+) -> Walk
+    ensures { λ q. ⌜ _≡_ {A = Walked} (record { answer = q; cells = now (t14 .exit) }) (noted (faults (now (src .entry)) c g (now (t1 .entry)) (now (t2 .entry)) (now (t4 .entry)) (now (t5 .entry)) (now (t6 .entry)) (now (t7 .entry)) (now (t8 .entry)) (now (t9 .entry))) 0 (now (t14 .entry))) ⌝ }
+{
+    let start = g.start;
+    match note_start_rules(src, c, start, t1, t2, t7, t8, t9, t14) {
+        Walk::NextRow(at) => note_epps_unused(src, c, t1, t4, t5, t6, t7, at, t14),
+        Walk::Unwritten(f) => Walk::Unwritten(f),
+    }
+}
+
+// The first fault: the walk over a table that has no row.
 pub fn find_fault(
     src: &[u8],
     c: Counts,
@@ -332,30 +513,11 @@ pub fn find_fault(
 ) -> Validity
     ensures { λ q. ⌜ q ≡ first (faults (now (src .entry)) c g (now (t1 .entry)) (now (t2 .entry)) (now (t4 .entry)) (now (t5 .entry)) (now (t6 .entry)) (now (t7 .entry)) (now (t8 .entry)) (now (t9 .entry))) ⌝ }
 {
-    let tokens = sound::rows_of(c, tables::TOKENS);
-    let precedences = sound::rows_of(c, tables::PRECEDENCES);
-    let implicit = sound::rows_of(c, tables::IMPLICIT);
-    let epps = sound::rows_of(c, tables::EPPS);
-    let unused = sound::rows_of(c, tables::UNUSED);
-    let rules = sound::rows_of(c, tables::RULES);
-    let productions = sound::rows_of(c, tables::PRODUCTIONS);
-    let start = g.start;
-    let s = start_fault(src, start, t7, rules);
-    let r = rules_fault(
-        src,
-        t1,
-        tokens,
-        t2,
-        precedences,
-        t7,
-        rules,
-        t8,
-        t9,
-        productions,
-    );
-    let e = epps_fault(src, t1, tokens, t4, implicit, t5, epps);
-    let u = kinds_fault(src, t6, 0, unused, t1, tokens, t7, rules);
-    or_else(s, or_else(r, or_else(e, u)))
+    let mut none = [0u32; 1];
+    match note_faults(src, c, g, t1, t2, t4, t5, t6, t7, t8, t9, &mut none) {
+        Walk::NextRow(_) => Validity::Valid,
+        Walk::Unwritten(f) => Validity::Invalid(f),
+    }
 }
 
 // Validation changes nothing lent; 44 comes first.
@@ -380,4 +542,36 @@ pub fn validate(
         return Validity::UnsoundTables;
     }
     find_fault(src, c, g, t1, t2, t4, t5, t6, t7, t8, t9)
+}
+
+// All faults, as rows of table 14; 44 comes first, and a refusal leaves zeros.
+pub fn faults(
+    src: &[u8],
+    c: Counts,
+    g: Singles,
+    t1: &[u32],
+    t2: &[u32],
+    t3: &[u32],
+    t4: &[u32],
+    t5: &[u32],
+    t6: &[u32],
+    t7: &[u32],
+    t8: &[u32],
+    t9: &[u32],
+    t10: &[u32],
+    t14: &mut [u32],
+) -> FaultListing
+    ensures { λ q. ⌜ _≡_ {A = AllFaults} (record { answer = q; cells = now (t14 .exit) }) (faultListing (now (src .entry)) c g (record { t1 = now (t1 .entry); t2 = now (t2 .entry); t3 = now (t3 .entry); t4 = now (t4 .entry); t5 = now (t5 .entry); t6 = now (t6 .entry); t7 = now (t7 .entry); t8 = now (t8 .entry); t9 = now (t9 .entry); t10 = now (t10 .entry) }) (now (t14 .entry))) ⌝ }
+{
+    tables::zero(t14);
+    if !sound::sound(src, c, g, t1, t2, t3, t4, t5, t6, t7, t8, t9, t10) {
+        return FaultListing::FaultsUnsound;
+    }
+    match note_faults(src, c, g, t1, t2, t4, t5, t6, t7, t8, t9, t14) {
+        Walk::NextRow(n) => FaultListing::Faulted(n),
+        Walk::Unwritten(_) => {
+            tables::zero(t14);
+            FaultListing::FaultsNoRoom
+        }
+    }
 }

@@ -15,7 +15,7 @@ use Rattle.words.specs.Strings.{stringAt, Stringed}
 use Rattle.words.proofs.Strings.{string-end}
 use Rattle.tables.specs.Table.{cell, zeroed, put}
 use Rattle.tables.specs.Layout.{epps, value, width}
-use Rattle.tables.proofs.Rows.{put-eq}
+use Rattle.tables.proofs.Rows.{put-zeros}
 use Rattle.tables.proofs.Laws.{put-length}
 use Rattle.grammar.specs.declared.Counts.{Counts}
 use Rattle.grammar.specs.declared.Singles.{Singles}
@@ -76,17 +76,6 @@ module _ (src t5 : List ℕ) (row from to : ℕ) (f : from ≡ cell (width epps)
     pub text-none : (q : Quote) → r ≡ q → NoText ≡ textBy q from to → NoText ≡ textAt src t5 row
     text-none q g h = text-is _ (rw g h)
 
--- zeros behind the first cells, and the first ones stored
-drop-zeros : (k m : ℕ) → drop {A = ℕ} k (replicate m 0) ≡ replicate (m - k) 0
-drop-zeros zero m = rw (sub-zero m)
-drop-zeros (suc k) zero = let e : zero - suc k ≡ zero = omega arith in rw e
-drop-zeros (suc k) (suc m) = let e : suc m - suc k ≡ m - k = omega arith in rw e (drop-zeros k m)
-
-put-zeros : (v out : List ℕ) → length v ≤ length out → put (zeroed out) 0 v ≡ v ++ replicate (length out - length v) 0
-put-zeros v out h =
-    let n = length-replicate {A = ℕ} (length out) 0 in
-    put-eq v (zeroed out) 0 (rw (n, zero-add (length v)) h) ∙ rw (zero-add (length v), drop-zeros (length v) (length out))
-
 -- a text written in cells that were made zero
 pub text-within : (src : List ℕ) (t : Text) (a b : ℕ) → Within src t → t ≡ TextAt a b → b ≤ length src
 text-within src t a b w e = let x = rw e at w in x .1
@@ -110,7 +99,7 @@ module _ (src : List ℕ) (t : Text) (out zeros : List ℕ) (z : zeros ≡ zeroe
     pub write-whole : n ≤ length cells → record { answer = Written n; out = cells } ≡ textValue t src out
     write-whole h =
         let l : length (plain (slice a b src)) ≤ length out = omega (arith, count, room) in
-        rw (e, le-leb _ _ l, count, stored, put-zeros _ out l)
+        rw (e, le-leb _ _ l, count, stored, put-zeros _ (length out) l)
 
     pub write-no-room : length cells < n → (left : List ℕ) → left ≡ zeroed cells → record { answer = NoTextRoom; out = left } ≡ textValue t src out
     write-no-room h left m =
