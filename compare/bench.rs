@@ -1,5 +1,6 @@
 //! Times the crate against the library, in one process: parse, `complete_and_validate` and `unused_symbols` against read, validate and report.
-//! bench KIND:FILE.. prints, for each file, the best of several runs of each in microseconds, the ratio, and for a file that follows its half the growth of both; tables are lent with a row more than the reading needs, and are cleared by `read` itself, which counts.
+//! bench KIND:FILE.. prints, for each file, the best of several runs of each in microseconds, of parse and read alone and of all three, the ratio, and for a file that follows its half the growth of both; tables are
+//! lent with a row more than the reading needs and the smallest indexes that go with them, and are cleared by `read` itself, which counts.
 
 mod header;
 mod span;
@@ -13,13 +14,15 @@ use yacc::{YaccKind, YaccOriginalActionKind};
 
 const WIDTH: [usize; 10] = [3, 4, 2, 2, 6, 3, 5, 13, 3, 5];
 
-type Tables = [Vec<u32>; 10];
+// the ten tables, and the indexes of tables 1 and 7
+type Lent = [Vec<u32>; 12];
 
 macro_rules! lent {
     ($f:ident $t:ident ($($head:expr),*) ($($tail:expr),*)) => {
         $f($($head,)*
             $t[0].as_ptr(), $t[0].len(), $t[1].as_ptr(), $t[1].len(), $t[2].as_ptr(), $t[2].len(), $t[3].as_ptr(), $t[3].len(), $t[4].as_ptr(), $t[4].len(),
             $t[5].as_ptr(), $t[5].len(), $t[6].as_ptr(), $t[6].len(), $t[7].as_ptr(), $t[7].len(), $t[8].as_ptr(), $t[8].len(), $t[9].as_ptr(), $t[9].len(),
+            $t[10].as_ptr(), $t[10].len(), $t[11].as_ptr(), $t[11].len(),
             $($tail),*)
     };
 }
@@ -29,14 +32,20 @@ type P = *const u32;
 #[rustfmt::skip]
 unsafe extern "C" {
     fn quiltrudder_read(src: *const u8, len: usize, kind: u32, a: P, an: usize, b: P, bn: usize, c: P, cn: usize, d: P, dn: usize, e: P, en: usize,
-        f: P, fn_: usize, g: P, gn: usize, h: P, hn: usize, i: P, in_: usize, j: P, jn: usize, answer: *mut u32);
+        f: P, fn_: usize, g: P, gn: usize, h: P, hn: usize, i: P, in_: usize, j: P, jn: usize, k: P, kn: usize, l: P, ln: usize, answer: *mut u32);
     fn quiltrudder_validate(src: *const u8, len: usize, reading: *const u32, a: P, an: usize, b: P, bn: usize, c: P, cn: usize, d: P, dn: usize, e: P, en: usize,
-        f: P, fn_: usize, g: P, gn: usize, h: P, hn: usize, i: P, in_: usize, j: P, jn: usize, answer: *mut u32);
+        f: P, fn_: usize, g: P, gn: usize, h: P, hn: usize, i: P, in_: usize, j: P, jn: usize, k: P, kn: usize, l: P, ln: usize, answer: *mut u32);
     fn quiltrudder_report(src: *const u8, len: usize, reading: *const u32, a: P, an: usize, b: P, bn: usize, c: P, cn: usize, d: P, dn: usize, e: P, en: usize,
-        f: P, fn_: usize, g: P, gn: usize, h: P, hn: usize, i: P, in_: usize, j: P, jn: usize, work: *mut u32, wn: usize, out: *mut u32, on: usize, answer: *mut u32);
+        f: P, fn_: usize, g: P, gn: usize, h: P, hn: usize, i: P, in_: usize, j: P, jn: usize, k: P, kn: usize, l: P, ln: usize, work: *mut u32, wn: usize, out: *mut u32, on: usize, answer: *mut u32);
 }
 
-fn ours(kind: u32, src: &[u8], t: &mut Tables, work: &mut [u32], out: &mut [u32]) -> (u32, u32, u32, u32) {
+fn read(kind: u32, src: &[u8], t: &mut Lent) -> u32 {
+    let mut o = [0u32; 38];
+    unsafe { lent!(quiltrudder_read t (src.as_ptr(), src.len(), kind) (o.as_mut_ptr())) };
+    o[0]
+}
+
+fn ours(kind: u32, src: &[u8], t: &mut Lent, work: &mut [u32], out: &mut [u32]) -> (u32, u32, u32, u32) {
     let (mut o, mut v, mut r) = ([0u32; 38], [0u32; 4], [0u32; 6]);
     unsafe {
         lent!(quiltrudder_read t (src.as_ptr(), src.len(), kind) (o.as_mut_ptr()));
@@ -48,13 +57,20 @@ fn ours(kind: u32, src: &[u8], t: &mut Tables, work: &mut [u32], out: &mut [u32]
     (o[0], v[0], r[0], r[4])
 }
 
-fn crates(kind: u32, src: &str) -> (bool, bool, usize) {
-    let which = match kind {
+fn which(kind: u32) -> YaccKind {
+    match kind {
         1 => YaccKind::Original(YaccOriginalActionKind::GenericParseTree),
         2 => YaccKind::Grmtools,
         _ => YaccKind::Eco,
-    };
-    let mut parser = YaccParser::new(which, src);
+    }
+}
+
+fn parse(kind: u32, src: &str) -> bool {
+    YaccParser::new(which(kind), src).parse().is_ok()
+}
+
+fn crates(kind: u32, src: &str) -> (bool, bool, usize) {
+    let mut parser = YaccParser::new(which(kind), src);
     let read = parser.parse().is_ok();
     let mut ast = parser.build();
     if !read {
@@ -79,14 +95,15 @@ fn best(mut f: impl FnMut()) -> f64 {
 }
 
 fn main() {
-    println!("| Source | Bytes | crate, µs | library, µs | library / crate | growth from half, crate | library |\n|---|---|---|---|---|---|---|");
-    let mut half = (String::new(), 0.0, 0.0);
+    println!("| Source | Bytes | parse, µs | read, µs | read / parse | growth from half, parse | read | crate, µs | library, µs | library / crate | growth from half, crate | library |");
+    println!("|---|---|---|---|---|---|---|---|---|---|---|---|");
+    let mut half = (String::new(), [0.0; 4]);
     for word in std::env::args().skip(1) {
         let (kind, file) = word.split_once(':').expect("KIND:FILE");
         let kind: u32 = kind.parse().expect("a kind");
         let src = std::fs::read_to_string(file).expect("a file");
         let rows = src.len() + 2;
-        let mut t: Tables = WIDTH.map(|w| vec![0u32; w * rows]);
+        let mut t: Lent = std::array::from_fn(|k| vec![0u32; if k < 10 { WIDTH[k] * rows } else { (2 * rows).next_power_of_two() }]);
         let (mut work, mut out) = (vec![0u32; rows / 16 + 2], vec![0u32; 4 * rows]);
         let (a, b) = (crates(kind, &src), ours(kind, src.as_bytes(), &mut t, &mut work, &mut out));
         // from here on as many rows are lent as the reading has, and one more
@@ -94,17 +111,32 @@ fn main() {
             let used = t[k].iter().rposition(|c| *c != 0).map_or(0, |i| i / w + 1);
             t[k].truncate((used + 1) * w);
         }
+        for (k, of) in [(10, 0), (11, 6)] {
+            t[k].truncate((2 * (t[of].len() / WIDTH[of])).next_power_of_two());
+        }
         let agree = a.0 == (b.0 == 0) && (!a.0 || a.1 == (b.1 == 0)) && (!a.1 || a.2 as u32 == b.3);
-        let theirs = best(|| {
-            std::hint::black_box(crates(kind, &src));
-        });
-        let mine = best(|| {
-            std::hint::black_box(ours(kind, src.as_bytes(), &mut t, &mut work, &mut out));
-        });
+        let times = [
+            best(|| {
+                std::hint::black_box(parse(kind, &src));
+            }),
+            best(|| {
+                std::hint::black_box(read(kind, src.as_bytes(), &mut t));
+            }),
+            best(|| {
+                std::hint::black_box(crates(kind, &src));
+            }),
+            best(|| {
+                std::hint::black_box(ours(kind, src.as_bytes(), &mut t, &mut work, &mut out));
+            }),
+        ];
         let name = file.rsplit('/').next().unwrap();
-        let grown = if half.0 == name.replace(".y", "-half.y") { format!("{:.1} | {:.1}", theirs / half.1, mine / half.2) } else { " | ".to_string() };
-        println!("| {name}{} | {} | {theirs:.0} | {mine:.0} | {:.2} | {grown} |", if agree { "" } else { " (ANSWERS DIFFER)" }, src.len(), mine / theirs);
-        half = (name.to_string(), theirs, mine);
+        let is_whole = half.0 == name.replace(".y", "-half.y");
+        let pair = |k: usize| {
+            let grown = |k: usize| if is_whole { format!("{:.1}", times[k] / half.1[k]) } else { String::new() };
+            format!("{:.0} | {:.0} | {:.2} | {} | {}", times[k], times[k + 1], times[k + 1] / times[k], grown(k), grown(k + 1))
+        };
+        println!("| {name}{} | {} | {} | {} |", if agree { "" } else { " (ANSWERS DIFFER)" }, src.len(), pair(0), pair(2));
+        half = (name.to_string(), times);
     }
     println!("\nTables are lent as the last call left them, with a row more than the reading needs; read clears them itself, and that counts.");
 }

@@ -1,5 +1,6 @@
 /* dump BOX [ROWS,..]: the comparison text of every input of a box, made from the C names of the library alone. ROWS are the rows lent for tables 1 to 10, one number for all or ten;
-   without them each table has a row for each byte. Tables are lent full of rubbish; a cell past a count that is not zero afterwards is told on standard error. */
+   without them each table has a row for each byte. Tables and indexes are lent full of rubbish; a cell past a count that is not zero afterwards is told on standard error, and a slot
+   that is taken by more or fewer rows than there are. */
 #include "lent.h"
 
 static void text(const uint8_t *s, uint32_t from, uint32_t to) {
@@ -134,6 +135,7 @@ int main(int argc, char **argv) {
             n[k] = have * width[k];
             for (size_t i = 0; i < n[k]; i++) t[k][i] = 0xdeadbeef;
         }
+        lend_indexes();
         quiltrudder_read(src, len, kind, TABLES, o);
         int fatal = is_fatal();
         printf("input %ld %u %u\nread %u %u %u", index, kind, len, o[0], o[1], o[2]);
@@ -149,6 +151,11 @@ int main(int argc, char **argv) {
         for (int k = 1; k <= 10; k++)
             for (size_t i = (size_t)o[3 + k] * width[k]; i < n[k]; i++)
                 if (t[k][i]) { bad++; fprintf(stderr, "input %ld: a cell of table %d past its count is not zero\n", index, k); break; }
+        for (int k = 1; k <= 7; k += 6) {
+            uint32_t taken = 0;
+            for (size_t i = 0; i < m[k]; i++) taken += ix[k][i] != 0;
+            if (taken != o[3 + k]) { bad++; fprintf(stderr, "input %ld: the index of table %d has not its rows\n", index, k); }
+        }
         free(s);
     }
     return bad != 0;

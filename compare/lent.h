@@ -1,4 +1,4 @@
-/* What the comparison programs share: a source, the ten tables that are lent, and the numbers of its reading. */
+/* What the comparison programs share: a source, the ten tables and two indexes that are lent, and the numbers of its reading. */
 #ifndef LENT_H
 #define LENT_H
 
@@ -11,11 +11,14 @@ static const unsigned width[11] = {0, QUILTRUDDER_T1_WIDTH, QUILTRUDDER_T2_WIDTH
     QUILTRUDDER_T6_WIDTH, QUILTRUDDER_T7_WIDTH, QUILTRUDDER_T8_WIDTH, QUILTRUDDER_T9_WIDTH, QUILTRUDDER_T10_WIDTH};
 static uint32_t *t[11];
 static size_t n[11];
+/* The indexes of tables 1 and 7, by those numbers. */
+static uint32_t *ix[8];
+static size_t m[8];
 static uint32_t o[QUILTRUDDER_READING_CELLS];
 static const uint8_t *src;
 static uint32_t len;
 
-#define TABLES t[1], n[1], t[2], n[2], t[3], n[3], t[4], n[4], t[5], n[5], t[6], n[6], t[7], n[7], t[8], n[8], t[9], n[9], t[10], n[10]
+#define TABLES t[1], n[1], t[2], n[2], t[3], n[3], t[4], n[4], t[5], n[5], t[6], n[6], t[7], n[7], t[8], n[8], t[9], n[9], t[10], n[10], ix[1], m[1], ix[7], m[7]
 
 /* The next input of a box; its bytes are the caller's to free. Returns its kind, or -1 at the end. */
 static int next_input(FILE *f, uint8_t **bytes) {
@@ -26,6 +29,16 @@ static int next_input(FILE *f, uint8_t **bytes) {
     if (fread(*bytes, 1, len, f) != len) exit(2);
     src = *bytes;
     return head[0];
+}
+
+/* As many slots as the tables' sizes ask for, full of rubbish. */
+static void lend_indexes(void) {
+    for (int k = 1; k <= 7; k += 6) {
+        m[k] = QUILTRUDDER_SLOTS(n[k] / width[k]);
+        free(ix[k]);
+        ix[k] = malloc(m[k] * sizeof **ix);
+        for (size_t i = 0; i < m[k]; i++) ix[k][i] = 0xdeadbeef;
+    }
 }
 
 /* Whether the read stopped early. */

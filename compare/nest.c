@@ -37,6 +37,7 @@ int main(int argc, char **argv) {
             n[k] = (size_t)(len + 2) * width[k];
             t[k] = malloc(n[k] * sizeof **t);
         }
+        lend_indexes();
         quiltrudder_read(src, len, kind, TABLES, o);
         if (!is_fatal()) {
             uint32_t end = 0;

@@ -1,5 +1,5 @@
 /* unsound BOX: every reading of the box that is full has each of its cells, counts and singles changed by itself (one less, one more, zero, one, two, the source's length and one more, the largest
-   number), and validate's 44 is held against a test of soundness that is written here from the rules and knows nothing of the library's. Prints `changed N, differences M`. */
+   number), each slot of its indexes too, every two slots exchanged, and the sizes of tables and indexes; and validate's 44 is held against a test of soundness that is written here from the rules and knows nothing of the library's. Prints `changed N, differences M`. */
 #include "lent.h"
 #include <string.h>
 
@@ -42,6 +42,32 @@ static int single(const uint32_t *x, int skip, int places) {
     return 1;
 }
 
+static uint32_t hash(uint32_t from, uint32_t to) {
+    uint64_t h = 5381;
+    for (uint32_t i = from; i < to; i++) h = (33 * h + src[i]) % 4294967296u;
+    return (uint32_t)h;
+}
+
+/* What entering the rows of table 1 or 7 in order gives, in `size` slots; the places of their names lie in the source. */
+static uint32_t *entered(int k, size_t size) {
+    uint32_t *made = calloc(size, sizeof *made);
+    for (uint32_t i = 0; i < o[3 + k]; i++) {
+        uint32_t *x = t[k] + (size_t)width[k] * i;
+        size_t at = hash(x[0], x[1]) % size;
+        while (made[at]) at = at + 1 < size ? at + 1 : 0;
+        made[at] = i + 1;
+    }
+    return made;
+}
+
+static int is_indexed(int k) {
+    if (m[k] == 0 || (m[k] & (m[k] - 1)) || m[k] < 2 * (n[k] / width[k])) return 0;
+    uint32_t *right = entered(k, m[k]);
+    int same = !memcmp(right, ix[k], m[k] * sizeof *right);
+    free(right);
+    return same;
+}
+
 static int is_sound(void) {
     if (len > 65536) return 0;
     for (int k = 1; k <= 10; k++) {
@@ -49,7 +75,7 @@ static int is_sound(void) {
         for (size_t i = (size_t)o[3 + k] * width[k]; i < n[k]; i++) if (t[k][i]) return 0;
         for (uint32_t i = 0; i < o[3 + k]; i++) if (!row(k, t[k] + (size_t)width[k] * i, o[10])) return 0;
     }
-    if (twice(1) || twice(7)) return 0;
+    if (twice(1) || twice(7) || !is_indexed(1) || !is_indexed(7)) return 0;
     uint32_t at = 0;
     for (uint32_t i = 0; i < o[11]; i++) {
         uint32_t *x = t[8] + 13 * (size_t)i;
@@ -83,6 +109,25 @@ static void each(uint32_t *cell, const char *what, int k, size_t i) {
     *cell = was;
 }
 
+/* The slots of an index, one by one and two by two, and its size. */
+static void slots(int k) {
+    size_t was = m[k];
+    for (size_t i = 0; i < was; i++) each(ix[k] + i, "slot of", k, i);
+    for (size_t i = 0; i < was; i++)
+        for (size_t j = 0; j < i; j++) {
+            uint32_t a = ix[k][i], b = ix[k][j];
+            if (a == b) continue;
+            ix[k][i] = b;
+            ix[k][j] = a;
+            ask("slots of", k, i);
+            ix[k][i] = a;
+            ix[k][j] = b;
+        }
+    size_t sizes[] = {0, 1, was - 1, was + 1, was / 2, was / 4, was * 2};
+    for (size_t i = 0; i < sizeof sizes / sizeof *sizes; i++) { m[k] = sizes[i]; ask("size of index", k, sizes[i]); }
+    m[k] = was;
+}
+
 int main(int argc, char **argv) {
     FILE *f = argc > 1 ? fopen(argv[1], "rb") : NULL;
     if (!f) return 2;
@@ -92,11 +137,23 @@ int main(int argc, char **argv) {
     unsigned long full = 0;
     while ((kind = next_input(f, &s)) >= 0) {
         for (int k = 1; k <= 10; k++) n[k] = (size_t)width[k] * 1000;
+        lend_indexes();
         quiltrudder_read(src, len, kind, TABLES, o);
         if (!is_fatal() && len < 2000) {
             full++;
             for (int k = 1; k <= 10; k++) n[k] = (size_t)width[k] * (o[3 + k] + 1) + 1;
             ask("as read", 0, 0);
+            /* an index as small as the tables allow, with as many zeros behind it, so that a larger one can be lent too */
+            for (int k = 1; k <= 7; k += 6) {
+                m[k] = QUILTRUDDER_SLOTS(n[k] / width[k]);
+                uint32_t *small = entered(k, m[k]);
+                free(ix[k]);
+                ix[k] = calloc(2 * m[k], sizeof **ix);
+                memcpy(ix[k], small, m[k] * sizeof **ix);
+                free(small);
+            }
+            ask("small indexes", 0, 0);
+            for (int k = 1; k <= 7; k += 6) slots(k);
             for (int k = 1; k <= 10; k++) {
                 for (size_t i = 0; i < n[k]; i++) each(t[k] + i, "table", k, i);
                 each(o + 3 + k, "count", k, 0);

@@ -18,13 +18,15 @@ static uint32_t t7[ROWS * QUILTRUDDER_T7_WIDTH];
 static uint32_t t8[ROWS * QUILTRUDDER_T8_WIDTH];
 static uint32_t t9[ROWS * QUILTRUDDER_T9_WIDTH];
 static uint32_t t10[ROWS * QUILTRUDDER_T10_WIDTH];
+static uint32_t i1[QUILTRUDDER_SLOTS(ROWS)];
+static uint32_t i7[QUILTRUDDER_SLOTS(ROWS)];
 static uint32_t t14[(1 + 4 * ROWS) * QUILTRUDDER_FAULT_WIDTH];
 static uint32_t work[2 * ROWS / 32];
 static uint32_t out[2 * ROWS * QUILTRUDDER_REPORT_WIDTH];
 
-/* A slice of a whole array, and all ten tables. */
+/* A slice of a whole array, and all ten tables with their indexes. */
 #define WHOLE(a) (a), sizeof(a) / sizeof((a)[0])
-#define TABLES WHOLE(t1), WHOLE(t2), WHOLE(t3), WHOLE(t4), WHOLE(t5), WHOLE(t6), WHOLE(t7), WHOLE(t8), WHOLE(t9), WHOLE(t10)
+#define TABLES WHOLE(t1), WHOLE(t2), WHOLE(t3), WHOLE(t4), WHOLE(t5), WHOLE(t6), WHOLE(t7), WHOLE(t8), WHOLE(t9), WHOLE(t10), WHOLE(i1), WHOLE(i7)
 
 static void print_answer(const uint32_t *answer)
 {

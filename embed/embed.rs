@@ -23,6 +23,8 @@ mod quiltrudder {
                         t8: $pointer, t8_length: usize,
                         t9: $pointer, t9_length: usize,
                         t10: $pointer, t10_length: usize,
+                        i1: $pointer, i1_length: usize,
+                        i7: $pointer, i7_length: usize,
                         $($after: $after_type,)*
                     );)*
                 }
@@ -73,34 +75,37 @@ mod quiltrudder {
         Token(u32),
     }
 
-    /// A source and what was read of it.
+    /// A source and what was read of it: ten tables, and the indexes of tables 1 and 7.
     pub struct Reading<'a> {
         src: &'a [u8],
         cells: [u32; 38],
-        tables: [Vec<u32>; 10],
+        lent: [Vec<u32>; 12],
     }
 
-    /// Calls a function of the library on a source, some arguments, ten tables and further arguments.
+    /// Calls a function of the library on a source, some arguments, ten tables with two indexes and further arguments.
     macro_rules! call {
-        ($name:ident, $src:expr, ($($before:expr),*), $tables:expr, $pointer:ident, ($($after:expr),*)) => {{
-            let [t1, t2, t3, t4, t5, t6, t7, t8, t9, t10] = $tables;
+        ($name:ident, $src:expr, ($($before:expr),*), $lent:expr, $pointer:ident, ($($after:expr),*)) => {{
+            let [t1, t2, t3, t4, t5, t6, t7, t8, t9, t10, i1, i7] = $lent;
             unsafe {
                 c::$name(
                     $src.as_ptr(), $src.len(), $($before,)*
                     t1.$pointer(), t1.len(), t2.$pointer(), t2.len(), t3.$pointer(), t3.len(), t4.$pointer(), t4.len(), t5.$pointer(), t5.len(),
                     t6.$pointer(), t6.len(), t7.$pointer(), t7.len(), t8.$pointer(), t8.len(), t9.$pointer(), t9.len(), t10.$pointer(), t10.len(),
+                    i1.$pointer(), i1.len(), i7.$pointer(), i7.len(),
                     $($after,)*
                 )
             }
         }};
     }
 
-    /// Reads a source of kind 1, 2 or 3, with room for so many rows in each table.
+    /// Reads a source of kind 1, 2 or 3, with room for so many rows in each table, and indexes that are large enough.
     pub fn read(src: &[u8], kind: u32, rows: usize) -> Reading<'_> {
         let mut cells = [0; 38];
-        let mut tables = WIDTHS.map(|width| vec![0u32; rows * width]);
-        call!(quiltrudder_read, src, (kind), &mut tables, as_mut_ptr, (&mut cells));
-        Reading { src, cells, tables }
+        let slots = (2 * rows).next_power_of_two();
+        let lengths = WIDTHS.map(|width| rows * width).into_iter().chain([slots, slots]);
+        let mut lent: [Vec<u32>; 12] = lengths.map(|length| vec![0; length]).collect::<Vec<_>>().try_into().unwrap();
+        call!(quiltrudder_read, src, (kind), &mut lent, as_mut_ptr, (&mut cells));
+        Reading { src, cells, lent }
     }
 
     impl<'a> Reading<'a> {
@@ -115,7 +120,7 @@ mod quiltrudder {
 
         pub fn validate(&self) -> Answer {
             let mut cells = [0; 4];
-            call!(quiltrudder_validate, self.src, (&self.cells), &self.tables, as_ptr, (&mut cells));
+            call!(quiltrudder_validate, self.src, (&self.cells), &self.lent, as_ptr, (&mut cells));
             answer(&cells)
         }
 
@@ -124,7 +129,7 @@ mod quiltrudder {
             let tests = 1 + [5, 6, 8, 9].map(|table| self.rows(table) as usize).iter().sum::<usize>();
             let mut t14 = vec![0u32; tests * 3];
             let mut cells = [0; 6];
-            call!(quiltrudder_faults, self.src, (&self.cells), &self.tables, as_ptr, (t14.as_mut_ptr(), t14.len(), &mut cells));
+            call!(quiltrudder_faults, self.src, (&self.cells), &self.lent, as_ptr, (t14.as_mut_ptr(), t14.len(), &mut cells));
             if cells[0] != 0 {
                 return Err(answer(&cells));
             }
@@ -139,7 +144,7 @@ mod quiltrudder {
             let mut out = vec![0u32; (rules + tokens) * 2];
             let mut cells = [0; 6];
             call!(
-                quiltrudder_report, self.src, (&self.cells), &self.tables, as_ptr,
+                quiltrudder_report, self.src, (&self.cells), &self.lent, as_ptr,
                 (work.as_mut_ptr(), work.len(), out.as_mut_ptr(), out.len(), &mut cells)
             );
             if cells[0] != 0 {
@@ -152,7 +157,7 @@ mod quiltrudder {
         /// The place of the name of a row of table 1 or 7.
         pub fn name_place(&self, table: u32, row: u32) -> (u32, u32) {
             let mut cells = [0; 2];
-            call!(quiltrudder_name, self.src, (&self.cells), &self.tables, as_ptr, (table, row, &mut cells));
+            call!(quiltrudder_name, self.src, (&self.cells), &self.lent, as_ptr, (table, row, &mut cells));
             (cells[0], cells[1])
         }
 
@@ -166,7 +171,7 @@ mod quiltrudder {
         pub fn epp_value(&self, row: u32) -> Result<Vec<u8>, Answer> {
             let mut out = vec![0u8; self.src.len()];
             let mut cells = [0; 6];
-            call!(quiltrudder_epp_value, self.src, (&self.cells), &self.tables, as_ptr, (row, out.as_mut_ptr(), out.len(), &mut cells));
+            call!(quiltrudder_epp_value, self.src, (&self.cells), &self.lent, as_ptr, (row, out.as_mut_ptr(), out.len(), &mut cells));
             if cells[0] != 0 {
                 return Err(answer(&cells));
             }

@@ -35,6 +35,17 @@ extern "C" {
 #define QUILTRUDDER_T8_WIDTH 13 /* productions: rule row; from, to; symbols from, to; %prec flag, from, to; action flag, text from, to, span from, to */
 #define QUILTRUDDER_T9_WIDTH 3 /* symbols: kind (1 rule, 2 token), from, to */
 #define QUILTRUDDER_T10_WIDTH 5 /* repeats: number; first from, to; repeated from, to */
+
+/* How many slots to lend for the index beside table 1 or 7, where that table is lent room for so many rows: the first power of two that is twice the rows or more.
+ * A constant where `rows` is one. An index may be larger, as long as its size is a power of two; any other size is refused (45). */
+#define QUILTRUDDER_SLOTS(rows) (QUILTRUDDER_SLOTS_5(2 * (size_t)(rows) - ((rows) > 0)) + 1)
+#define QUILTRUDDER_SLOTS_0(v) ((v) | (v) >> 1)
+#define QUILTRUDDER_SLOTS_1(v) (QUILTRUDDER_SLOTS_0(v) | QUILTRUDDER_SLOTS_0(v) >> 2)
+#define QUILTRUDDER_SLOTS_2(v) (QUILTRUDDER_SLOTS_1(v) | QUILTRUDDER_SLOTS_1(v) >> 4)
+#define QUILTRUDDER_SLOTS_3(v) (QUILTRUDDER_SLOTS_2(v) | QUILTRUDDER_SLOTS_2(v) >> 8)
+#define QUILTRUDDER_SLOTS_4(v) (QUILTRUDDER_SLOTS_3(v) | QUILTRUDDER_SLOTS_3(v) >> 16)
+#define QUILTRUDDER_SLOTS_5(v) (QUILTRUDDER_SLOTS_4(v) | QUILTRUDDER_SLOTS_4(v) >> 16 >> 16)
+
 #define QUILTRUDDER_FAULT_WIDTH 3 /* faults, table 14: number, from, to */
 #define QUILTRUDDER_REPORT_WIDTH 2 /* report: kind (1 rule, 2 token), row */
 
@@ -91,7 +102,8 @@ extern "C" {
 #define QUILTRUDDER_TOO_LONG 41 /* more than QUILTRUDDER_SOURCE_BYTES */
 #define QUILTRUDDER_NO_ROOM 42 /* a lent table is full */
 #define QUILTRUDDER_BAD_KIND 43 /* no such kind */
-#define QUILTRUDDER_UNSOUND 44 /* numbers and tables that are no reading of this source */
+#define QUILTRUDDER_UNSOUND 44 /* numbers, tables and indexes that are no reading of this source */
+#define QUILTRUDDER_BAD_INDEX 45 /* an index whose size is no power of two, or below twice the rows that its table has room for */
 
 /* In a reading: the ten counts of tables 1 to 10, and then the singles. Each single is led by its flag: 0 absent, its numbers zero; 1 given. */
 #define QUILTRUDDER_COUNTS 4
@@ -106,12 +118,13 @@ extern "C" {
 #define QUILTRUDDER_COUNT_LOW 4
 #define QUILTRUDDER_COUNT_HIGH 5
 
-/* Reads a source of kind 1, 2 or 3 into the lent tables, whatever they held.
+/* Reads a source of kind 1, 2 or 3 into the lent tables and indexes, whatever they held. `i1` is the index of table 1 and `i7` that of table 7: slots by which a name is
+ * found, each 0 or a row number plus one.
  *
  * Number 0: accepted, and the place is the end reached, twice. 20 to 27: all of it was read and something was given twice; the place is the
- * first one's, table 10 lists the repeats, and the tables hold the full reading. 1 to 19, 40, 41, 43: refused at the place. 42: the table that
- * is named has no room for the row at the place. After a refusal but 20 to 27, tables 1 to 9 and their counts are zero and the singles absent,
- * and repeats met before stay listed. */
+ * first one's, table 10 lists the repeats, and the tables hold the full reading. 1 to 19, 40, 41, 43, 45: refused at the place. 42: the table
+ * that is named has no room for the row at the place. After a refusal but 20 to 27, tables 1 to 9, both indexes and the counts of 1 to 9 are zero and the singles
+ * absent, and repeats met before stay listed. */
 void quiltrudder_read(
     const uint8_t *src, size_t src_length,
     uint32_t kind,
@@ -125,11 +138,13 @@ void quiltrudder_read(
     uint32_t *t8, size_t t8_length,
     uint32_t *t9, size_t t9_length,
     uint32_t *t10, size_t t10_length,
+    uint32_t *i1, size_t i1_length,
+    uint32_t *i7, size_t i7_length,
     uint32_t answer[QUILTRUDDER_READING_CELLS]);
 
-/* The functions below take a reading: the numbers that quiltrudder_read wrote, and the tables as it left them. Of the numbers they look at the
- * counts and the singles only; a flag of 0 is absent, any other is given. They test first whether these are sound, so numbers and tables made
- * by hand are safe too: where they are not sound, number 44, or for a name an empty place. They change nothing lent but what is named. */
+/* The functions below take a reading: the numbers that quiltrudder_read wrote, and the tables and indexes as it left them. Of the numbers they look at the
+ * counts and the singles only; a flag of 0 is absent, any other is given. They test first whether these are sound, so numbers, tables and indexes
+ * made by hand are safe too: where they are not sound, number 44, or for a name an empty place. They change nothing lent but what is named. */
 
 /* Whether a reading is valid, or the first that it lacks: number 0, 30 to 35 or 44, with its place. The fourth number is 0. */
 void quiltrudder_validate(
@@ -145,6 +160,8 @@ void quiltrudder_validate(
     const uint32_t *t8, size_t t8_length,
     const uint32_t *t9, size_t t9_length,
     const uint32_t *t10, size_t t10_length,
+    const uint32_t *i1, size_t i1_length,
+    const uint32_t *i7, size_t i7_length,
     uint32_t answer[QUILTRUDDER_VALIDITY_CELLS]);
 
 /* Every fault of a reading, into `t14`: rows of number, from and to, one for each test of validate that fails, in the order of the tests; the cells
@@ -168,6 +185,8 @@ void quiltrudder_faults(
     const uint32_t *t8, size_t t8_length,
     const uint32_t *t9, size_t t9_length,
     const uint32_t *t10, size_t t10_length,
+    const uint32_t *i1, size_t i1_length,
+    const uint32_t *i7, size_t i7_length,
     uint32_t *t14, size_t t14_length,
     uint32_t answer[QUILTRUDDER_FAULTS_CELLS]);
 
@@ -191,6 +210,8 @@ void quiltrudder_report(
     const uint32_t *t8, size_t t8_length,
     const uint32_t *t9, size_t t9_length,
     const uint32_t *t10, size_t t10_length,
+    const uint32_t *i1, size_t i1_length,
+    const uint32_t *i7, size_t i7_length,
     uint32_t *work, size_t work_length,
     uint32_t *out, size_t out_length,
     uint32_t answer[QUILTRUDDER_LISTING_CELLS]);
@@ -210,6 +231,8 @@ void quiltrudder_name(
     const uint32_t *t8, size_t t8_length,
     const uint32_t *t9, size_t t9_length,
     const uint32_t *t10, size_t t10_length,
+    const uint32_t *i1, size_t i1_length,
+    const uint32_t *i7, size_t i7_length,
     uint32_t table,
     uint32_t row,
     uint32_t answer[QUILTRUDDER_PLACE_CELLS]);
@@ -231,6 +254,8 @@ void quiltrudder_epp_value(
     const uint32_t *t8, size_t t8_length,
     const uint32_t *t9, size_t t9_length,
     const uint32_t *t10, size_t t10_length,
+    const uint32_t *i1, size_t i1_length,
+    const uint32_t *i7, size_t i7_length,
     uint32_t row,
     uint8_t *out, size_t out_length,
     uint32_t answer[QUILTRUDDER_VALUATION_CELLS]);

@@ -1,3 +1,4 @@
 pub mod Laws
 pub mod Far
 pub mod Levels
+pub mod Spares

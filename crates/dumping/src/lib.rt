@@ -34,6 +34,8 @@ type Cells9 = [u32; 98304];
 
 type Cells10 = [u32; 163840];
 
+type Slots = [u32; 65536];
+
 type Words = [u32; 1370];
 
 type Report = [u32; 98304];
@@ -628,6 +630,8 @@ fn put_value(
     t8: &[u32],
     t9: &[u32],
     t10: &[u32],
+    i1: &[u32],
+    i7: &[u32],
     row: u32,
     value: &mut [u8],
 ) -> usize {
@@ -645,6 +649,8 @@ fn put_value(
         t8,
         t9,
         t10,
+        i1,
+        i7,
         row,
         value,
     );
@@ -667,6 +673,8 @@ fn put_epp(
     t8: &[u32],
     t9: &[u32],
     t10: &[u32],
+    i1: &[u32],
+    i7: &[u32],
     row: u32,
     value: &mut [u8],
 ) -> usize {
@@ -689,6 +697,8 @@ fn put_epp(
         t8,
         t9,
         t10,
+        i1,
+        i7,
         row,
         &mut value[..n],
     )
@@ -710,6 +720,8 @@ fn put_epps(
     t8: &[u32],
     t9: &[u32],
     t10: &[u32],
+    i1: &[u32],
+    i7: &[u32],
     value: &mut [u8],
 ) -> usize {
     let n = sound::rows_of(c, tables::EPPS);
@@ -732,6 +744,8 @@ fn put_epps(
             t8,
             t9,
             t10,
+            i1,
+            i7,
             row,
             value,
         );
@@ -796,6 +810,8 @@ fn put_tables(
     t8: &[u32],
     t9: &[u32],
     t10: &[u32],
+    i1: &[u32],
+    i7: &[u32],
     value: &mut [u8],
 ) -> usize {
     let p = put_first(o, at, src, c, t1, t2, t3, t4);
@@ -815,6 +831,8 @@ fn put_tables(
         t8,
         t9,
         t10,
+        i1,
+        i7,
         value,
     );
     let r = put_last(o, q, src, c, t6, t7, t8, t9);
@@ -855,9 +873,28 @@ fn put_faults(
     t8: &[u32],
     t9: &[u32],
     t10: &[u32],
+    i1: &[u32],
+    i7: &[u32],
     t14: &mut [u32],
 ) -> usize {
-    let l = quiltrudder::faults(src, c, g, t1, t2, t3, t4, t5, t6, t7, t8, t9, t10, t14);
+    let l = quiltrudder::faults(
+        src,
+        c,
+        g,
+        t1,
+        t2,
+        t3,
+        t4,
+        t5,
+        t6,
+        t7,
+        t8,
+        t9,
+        t10,
+        i1,
+        i7,
+        t14,
+    );
     let told = numbers::of_fault_listing(l);
     if told.number != 0 {
         return put_answer(o, at, b"faults", told);
@@ -947,6 +984,8 @@ fn put_report(
     t8: &[u32],
     t9: &[u32],
     t10: &[u32],
+    i1: &[u32],
+    i7: &[u32],
     work: &mut [u32],
     out: &mut [u32],
 ) -> usize {
@@ -964,6 +1003,8 @@ fn put_report(
         t8,
         t9,
         t10,
+        i1,
+        i7,
         work,
         out,
     );
@@ -1011,6 +1052,8 @@ fn put_valid(
     t8: &[u32],
     t9: &[u32],
     t10: &[u32],
+    i1: &[u32],
+    i7: &[u32],
     work: &mut [u32],
     out: &mut [u32],
 ) -> usize {
@@ -1032,6 +1075,8 @@ fn put_valid(
         t8,
         t9,
         t10,
+        i1,
+        i7,
         &mut work[..n],
         &mut out[..m],
     )
@@ -1054,10 +1099,12 @@ fn put_validity(
     t8: &[u32],
     t9: &[u32],
     t10: &[u32],
+    i1: &[u32],
+    i7: &[u32],
     work: &mut [u32],
     out: &mut [u32],
 ) -> usize {
-    let v = quiltrudder::validate(src, c, g, t1, t2, t3, t4, t5, t6, t7, t8, t9, t10);
+    let v = quiltrudder::validate(src, c, g, t1, t2, t3, t4, t5, t6, t7, t8, t9, t10, i1, i7);
     let told = numbers::of_validity(v);
     let p = put_answer(o, at, b"validate", told);
     let q = put_faults(
@@ -1076,6 +1123,8 @@ fn put_validity(
         t8,
         t9,
         t10,
+        i1,
+        i7,
         out,
     );
     if told.number != 0 {
@@ -1097,6 +1146,8 @@ fn put_validity(
         t8,
         t9,
         t10,
+        i1,
+        i7,
         work,
         out,
     )
@@ -1121,6 +1172,8 @@ fn put_ended(
     t8: &[u32],
     t9: &[u32],
     t10: &[u32],
+    i1: &[u32],
+    i7: &[u32],
     work: &mut [u32],
     out: &mut [u32],
     value: &mut [u8],
@@ -1141,6 +1194,8 @@ fn put_ended(
         t8,
         t9,
         t10,
+        i1,
+        i7,
         value,
     );
     let q = put_singles(o, p, src, g);
@@ -1160,6 +1215,8 @@ fn put_ended(
         t8,
         t9,
         t10,
+        i1,
+        i7,
         work,
         out,
     )
@@ -1182,6 +1239,8 @@ fn put_outcome(
     t8: &[u32],
     t9: &[u32],
     t10: &[u32],
+    i1: &[u32],
+    i7: &[u32],
     work: &mut [u32],
     out: &mut [u32],
     value: &mut [u8],
@@ -1207,6 +1266,8 @@ fn put_outcome(
         t8,
         t9,
         t10,
+        i1,
+        i7,
         work,
         out,
         value,
@@ -1228,11 +1289,13 @@ fn dump(
     t8: &mut [u32],
     t9: &mut [u32],
     t10: &mut [u32],
+    i1: &mut [u32],
+    i7: &mut [u32],
     work: &mut [u32],
     out: &mut [u32],
     value: &mut [u8],
 ) -> usize {
-    let r = quiltrudder::read(src, kind, t1, t2, t3, t4, t5, t6, t7, t8, t9, t10);
+    let r = quiltrudder::read(src, kind, t1, t2, t3, t4, t5, t6, t7, t8, t9, t10, i1, i7);
     let v = r.answer;
     let c = r.counts;
     let g = r.singles;
@@ -1253,6 +1316,8 @@ fn dump(
         t8,
         t9,
         t10,
+        i1,
+        i7,
         work,
         out,
         value,
@@ -1281,6 +1346,18 @@ fn cells(t: &[u32], wide: u32, rooms: Rooms, k: usize, size: u32) -> usize
     up_to((rows as usize) * (wide as usize), t)
 }
 
+// As many slots of an index as are to be lent with `n` cells of its table: the first power of two that is twice the rows or more, as far as the index goes.
+fn slots(ix: &[u32], n: usize, wide: u32) -> usize
+    ensures { λ r. ⌜ Leading r (now (ix .entry)) ⌝ }
+{
+    let rows = if wide == 0 { 0 } else { n / (wide as usize) };
+    let mut m = 1;
+    while m < 65536 && m / 2 < rows {
+        m *= 2;
+    }
+    up_to(m, ix)
+}
+
 // The text of the input whose bytes stand in `text`, as far as they fit there.
 fn dump_lent(
     o: &mut [u8],
@@ -1299,6 +1376,8 @@ fn dump_lent(
     t8: &mut [u32],
     t9: &mut [u32],
     t10: &mut [u32],
+    i1: &mut [u32],
+    i7: &mut [u32],
     work: &mut [u32],
     out: &mut [u32],
     value: &mut [u8],
@@ -1314,6 +1393,8 @@ fn dump_lent(
     let n8 = cells(t8, tables::PRODUCTION_WIDTH, rooms, 7, size);
     let n9 = cells(t9, tables::SYMBOL_WIDTH, rooms, 8, size);
     let n10 = cells(t10, tables::REPEAT_WIDTH, rooms, 9, size);
+    let m1 = slots(i1, n1, tables::TOKEN_WIDTH);
+    let m7 = slots(i7, n7, tables::RULE_WIDTH);
     dump(
         o,
         at,
@@ -1329,6 +1410,8 @@ fn dump_lent(
         &mut t8[..n8],
         &mut t9[..n9],
         &mut t10[..n10],
+        &mut i1[..m1],
+        &mut i7[..m7],
         work,
         out,
         value,
@@ -1360,6 +1443,8 @@ fn dump_next(
     t8: &mut Cells8,
     t9: &mut Cells9,
     t10: &mut Cells10,
+    i1: &mut Slots,
+    i7: &mut Slots,
     work: &mut Words,
     out: &mut Report,
     value: &mut Bytes,
@@ -1392,6 +1477,8 @@ fn dump_next(
         t8,
         t9,
         t10,
+        i1,
+        i7,
         work,
         out,
         value,
@@ -1420,6 +1507,8 @@ fn dump_all(
     t8: &mut Cells8,
     t9: &mut Cells9,
     t10: &mut Cells10,
+    i1: &mut Slots,
+    i7: &mut Slots,
     work: &mut Words,
     out: &mut Report,
     value: &mut Bytes,
@@ -1448,6 +1537,8 @@ fn dump_all(
             t8,
             t9,
             t10,
+            i1,
+            i7,
             work,
             out,
             value,
@@ -1477,6 +1568,8 @@ pub fn dump_input() {
     let mut t8 = [0u32; 425984];
     let mut t9 = [0u32; 98304];
     let mut t10 = [0u32; 163840];
+    let mut i1 = [0u32; 65536];
+    let mut i7 = [0u32; 65536];
     let mut work = [0u32; 1370];
     let mut out = [0u32; 98304];
     let mut rows = [0u32; 10];
@@ -1497,6 +1590,8 @@ pub fn dump_input() {
         &mut t8,
         &mut t9,
         &mut t10,
+        &mut i1,
+        &mut i7,
         &mut work,
         &mut out,
         &mut value,

@@ -17,7 +17,7 @@ use Rattle.grammar.specs.declared.Part.{Part}
 use Rattle.grammar.specs.declared.Singles.{Singles}
 use Rattle.grammar.specs.declared.State.{State}
 use Rattle.grammar.specs.State.{Passed, count, withAt, withLevel, withCount, withSingles, withActiontype, fresh}
-use Rattle.grammar.specs.Sound.{Tables, listOf, tab, setTab, zeroAll, View, each, pairs, Table, Lies, Lie, soundView, Sound, view, Far, TokenRow, PrecRow, ProductionRow}
+use Rattle.grammar.specs.Sound.{Indexes, SoundIndexes, Tables, listOf, tab, setTab, zeroAll, View, each, pairs, Table, Lies, Lie, soundView, Sound, view, Far, TokenRow, PrecRow, ProductionRow}
 
 -- table k alone is changed
 set-list : (T : Tables) (k : ℕ) (x : List ℕ) → listOf (setTab T k x) ≡ set (listOf T) k x
@@ -120,20 +120,20 @@ module _ {src : List ℕ} {done : ℕ} {s : State} {T : Tables} (f : Far src don
         replaced done (omega arith) (rw (other productions (λ e. d (sym e)), tab-other T k productions x (λ e. d (sym e))) (f .ranges)) R
 
   -- a row is added to a table that is not table 8,
-  pub far-add : (k : ℕ) → k < 10 → (k ≡ productions → ⊥) → (row : List ℕ) → length row ≡ width k → count s k * width k + width k ≤ length (tab T k)
+  pub far-add : (k : ℕ) → k < 10 → (k ≡ productions → ⊥) → (row : List ℕ) → length row ≡ width k → count s k * width k + width k ≤ length (tab T k) → count s k < 4294967295
       → each src (view s) k row → ((r : ℕ) → r < count s k → pairs src k (rowAt (width k) (tab T k) r) row)
       → Far src done (withCount s k (count s k + 1)) (setTab T k (put (tab T k) (count s k * width k) row))
-  far-add k b d row wide room p q = far-table k b (count s k + 1) (omega arith) _ d (rows-add (width k) (count s k) row (tab T k) wide room (f .tables k) p q)
+  far-add k b d row wide room small p q = far-table k b (count s k + 1) (omega arith) _ d (rows-add (width k) (count s k) row (tab T k) wide room small (f .tables k) p q)
 
   -- and to table 8, where the range of the new row takes the symbols behind those before.
-  pub far-production : (row : List ℕ) → length row ≡ width productions → count s productions * width productions + width productions ≤ length (tab T productions)
+  pub far-production : (row : List ℕ) → length row ≡ width productions → count s productions * width productions + width productions ≤ length (tab T productions) → count s productions < 4294967295
       → each src (view s) productions row → getD row symbolsFrom 0 ≡ done → getD row symbolsTo 0 ≡ count s symbols
       → Far src (count s symbols) (withCount s productions (count s productions + 1)) (setTab T productions (put (tab T productions) (count s productions * width productions) row))
-  far-production row wide room p a z =
+  far-production row wide room small p a z =
       replaced productions (omega arith) (count s productions + 1) (omega arith) _ (count s symbols) (rw (other productions (omega arith) (count s productions + 1) (omega arith) [] symbols (λ e. omega arith)) (omega arith))
       (rw (same productions (omega arith) (count s productions + 1) (omega arith) [], add-one (count s productions))
       (rw z at (chain-add (width productions) (count s productions) row (tab T productions) wide room symbolsFrom symbolsTo done (f .ranges) a (let l = f .since in omega arith))))
-      (rows-add (width productions) (count s productions) row (tab T productions) wide room (f .tables productions) p (λ r l. tt))
+      (rows-add (width productions) (count s productions) row (tab T productions) wide room small (f .tables productions) p (λ r l. tt))
 
 -- A reading begins sound so far, on tables of zeros;
 pub fresh-far : (src : List ℕ) (T : Tables) → length src ≤ 65536 → Far src 0 fresh (zeroAll T)
@@ -165,14 +165,16 @@ fresh-far src T h =
     none (suc (suc (suc (suc (suc (suc (suc (suc (suc (suc k)))))))))) = rows-zeroed _ []
 
 -- and where no symbol is left behind the last range, it is sound.
-pub far-sound : (src : List ℕ) (s : State) (T : Tables) → Far src (count s symbols) s T → Sound src (s .counts) (s .singles) T
-far-sound src s T f =
+pub far-sound : (src : List ℕ) (s : State) (T : Tables) (X : Indexes) → Far src (count s symbols) s T → SoundIndexes src (s .counts) T X → Sound src (s .counts) (s .singles) T X
+far-sound src s T X f i =
     record {
       short = f .short;
       fits = λ k b. f .tables k .fits;
+      low = λ k b. f .tables k .low;
       clean = λ k b. f .tables k .clean;
       rows = λ k r b l. each-up src (record { low = λ n h. tt; whole = λ _ a b c. tt; rules = omega arith; symbols = omega arith }) k _ (f .tables k .each r l);
       singles = f .singles;
       ranges = f .ranges;
       names = λ k q r b l h. f .tables k .pairs q r l h;
+      indexes = i;
     }

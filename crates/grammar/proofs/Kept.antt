@@ -89,7 +89,7 @@ module _ {src : List ℕ} {done : ℕ} {s : State} {T : Tables} (f : Far src don
   unfolding pushRow
   push-held k h d row wide p q =
       add-cases (λ (o : Added). Held src done T k s (pushed (o .ok) s k row (o .cells))) (count s k) row (tab T k)
-      (λ room low. record { far = rw wide (far-add f k h d row wide (rw wide at room) p q); stays = refl; level = refl })
+      (λ room low. record { far = rw wide (far-add f k h d row wide (rw wide at room) low p q); stays = refl; level = refl })
       (λ full. record { far = rw (set-tab T k) f; stays = refl; level = refl })
 
   -- a repeat listed,
@@ -115,7 +115,7 @@ module _ {src : List ℕ} {done : ℕ} {s : State} {T : Tables} (f : Far src don
   enter-held a b d p =
       enter-cases (λ (o : Inserted). Held src done T tokens s (entered (o .entered) s (tokenCells a b (flag d)) (o .cells))) src (count s tokens) a b d (T .t1)
       (λ r l e. record { far = far-table f tokens (omega arith) (count s tokens) (omega arith) (marked d r (T .t1)) (λ z. omega arith) (marked-rows d r l); stays = refl; level = refl })
-      (λ none room low. record { far = far-add f tokens (omega arith) (λ z. omega arith) (tokenCells a b (flag d)) refl room (record { name = p; flag = flag-low d }) (λ r l. new-name a b d r (none r l)); stays = refl; level = refl })
+      (λ none room low. record { far = far-add f tokens (omega arith) (λ z. omega arith) (tokenCells a b (flag d)) refl room low (record { name = p; flag = flag-low d }) (λ r l. new-name a b d r (none r l)); stays = refl; level = refl })
       (λ none full. record { far = f; stays = refl; level = refl })
 
   -- what may be given once to a name,

@@ -3,3 +3,4 @@ pub mod Far
 pub mod Repeats
 pub mod Kept
 pub mod Touch
+pub mod Spares

@@ -1,14 +1,16 @@
 -- The small steps: counts, spacing with its refusal, a row more. One law for each answer. Assumes nothing.
 use Prim.Native.Nat.{ℕ, _+_, _≤_, _<_}
-use mathlib.Core.Path.{_≡_, sym, ap}
+use mathlib.Core.Path.{_≡_, sym, ap, _∙_}
 use mathlib.Core.List.{List, [], _∷_}
 use mathlib.Core.Bool.{Bool, true, false, _&&_, not}
 use lib.Dec.{eqb}
 use native.Mathlib.Omega.{arith}
 use mir.Syntax.{w32}
 use mir.Val.{Fits}
-use lib.ListN.{length, getD, List·getD-eq-default}
-use lib.Seq.{set-out}
+use lib.ListN.{length, length-set, getD, List·getD-eq-default}
+use lib.Seq.{set-out, getD-set-same}
+use Rattle.index.proofs.Laws.{row-new, row-full}
+use Rattle.index.specs.Index.{Indexed, enterRow, rowsNow}
 use borrow.Author.Tests.{lt-ltb, le-ltb}
 use Rattle.spacing.specs.declared.Spaced.{Spaced}
 use Rattle.spacing.specs.declared.Spaced.the-variants.{To, LineEnd, OpenComment}
@@ -28,7 +30,7 @@ use Rattle.grammar.specs.declared.Refusal.the-variants.{Fault}
 use Rattle.grammar.specs.declared.Repeat.{Repeat}
 use Rattle.grammar.specs.declared.Gap.{Gap}
 use Rattle.grammar.specs.declared.Gap.the-variants.{GapTo, GapRefused}
-use Rattle.grammar.specs.State.{count, withCount, noRoom, Here, gapOf, gapAt, Gapped, pushRow, enterStep, nextLevel, withAt, Out0, Out1, Out2, pastGap, passOn, tied1, tied2, behind1, behind2, Onward, Moves, listRepeat, first2, second2, onceStep, Passed}
+use Rattle.grammar.specs.State.{count, withCount, noRoom, Here, gapOf, gapAt, Gapped, pushRow, enterStep, nextLevel, withAt, Out0, Out1, Out2, pastGap, passOn, tied1, tied2, behind1, behind2, Onward, Moves, listRepeat, first2, second2, onceStep, Passed, Tokens, Tracked, Enters}
 
 -- past the tenth table there is nothing to count
 module _ (s : State) (k : ℕ) (ten : length (s .counts .n) ≡ 10) (h : 10 ≤ k) where
@@ -72,11 +74,34 @@ module _ (s : State) (k n : ℕ) (row t cells : List ℕ) (q : Bool) (c : n ≡ 
   unfolding pushRow
   push-full f h w = rw (← c, ← e, h, w)
 
+-- and its index follows
+module _ (src : List ℕ) (s : State) (k w name n : ℕ) (row t cells ix : List ℕ) (q : Bool) (c : n ≡ count s k) (e : record { ok = q; cells = cells } ≡ addRow n row t) (x : Enters k w name row) (I : Tracked src k w name (s .counts) t ix) where
+  pub push-tracked : (next : State) → q ≡ true → next ≡ withCount s k (n + 1) → (jx : List ℕ) → jx ≡ enterRow src w name cells n ix → Tracked src k w name (next .counts) cells jx
+  push-tracked next h f jx g =
+      let b : k < length (s .counts .n) = rw (I .ten) (let l = x .table in omega arith) in
+      rw f
+      (record {
+        ten = length-set (s .counts .n) k (n + 1) ∙ I .ten;
+        index = rw (getD-set-same (s .counts .n) k (n + 1) 0 b) (row-new src w name n t ix (rw c (I .index)) row (x .wide) q cells e (x .named) h jx g);
+      })
+
+  pub push-untracked : q ≡ false → Tracked src k w name (s .counts) cells ix
+  push-untracked h = record { ten = I .ten; index = rw (← c) (row-full src w name n t ix (rw c (I .index)) row (x .wide) q cells e h) }
+
 -- a token entered
 module _ (src : List ℕ) (s : State) (a b n : ℕ) (d : Bool) (t cells : List ℕ) (o : Entered) (c : n ≡ count s 0) (e : record { entered = o; cells = cells } ≡ enterToken src n a b d t) where
   pub enter-rows : (m : ℕ) (next : State) → o ≡ Rows m → next ≡ withCount s 0 m → record { answer = Going; state = next; a = cells } ≡ enterStep src s a b d t
   unfolding enterStep
   enter-rows m next h w = rw (← c, ← e, h, w)
+
+  -- and the index follows
+  pub enter-tracked : length (s .counts .n) ≡ 10 → (m : ℕ) (next : State) → o ≡ Rows m → next ≡ withCount s 0 m → (ix : List ℕ) → Indexed src 3 0 (rowsNow n o) cells ix → Tokens src (next .counts) cells ix
+  enter-tracked ten m next h w ix I =
+      let k : count (withCount s 0 m) 0 ≡ m = getD-set-same (s .counts .n) 0 m 0 (rw ten (omega arith)) in
+      rw w (record { ten = length-set (s .counts .n) 0 m ∙ ten; index = rw k (rw h at I) })
+
+  pub full-tracked : length (s .counts .n) ≡ 10 → o ≡ Full → (ix : List ℕ) → Indexed src 3 0 (rowsNow n o) cells ix → Tokens src (s .counts) cells ix
+  full-tracked ten h ix I = record { ten = ten; index = rw (← c) (rw h at I) }
 
   pub enter-full : (f : Refusal) → o ≡ Full → f ≡ noRoom tokens (a ∷ b ∷ 0 ∷ []) → record { answer = Refused f; state = s; a = cells } ≡ enterStep src s a b d t
   unfolding enterStep

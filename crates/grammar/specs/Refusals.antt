@@ -6,7 +6,7 @@ use lib.Dec.{eqb}
 use Rattle.grammar.specs.declared.Cause.{Cause}
 use Rattle.grammar.specs.declared.Cause.the-variants.{IntegerEmpty, IntegerTooLarge, IllegalName, IllegalString, IncompleteRule, IncompleteComment, IncompleteAction, MissingColon, MissingRightArrow, NonEmptyProduction, PrematureEnd, NotTerminated, UnknownDeclaration, ReachedEol, ReachedEnd, StringNotOpened, StringLineEnd, StringEscape, StringNotClosed, UnknownSymbol, NotUtf8}
 use Rattle.grammar.specs.declared.Refusal.{Refusal}
-use Rattle.grammar.specs.declared.Refusal.the-variants.{Fault, Repeated, NoRoom, TooLong, BadKind}
+use Rattle.grammar.specs.declared.Refusal.the-variants.{Fault, Repeated, NoRoom, TooLong, BadKind, BadIndex}
 use Rattle.grammar.specs.declared.Repeat.{Repeat}
 use Rattle.grammar.specs.declared.Repeat.the-variants.{RepeatedPrecedence, RepeatedAvoidInsert, RepeatedImplicitTokens, RepeatedExpect, RepeatedExpectRr, RepeatedStart, RepeatedActiontype, RepeatedEpp}
 use Rattle.grammar.specs.declared.Told.{Told}
@@ -59,13 +59,14 @@ ofNumber n (what ∷ rest) = elim (eqb n (numberOfRepeat what)) [ true ↦ what 
 unfoldable pub repeatOf : ℕ → Repeat
 repeatOf n = ofNumber n repeatsInOrder
 
--- "41 too long", "42 no room", "43 bad kind"
+-- "41 too long", "42 no room", "43 bad kind", and document 02's "45, index not a power of two or below twice the rows its table has room for"
 abbrev pub numberOf : Refusal → ℕ
 numberOf (Fault c i) = numberOfCause c
 numberOf (Repeated what a b) = numberOfRepeat what
 numberOf (NoRoom t a b) = 42
 numberOf TooLong = 41
 numberOf BadKind = 43
+numberOf BadIndex = 45
 
 -- where the place begins, and where it ends: "a single offset stands twice"; "41 too long, 43 bad kind: 0..0"
 abbrev pub fromOf : Refusal → ℕ
@@ -74,6 +75,7 @@ fromOf (Repeated what a b) = a
 fromOf (NoRoom t a b) = a
 fromOf TooLong = 0
 fromOf BadKind = 0
+fromOf BadIndex = 0
 
 abbrev pub toOf : Refusal → ℕ
 toOf (Fault c i) = i
@@ -81,6 +83,7 @@ toOf (Repeated what a b) = b
 toOf (NoRoom t a b) = b
 toOf TooLong = 0
 toOf BadKind = 0
+toOf BadIndex = 0
 
 -- "table number (0 unless 42)"
 abbrev pub tableOf : Refusal → ℕ
@@ -89,6 +92,7 @@ tableOf (Repeated what a b) = 0
 tableOf (NoRoom t a b) = t
 tableOf TooLong = 0
 tableOf BadKind = 0
+tableOf BadIndex = 0
 
 abbrev pub told : Refusal → Told
 told f = record { number = numberOf f; from = fromOf f; to = toOf f; table = tableOf f }

@@ -9,7 +9,8 @@ use Rattle.words.specs.declared.Quote.the-variants.{Closed}
 use Rattle.words.specs.Strings.{stringAt}
 use Rattle.tables.specs.Table.{samePart, zeroed}
 use Rattle.tables.specs.Rows.{Clean, rowAt, Rows, Chained}
-use Rattle.tables.specs.Layout.{precedences, rules, productions, symbols, declared, level, association, keyName, value, typed, ruleRow, place, symbolsFrom, symbolsTo, prec, action, kindName, width}
+use Rattle.index.specs.Index.{Indexed, Sized}
+use Rattle.tables.specs.Layout.{tokens, precedences, rules, productions, symbols, declared, level, association, keyName, value, typed, ruleRow, place, symbolsFrom, symbolsTo, prec, action, kindName, width}
 use Rattle.grammar.specs.declared.Part.{Part}
 use Rattle.grammar.specs.declared.Part.the-variants.{Absent, At}
 use Rattle.grammar.specs.declared.Expect.{Expect}
@@ -48,6 +49,18 @@ setTab T k x = ofList (set (listOf T) k x)
 
 abbrev pub zeroAll : Tables → Tables
 zeroAll T = record { t1 = zeroed (T .t1); t2 = zeroed (T .t2); t3 = zeroed (T .t3); t4 = zeroed (T .t4); t5 = zeroed (T .t5); t6 = zeroed (T .t6); t7 = zeroed (T .t7); t8 = zeroed (T .t8); t9 = zeroed (T .t9); t10 = zeroed (T .t10) }
+
+-- document 02, request Three: "a lent index for tokens and one for rules"
+pub record Indexes : Type 0 where
+  pub tokens : List ℕ
+  pub rules : List ℕ
+
+-- the indexes have right sizes, and hold the names of tables 1 and 7
+pub record SoundIndexes (src : List ℕ) (c : Counts) (T : Tables) (X : Indexes) : Type 0 where
+  pub token-size : Sized (length (X .tokens)) (length (T .t1)) (width tokens)
+  pub rule-size : Sized (length (X .rules)) (length (T .t7)) (width rules)
+  pub tokens : Indexed src (width tokens) 0 (getD (c .n) tokens 0) (T .t1) (X .tokens)
+  pub rules : Indexed src (width rules) 0 (getD (c .n) rules 0) (T .t7) (X .rules)
 
 -- "0 undeclared or absent (its cells zero), else 1": a flag and a place
 abbrev pub Given : List ℕ → ℕ → ℕ → ℕ → Type 0
@@ -152,11 +165,12 @@ abbrev pub soundView : Counts → View
 soundView c = record { low = λ n. Unit; whole = λ src a b. Unit; rules = getD (c .n) rules 0; symbols = getD (c .n) symbols 0 }
 
 -- "Tables are sound when"
-pub record Sound (src : List ℕ) (c : Counts) (g : Singles) (T : Tables) : Type 0 where
+pub record Sound (src : List ℕ) (c : Counts) (g : Singles) (T : Tables) (X : Indexes) : Type 0 where
   -- "the source has at most 65,536 bytes"
   pub short : length src ≤ 65536
   -- "counts fit"
   pub fits : (k : ℕ) → k < 10 → getD (c .n) k 0 * width k ≤ length (tab T k)
+  pub low : (k : ℕ) → k < 10 → getD (c .n) k 0 ≤ 4294967295
   -- "cells past them are zero"
   pub clean : (k : ℕ) → k < 10 → Clean (width k) (getD (c .n) k 0) (tab T k)
   -- "each place [..] has from ≤ to ≤ source length, kinds and flags are listed values, row numbers lie inside counts"
@@ -167,6 +181,8 @@ pub record Sound (src : List ℕ) (c : Counts) (g : Singles) (T : Tables) : Type
   pub ranges : Chained (width productions) symbolsFrom symbolsTo (getD (c .n) productions 0) (T .t8) (getD (c .n) symbols 0)
   -- "names in 1 and in 7 are pairwise different"
   pub names : (k q r : ℕ) → k < 10 → q < r → r < getD (c .n) k 0 → pairs src k (rowAt (width k) (tab T k) q) (rowAt (width k) (tab T k) r)
+  -- document 02, request Three: "soundness (44) now includes this and the size"
+  pub indexes : SoundIndexes src c T X
 
 -- levels that were given are below the next one, and values are strings
 abbrev pub view : State → View

@@ -7,7 +7,7 @@ ghost use mathlib.Core.List.{List, [], _∷_};
 ghost use lib.ListN.{length};
 ghost use Rattle.grammar.specs.Refusals.{numberOfCause, numberOfRepeat, repeatOf, told};
 ghost use Rattle.grammar.specs.Numbers.{partNumbers};
-ghost use Rattle.grammar.specs.State.{count, withCount, noRoom, Out1, Here, gapAt, Gapped, pushRow, listRepeat, enterStep, nextLevel, Out0, Out2, Onward, pastGap, passOn, onceStep};
+ghost use Rattle.grammar.specs.State.{count, withCount, noRoom, Out1, Here, gapAt, Gapped, pushRow, listRepeat, enterStep, nextLevel, Out0, Out2, Onward, pastGap, passOn, onceStep, Tokens, Tracked, Enters};
 
 // The rows of tables 1 to 10.
 pub struct Counts {
@@ -85,6 +85,8 @@ pub enum Refusal {
     NoRoom(u32, u32, u32),
     TooLong,
     BadKind,
+    // An index that is no power of two of slots, or too small for its table.
+    BadIndex,
 }
 
 // A refusal in document 01's numbers.
@@ -183,6 +185,12 @@ pub fn tell(f: Refusal) -> Told
         },
         Refusal::BadKind => Told {
             number: 43,
+            from: 0,
+            to: 0,
+            table: 0,
+        },
+        Refusal::BadIndex => Told {
+            number: 45,
             from: 0,
             to: 0,
             table: 0,
@@ -301,6 +309,37 @@ pub fn push(s: State, k: u8, row: &[u32], t: &mut [u32]) -> Step
     }
 }
 
+// The same, and the new row is entered into the table's index.
+pub fn push_entered(
+    src: &[u8],
+    s: State,
+    k: u8,
+    w: u32,
+    name: u8,
+    row: &[u32],
+    t: &mut [u32],
+    ix: &mut [u32],
+) -> Step
+    requires { ⌜ Enters k w name (now row) × Tracked (now src) k w name (s .counts) (now t) (now ix) ⌝ }
+    ensures is { λ r. ⌜ _≡_ {A = Out1} (record { answer = r .answer; state = r .state; a = now (t .exit) }) (pushRow s k (now (row .entry)) (now (t .entry))) ⌝ }
+    ensures kept { λ r. ⌜ r .state .at ≡ s .at ⌝ }
+    ensures indexed { λ r. ⌜ Tracked (now (src .entry)) k w name (r .state .counts) (now (t .exit)) (now (ix .exit)) ⌝ }
+{
+    let n = count_of(s, k);
+    if tables::add_row(t, n, row) {
+        index::enter_row(src, t, w, name, n, ix);
+        Step {
+            answer: Answer::Going,
+            state: with_count(s, k, n + 1),
+        }
+    } else {
+        Step {
+            answer: Answer::Refused(no_room(k, row)),
+            state: s,
+        }
+    }
+}
+
 // A repeat of what was first at `a` to `b`, at `c` to `d`: a row of table 10.
 pub fn list_repeat(s: State, what: Repeat, a: u32, b: u32, c: u32, d: u32, t: &mut [u32]) -> Step
     ensures is { λ r. ⌜ _≡_ {A = Out1} (record { answer = r .answer; state = r .state; a = now (t .exit) }) (listRepeat s what a b c d (now (t .entry))) ⌝ }
@@ -311,12 +350,22 @@ pub fn list_repeat(s: State, what: Repeat, a: u32, b: u32, c: u32, d: u32, t: &m
 }
 
 // A token is entered into table 1.
-pub fn enter(src: &[u8], s: State, from: u32, to: u32, declared: bool, t: &mut [u32]) -> Step
+pub fn enter(
+    src: &[u8],
+    s: State,
+    from: u32,
+    to: u32,
+    declared: bool,
+    t: &mut [u32],
+    ix: &mut [u32],
+) -> Step
+    requires { ⌜ Tokens (now src) (s .counts) (now t) (now ix) ⌝ }
     ensures is { λ r. ⌜ _≡_ {A = Out1} (record { answer = r .answer; state = r .state; a = now (t .exit) }) (enterStep (now (src .entry)) s from to declared (now (t .entry))) ⌝ }
     ensures kept { λ r. ⌜ r .state .at ≡ s .at ⌝ }
+    ensures indexed { λ r. ⌜ Tokens (now (src .entry)) (r .state .counts) (now (t .exit)) (now (ix .exit)) ⌝ }
 {
     let n = count_of(s, tables::TOKENS);
-    match tables::enter_token(src, t, n, from, to, declared) {
+    match index::enter_token(src, t, n, ix, from, to, declared) {
         Entered::Rows(m) => Step {
             answer: Answer::Going,
             state: with_count(s, tables::TOKENS, m),

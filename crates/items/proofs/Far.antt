@@ -343,7 +343,7 @@ end-production-far {src} {done} {s} {T} {d} f x =
     (λ room low.
     record {
       done = count s symbols;
-      far = far-production f row refl room (record { rule = x .rule; span = x .span; precedence = given-prec src (d .prec) (x .prec); body = given-action src (d .action) (x .action) }) (x .first) refl;
+      far = far-production f row refl room low (record { rule = x .rule; span = x .span; precedence = given-prec src (d .prec) (x .prec); body = given-action src (d .action) (x .action) }) (x .first) refl;
       stays = refl;
       rules = getD-set-other (s .counts .n) productions rules (count s productions + 1) 0 (λ e. omega arith);
       whole = λ t. sym (getD-set-other (s .counts .n) productions symbols (count s productions + 1) 0 (λ e. omega arith));

@@ -3,3 +3,4 @@ pub mod Symbols
 pub mod Marks
 pub mod Turns
 pub mod Far
+pub mod Spares

@@ -15,7 +15,9 @@ use words::Token;
 ghost use mathlib.Core.Path.{_≡_};
 ghost use Prim.Native.Nat.{_≤_};
 ghost use lib.ListN.{length};
-ghost use Rattle.grammar.specs.State.{Out1, Out2, Here, Passed, Moves, Onward};
+ghost use Rattle.grammar.specs.State.{Out1, Out2, Here, Passed, Moves, Onward, Tokens};
+ghost use Rattle.tables.specs.Layout.{tokens, width};
+ghost use Rattle.index.specs.Index.{Indexed};
 ghost use Rattle.items.specs.Items.{Inside, sortAt, Spots, begun, withPrec, withAction, tokenSymbol, quotedRows, quotedItem, precName, precItem, mayEnd, afterAction, actionItem, mayFollow, emptyItem, symbolKind, bareItem, endProduction, barItem, endItem, Made0, Made1, Made2, Made3, itemStep, itemList, Itemed};
 
 // What stands at a place in a production.
@@ -145,11 +147,14 @@ pub fn token_symbol(
     to: u32,
     t1: &mut [u32],
     t9: &mut [u32],
+    i1: &mut [u32],
 ) -> Step
+    requires { ⌜ Tokens (now src) (s .counts) (now t1) (now i1) ⌝ }
     ensures is { λ r. ⌜ _≡_ {A = Out2} (record { answer = r .answer; state = r .state; a = now (t1 .exit); b = now (t9 .exit) }) (tokenSymbol (now (src .entry)) s from to (now (t1 .entry)) (now (t9 .entry))) ⌝ }
     ensures kept { λ r. ⌜ r .state .at ≡ s .at ⌝ }
+    ensures indexed { λ r. ⌜ Tokens (now (src .entry)) (r .state .counts) (now (t1 .exit)) (now (i1 .exit)) ⌝ }
 {
-    let e = grammar::enter(src, s, from, to, false, t1);
+    let e = grammar::enter(src, s, from, to, false, t1, i1);
     let a = e.answer;
     let next = e.state;
     match a {
@@ -178,16 +183,18 @@ pub fn quoted_rows(
     end: usize,
     t1: &mut [u32],
     t9: &mut [u32],
+    i1: &mut [u32],
 ) -> Drafted
-    requires { ⌜ Here (now src) end ⌝ }
+    requires { ⌜ Here (now src) end × Tokens (now src) (s .counts) (now t1) (now i1) ⌝ }
     ensures is { λ r. ⌜ _≡_ {A = Made2} (record { answer = r .answer; state = r .state; draft = r .draft; a = now (t1 .exit); b = now (t9 .exit) }) (quotedRows (now (src .entry)) s d from to end (now (t1 .entry)) (now (t9 .entry))) ⌝ }
     ensures moved { λ r. ⌜ Onward (now (src .entry)) end (s .at) (r .answer) (r .state .at) ⌝ }
+    ensures indexed { λ r. ⌜ Tokens (now (src .entry)) (r .state .counts) (now (t1 .exit)) (now (i1 .exit)) ⌝ }
 {
     match grammar::pass_gap(src, end, true) {
         Gap::GapTo(i, _) => {
             let mut n = s;
             n.at = i;
-            let r = token_symbol(src, n, from, to, t1, t9);
+            let r = token_symbol(src, n, from, to, t1, t9, i1);
             let mut made = d;
             made.to = end as u32;
             carry(r, made)
@@ -200,15 +207,23 @@ pub fn quoted_rows(
     }
 }
 
-pub fn quoted_item(src: &[u8], s: State, d: Production, t1: &mut [u32], t9: &mut [u32]) -> Drafted
-    requires { ⌜ Here (now src) (s .at) ⌝ }
+pub fn quoted_item(
+    src: &[u8],
+    s: State,
+    d: Production,
+    t1: &mut [u32],
+    t9: &mut [u32],
+    i1: &mut [u32],
+) -> Drafted
+    requires { ⌜ Here (now src) (s .at) × Tokens (now src) (s .counts) (now t1) (now i1) ⌝ }
     ensures is { λ r. ⌜ _≡_ {A = Made2} (record { answer = r .answer; state = r .state; draft = r .draft; a = now (t1 .exit); b = now (t9 .exit) }) (quotedItem (now (src .entry)) s d (now (t1 .entry)) (now (t9 .entry))) ⌝ }
     ensures moved { λ r. ⌜ Moves (now (src .entry)) (s .at) (r .answer) (r .state .at) ⌝ }
+    ensures indexed { λ r. ⌜ Tokens (now (src .entry)) (r .state .counts) (now (t1 .exit)) (now (i1 .exit)) ⌝ }
 {
     let at = s.at;
     match words::parse_token(src, at) {
         Token::Found(p, end, _) => {
-            quoted_rows(src, s, d, p.from as u32, p.to as u32, end, t1, t9)
+            quoted_rows(src, s, d, p.from as u32, p.to as u32, end, t1, t9, i1)
         }
         Token::NoToken(k) => Drafted {
             answer: Answer::Refused(Refusal::Fault(Cause::IllegalString, k as u32)),
@@ -219,17 +234,18 @@ pub fn quoted_item(src: &[u8], s: State, d: Production, t1: &mut [u32], t9: &mut
 }
 
 // The name behind `%prec` is a token and joins table 1, undeclared; a later `%prec` replaces an earlier one.
-pub fn prec_name(src: &[u8], s: State, d: Production, t1: &mut [u32]) -> Drafted
-    requires { ⌜ Here (now src) (s .at) ⌝ }
+pub fn prec_name(src: &[u8], s: State, d: Production, t1: &mut [u32], i1: &mut [u32]) -> Drafted
+    requires { ⌜ Here (now src) (s .at) × Tokens (now src) (s .counts) (now t1) (now i1) ⌝ }
     ensures is { λ r. ⌜ _≡_ {A = Made1} (record { answer = r .answer; state = r .state; draft = r .draft; a = now (t1 .exit) }) (precName (now (src .entry)) s d (now (t1 .entry))) ⌝ }
     ensures moved { λ r. ⌜ Passed (now (src .entry)) (s .at) (r .state .at) ⌝ }
+    ensures indexed { λ r. ⌜ Tokens (now (src .entry)) (r .state .counts) (now (t1 .exit)) (now (i1 .exit)) ⌝ }
 {
     let at = s.at;
     match words::parse_token(src, at) {
         Token::Found(p, end, _) => {
             let from = p.from as u32;
             let to = p.to as u32;
-            let e = grammar::enter(src, s, from, to, false, t1);
+            let e = grammar::enter(src, s, from, to, false, t1, i1);
             let q = grammar::pass_on(src, e, end, false);
             let mut made = with_prec(d, from, to);
             made.to = end as u32;
@@ -244,17 +260,18 @@ pub fn prec_name(src: &[u8], s: State, d: Production, t1: &mut [u32]) -> Drafted
 }
 
 // `%prec`, behind its keyword.
-pub fn prec_item(src: &[u8], s: State, d: Production, t1: &mut [u32]) -> Drafted
-    requires { ⌜ Here (now src) (s .at) ⌝ }
+pub fn prec_item(src: &[u8], s: State, d: Production, t1: &mut [u32], i1: &mut [u32]) -> Drafted
+    requires { ⌜ Here (now src) (s .at) × Tokens (now src) (s .counts) (now t1) (now i1) ⌝ }
     ensures is { λ r. ⌜ _≡_ {A = Made1} (record { answer = r .answer; state = r .state; draft = r .draft; a = now (t1 .exit) }) (precItem (now (src .entry)) s d (now (t1 .entry))) ⌝ }
     ensures moved { λ r. ⌜ Passed (now (src .entry)) (s .at) (r .state .at) ⌝ }
+    ensures indexed { λ r. ⌜ Tokens (now (src .entry)) (r .state .counts) (now (t1 .exit)) (now (i1 .exit)) ⌝ }
 {
     let at = s.at;
     match grammar::pass_gap(src, at, true) {
         Gap::GapTo(i, _) => {
             let mut n = s;
             n.at = i;
-            prec_name(src, n, d, t1)
+            prec_name(src, n, d, t1, i1)
         }
         Gap::GapRefused(f) => Drafted {
             answer: Answer::Refused(f),
@@ -372,10 +389,11 @@ pub fn empty_item(src: &[u8], s: State, d: Production, first: u32) -> Drafted
 }
 
 // A bare symbol is a token only if `%token` declared it, else a rule.
-pub fn symbol_kind(src: &[u8], n: u32, t1: &[u32], from: u32, to: u32) -> u32
+pub fn symbol_kind(src: &[u8], n: u32, t1: &[u32], i1: &[u32], from: u32, to: u32) -> u32
+    requires { ⌜ Indexed (now src) (width tokens) 0 n (now t1) (now i1) ⌝ }
     ensures { λ r. ⌜ r ≡ symbolKind (now (src .entry)) n (now (t1 .entry)) from to ⌝ }
 {
-    match tables::find(src, t1, tables::TOKEN_WIDTH, tables::NAME, n, from, to) {
+    match index::find(src, t1, tables::TOKEN_WIDTH, tables::NAME, n, i1, from, to) {
         Found::RowAt(r) => {
             if tables::cell(t1, tables::TOKEN_WIDTH, r, tables::DECLARED) == 1 {
                 2
@@ -388,17 +406,25 @@ pub fn symbol_kind(src: &[u8], n: u32, t1: &[u32], from: u32, to: u32) -> u32
 }
 
 // A bare symbol's row comes before the spacing behind it.
-pub fn bare_item(src: &[u8], s: State, d: Production, t1: &[u32], t9: &mut [u32]) -> Drafted
-    requires { ⌜ Here (now src) (s .at) ⌝ }
+pub fn bare_item(
+    src: &[u8],
+    s: State,
+    d: Production,
+    t1: &[u32],
+    t9: &mut [u32],
+    i1: &[u32],
+) -> Drafted
+    requires { ⌜ Here (now src) (s .at) × Tokens (now src) (s .counts) (now t1) (now i1) ⌝ }
     ensures is { λ r. ⌜ _≡_ {A = Made1} (record { answer = r .answer; state = r .state; draft = r .draft; a = now (t9 .exit) }) (bareItem (now (src .entry)) s d (now (t1 .entry)) (now (t9 .entry))) ⌝ }
     ensures moved { λ r. ⌜ Moves (now (src .entry)) (s .at) (r .answer) (r .state .at) ⌝ }
+    ensures indexed { λ r. ⌜ Tokens (now (src .entry)) (r .state .counts) (now (t1 .entry)) (now (i1 .entry)) ⌝ }
 {
     let at = s.at;
     match words::parse_token(src, at) {
         Token::Found(p, end, _) => {
             let from = p.from as u32;
             let to = p.to as u32;
-            let kind = symbol_kind(src, grammar::count_of(s, tables::TOKENS), t1, from, to);
+            let kind = symbol_kind(src, grammar::count_of(s, tables::TOKENS), t1, i1, from, to);
             let row = [kind, from, to];
             let r = grammar::push(s, tables::SYMBOLS, &row, t9);
             let q = grammar::pass_on(src, r, end, false);
@@ -473,10 +499,12 @@ pub fn item(
     t1: &mut [u32],
     t8: &mut [u32],
     t9: &mut [u32],
+    i1: &mut [u32],
 ) -> Drafted
-    requires { ⌜ Here (now src) (s .at) ⌝ }
+    requires { ⌜ Here (now src) (s .at) × Tokens (now src) (s .counts) (now t1) (now i1) ⌝ }
     ensures is { λ r. ⌜ _≡_ {A = Made3} (record { answer = r .answer; state = r .state; draft = r .draft; t1 = now (t1 .exit); t8 = now (t8 .exit); t9 = now (t9 .exit) }) (itemStep (now (src .entry)) s d (now (t1 .entry)) (now (t8 .entry)) (now (t9 .entry))) ⌝ }
     ensures moved { λ r. ⌜ Moves (now (src .entry)) (s .at) (r .answer) (r .state .at) ⌝ }
+    ensures indexed { λ r. ⌜ Tokens (now (src .entry)) (r .state .counts) (now (t1 .exit)) (now (i1 .exit)) ⌝ }
 {
     let at = s.at;
     let seen = look_item(src, at);
@@ -486,11 +514,11 @@ pub fn item(
     match k {
         Sort::BarSort => bar_item(src, n, d, t8),
         Sort::EndSort => end_item(n, d, t8),
-        Sort::QuotedSort => quoted_item(src, s, d, t1, t9),
-        Sort::PrecSort => prec_item(src, n, d, t1),
+        Sort::QuotedSort => quoted_item(src, s, d, t1, t9, i1),
+        Sort::PrecSort => prec_item(src, n, d, t1, i1),
         Sort::ActionSort => action_item(src, s, d),
         Sort::EmptySort => empty_item(src, n, d, at as u32),
-        Sort::BareSort => bare_item(src, s, d, t1, t9),
+        Sort::BareSort => bare_item(src, s, d, t1, t9, i1),
     }
 }
 
@@ -502,10 +530,12 @@ pub fn items(
     t1: &mut [u32],
     t8: &mut [u32],
     t9: &mut [u32],
+    i1: &mut [u32],
 ) -> Step
-    requires { ⌜ Here (now src) (s .at) ⌝ }
+    requires { ⌜ Here (now src) (s .at) × Tokens (now src) (s .counts) (now t1) (now i1) ⌝ }
     ensures is { λ r. ⌜ _≡_ {A = Itemed} (record { answer = r .answer; state = r .state; t1 = now (t1 .exit); t8 = now (t8 .exit); t9 = now (t9 .exit) }) (itemList (now (src .entry)) s d (now (t1 .entry)) (now (t8 .entry)) (now (t9 .entry))) ⌝ }
     ensures moved { λ r. ⌜ Passed (now (src .entry)) (s .at) (r .state .at) ⌝ }
+    ensures indexed { λ r. ⌜ Tokens (now (src .entry)) (r .state .counts) (now (t1 .exit)) (now (i1 .exit)) ⌝ }
 {
     let mut st = s;
     let mut draft = d;
@@ -517,7 +547,7 @@ pub fn items(
                 state: st,
             };
         }
-        let r = item(src, st, draft, t1, t8, t9);
+        let r = item(src, st, draft, t1, t8, t9, i1);
         let a = r.answer;
         let next = r.state;
         match a {

@@ -2,7 +2,7 @@
 use Prim.Native.Nat.{ℕ, _≤_, _<_}
 use mathlib.Core.Path.{_≡_, refl, sym, _∙_}
 use mathlib.Core.List.{List}
-use mathlib.Core.Bool.{true, false≢true, _||_}
+use mathlib.Core.Bool.{Bool, true, false, false≢true, _||_}
 use native.Mathlib.Omega.{arith}
 use native.Mathlib.Decide.{ℕ-discrete}
 use lib.Dec.{ltb, eqb}
@@ -18,7 +18,7 @@ use Rattle.grammar.specs.declared.State.{State}
 use Rattle.grammar.specs.declared.Answer.{Answer}
 use Rattle.grammar.specs.declared.Answer.the-variants.{Going, Done, Refused}
 use Rattle.grammar.specs.State.{count, fresh}
-use Rattle.grammar.specs.Sound.{Tables, zeroAll}
+use Rattle.grammar.specs.Sound.{Tables, Indexes, zeroAll}
 use Rattle.grammar.proofs.Far.{fresh-far}
 use Rattle.declarations.specs.Declarations.{Out, declAll}
 use Rattle.declarations.proofs.Far.{FarAll, declarations-far}
@@ -26,7 +26,7 @@ use Rattle.lines.specs.Line.{isFeed}
 use Rattle.reader.specs.declared.Admission.{Admission}
 use Rattle.reader.specs.declared.Admission.the-variants.{Fit, Unfit}
 use Rattle.reader.specs.declared.Reading.{Reading}
-use Rattle.reader.specs.Read.{Result, asText, admitted, restAll, declared, sectionsFrom, sectionsAll, attemptOf, attempted, endedAt, finished, finishedRun, readAll}
+use Rattle.reader.specs.Read.{Result, asText, sized, sizedText, admitted, restAll, declared, sectionsFrom, sectionsAll, attemptOf, attempted, endedAt, result, finished, finishedRun, indexed, readAll}
 use Rattle.reader.specs.Allowed.{Full}
 use Rattle.reader.proofs.Sound.{read-sound}
 use Rattle.levels.specs.Levels.{tokenFrom, tokenTo, levelOf, TwoRows, NoFeedBetween, NoLineEndBetween}
@@ -39,27 +39,27 @@ data Left (src : List ℕ) (o : Result) : Type 0 where
   full : Full (o .answer) → (n : ℕ) → Numbered n (o .tables .t2) → AllApart src n (o .tables .t2) → Left src o
 
 -- a reading that ended, behind the declarations
-ended : (src : List ℕ) (d : Out) → Numbered (count (d .state) precedences) (d .tables .t2) → ApartIn src d → (s : State) (T : Tables) → T .t2 ≡ d .tables .t2 → Left src (finished Going s T)
+ended : (src : List ℕ) (X : Indexes) (d : Out) → Numbered (count (d .state) precedences) (d .tables .t2) → ApartIn src d → (s : State) (T : Tables) → T .t2 ≡ d .tables .t2 → Left src (indexed src X (finished Going s T))
 unfolding endedAt
-ended src d f p s T e =
-    on-test (λ (r : Reading). Left src (record { answer = r .answer; counts = r .counts; singles = r .singles; tables = T })) (eqb (count s repeats) 0) _ _
+ended src X d f p s T e =
+    on-test (λ (r : Reading). Left src (indexed src X (result r T))) (eqb (count s repeats) 0) _ _
     (λ q. full tt (count (d .state) precedences) (rw e f) (rw e p))
     (λ q. full tt (count (d .state) precedences) (rw e f) (rw e p))
 
-sections-left : (src : List ℕ) (kind : ℕ) (T : Tables) → length src ≤ 65536 → Left src (finishedRun (sectionsAll src kind fresh (zeroAll T)))
+sections-left : (src : List ℕ) (kind : ℕ) (T : Tables) (X : Indexes) → length src ≤ 65536 → Left src (indexed src X (finishedRun (sectionsAll src kind fresh (zeroAll T))))
 unfolding sectionsAll
-sections-left src kind T h =
+sections-left src kind T X h =
     let U = zeroAll T in
     let o = declAll src kind fresh (declared U) in
     let f = fresh-far src T h in
     go (o .answer) o (declarations-far src 0 kind fresh (declared U) U f) (section-pairs src 0 kind fresh (declared U) U f (laid-none src 0 (U .t2)))
   where
-    rest : (a : Answer) (d : Out) → FarAll src 0 (zeroAll T) d → ApartIn src d → (s : State) (U : Tables) → U .t2 ≡ d .tables .t2 → Left src (finished a s U)
-    rest Going d f p s U e = ended src d (far-numbered f) p s U e
-    rest Done d f p s U e = ended src d (far-numbered f) p s U e
+    rest : (a : Answer) (d : Out) → FarAll src 0 (zeroAll T) d → ApartIn src d → (s : State) (U : Tables) → U .t2 ≡ d .tables .t2 → Left src (indexed src X (finished a s U))
+    rest Going d f p s U e = ended src X d (far-numbered f) p s U e
+    rest Done d f p s U e = ended src X d (far-numbered f) p s U e
     rest (Refused r) d f p s U e = none refl
 
-    go : (a : Answer) (o : Out) → FarAll src 0 (zeroAll T) o → (a ≡ Done → ApartIn src o) → Left src (finishedRun (sectionsFrom a src kind o (zeroAll T)))
+    go : (a : Answer) (o : Out) → FarAll src 0 (zeroAll T) o → (a ≡ Done → ApartIn src o) → Left src (indexed src X (finishedRun (sectionsFrom a src kind o (zeroAll T))))
     go Going o f p = none refl
     go Done o f p = let r = restAll src kind (o .state) (o .tables .t1) (zeroAll T .t7) (zeroAll T .t8) (zeroAll T .t9) in rest (r .answer) o f (p refl) (r .state) _ refl
     go (Refused r) o f p = none refl
@@ -69,36 +69,38 @@ abbrev Admits : List ℕ → Admission → Type 0
 Admits src Fit = length src ≤ 65536
 Admits src (Unfit f) = Unit {0}
 
-admits : (src : List ℕ) (kind : ℕ) → Admits src (admitted src kind)
+admits : (src : List ℕ) (kind : ℕ) (fit : Bool) → Admits src (admitted src kind fit)
 unfolding admitted
-admits src kind =
-    on-test (Admits src) (ltb kind 1 || ltb 3 kind) _ _ (λ e. tt)
-    (λ e. on-test (Admits src) (ltb 65536 (length src)) _ _ (λ h. tt) (λ h. go (checkAt src 0) (ltb-false _ _ h)))
+admits src kind fit = on-test (Admits src) (ltb kind 1 || ltb 3 kind) _ _ (λ e. tt) (λ e. by fit)
   where
     go : (c : Checked) → length src ≤ 65536 → Admits src (asText c)
     go Good h = h
     go (BadAt i) h = tt
 
-left : (src : List ℕ) (kind : ℕ) (T : Tables) → Left src (readAll src kind T)
+    by : (b : Bool) → Admits src (sizedText b src)
+    by true = on-test (Admits src) (ltb 65536 (length src)) _ _ (λ h. tt) (λ h. go (checkAt src 0) (ltb-false _ _ h))
+    by false = tt
+
+left : (src : List ℕ) (kind : ℕ) (T : Tables) (X : Indexes) → Left src (readAll src kind T X)
 unfolding readAll attempted
-left src kind T = go (admitted src kind) (admits src kind)
+left src kind T X = go (admitted src kind (sized T X)) (admits src kind (sized T X))
   where
-    go : (m : Admission) → Admits src m → Left src (finishedRun (attemptOf m src kind (zeroAll T)))
-    go Fit h = sections-left src kind T h
+    go : (m : Admission) → Admits src m → Left src (indexed src X (finishedRun (attemptOf m src kind (zeroAll T))))
+    go Fit h = sections-left src kind T X h
     go (Unfit f) h = none refl
 
 -- In any reading, whatever its answer; where it was refused for more than repeats, there are no rows.
-module _ (src : List ℕ) (kind : ℕ) (T : Tables) (q r : ℕ) (two : TwoRows (readAll src kind T) q r) where
+module _ (src : List ℕ) (kind : ℕ) (T : Tables) (X : Indexes) (q r : ℕ) (two : TwoRows (readAll src kind T X) q r) where
   abbrev o : Result
-  o = readAll src kind T
+  o = readAll src kind T X
 
   sound-numbered : Full (o .answer) → Numbered (getD (o .counts .n) precedences 0) (o .tables .t2)
   sound-numbered x =
-      let s = read-sound src kind T x in
+      let s = read-sound src kind T X x in
       record { clean = s .clean precedences (omega arith); least = λ r h. s .rows precedences r (omega arith) h .least }
 
   apart : LinesApart src (precedenceRow (o .tables .t2) q) (precedenceRow (o .tables .t2) r)
-  apart = go (left src kind T)
+  apart = go (left src kind T X)
     where
       go : Left src o → LinesApart src (precedenceRow (o .tables .t2) q) (precedenceRow (o .tables .t2) r)
       go (none e) = let h = two .inside in absurd (omega arith)

@@ -13,3 +13,4 @@ pub mod Given
 pub mod Run
 pub mod PrecExact
 pub mod AvoidExact
+pub mod Spares

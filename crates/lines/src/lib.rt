@@ -7,8 +7,9 @@ use grammar::Repeat;
 use grammar::State;
 use grammar::Step;
 use words::Token;
+ghost use Prim.Native.Nat.{_<_};
 ghost use mathlib.Core.Path.{_≡_};
-ghost use Rattle.grammar.specs.State.{Out2, Out3, Here, Passed, Moves, Onward};
+ghost use Rattle.grammar.specs.State.{Out2, Out3, Here, Passed, Moves, Onward, Tokens};
 ghost use Rattle.lines.specs.Precedences.{precItem, precList, precDecl};
 ghost use Rattle.lines.specs.Avoided.{avoidNamed, avoidItem, avoidList, avoidDecl};
 
@@ -115,7 +116,7 @@ pub fn prec_decl(src: &[u8], s: State, assoc: u32, t2: &mut [u32], t10: &mut [u3
     }
 }
 
-// A token is entered, undeclared, and given to table `k + 1` once; its word ends at `end`.
+// A token is entered, undeclared, and given to table `k + 1`, another one, once; its word ends at `end`.
 pub fn avoid_named(
     src: &[u8],
     s: State,
@@ -127,12 +128,14 @@ pub fn avoid_named(
     t1: &mut [u32],
     t: &mut [u32],
     t10: &mut [u32],
+    i1: &mut [u32],
 ) -> Step
-    requires { ⌜ Here (now src) end ⌝ }
+    requires { ⌜ Here (now src) end × Tokens (now src) (s .counts) (now t1) (now i1) × (0 < k) ⌝ }
     ensures is { λ r. ⌜ _≡_ {A = Out3} (record { answer = r .answer; state = r .state; a = now (t1 .exit); b = now (t .exit); c = now (t10 .exit) }) (avoidNamed (now (src .entry)) s k what from to end (now (t1 .entry)) (now (t .entry)) (now (t10 .entry))) ⌝ }
     ensures moved { λ r. ⌜ Onward (now (src .entry)) end (s .at) (r .answer) (r .state .at) ⌝ }
+    ensures indexed { λ r. ⌜ Tokens (now (src .entry)) (r .state .counts) (now (t1 .exit)) (now (i1 .exit)) ⌝ }
 {
-    let e = grammar::enter(src, s, from, to, false, t1);
+    let e = grammar::enter(src, s, from, to, false, t1, i1);
     let a = e.answer;
     let next = e.state;
     match a {
@@ -171,15 +174,29 @@ pub fn avoid_item(
     t1: &mut [u32],
     t: &mut [u32],
     t10: &mut [u32],
+    i1: &mut [u32],
 ) -> Step
-    requires { ⌜ Here (now src) (s .at) ⌝ }
+    requires { ⌜ Here (now src) (s .at) × Tokens (now src) (s .counts) (now t1) (now i1) × (0 < k) ⌝ }
     ensures is { λ r. ⌜ _≡_ {A = Out3} (record { answer = r .answer; state = r .state; a = now (t1 .exit); b = now (t .exit); c = now (t10 .exit) }) (avoidItem (now (src .entry)) s k what (now (t1 .entry)) (now (t .entry)) (now (t10 .entry))) ⌝ }
     ensures moved { λ r. ⌜ Moves (now (src .entry)) (s .at) (r .answer) (r .state .at) ⌝ }
+    ensures indexed { λ r. ⌜ Tokens (now (src .entry)) (r .state .counts) (now (t1 .exit)) (now (i1 .exit)) ⌝ }
 {
     let at = s.at;
     match words::parse_token(src, at) {
         Token::Found(p, end, _) => {
-            avoid_named(src, s, k, what, p.from as u32, p.to as u32, end, t1, t, t10)
+            avoid_named(
+                src,
+                s,
+                k,
+                what,
+                p.from as u32,
+                p.to as u32,
+                end,
+                t1,
+                t,
+                t10,
+                i1,
+            )
         }
         Token::NoToken(i) => Step {
             answer: Answer::Refused(Refusal::Fault(Cause::IllegalString, i as u32)),
@@ -197,14 +214,16 @@ pub fn avoid_list(
     t1: &mut [u32],
     t: &mut [u32],
     t10: &mut [u32],
+    i1: &mut [u32],
 ) -> Step
-    requires { ⌜ Here (now src) (s .at) ⌝ }
+    requires { ⌜ Here (now src) (s .at) × Tokens (now src) (s .counts) (now t1) (now i1) × (0 < k) ⌝ }
     ensures is { λ r. ⌜ _≡_ {A = Out3} (record { answer = r .answer; state = r .state; a = now (t1 .exit); b = now (t .exit); c = now (t10 .exit) }) (avoidList (now (src .entry)) s k what (now (t1 .entry)) (now (t .entry)) (now (t10 .entry))) ⌝ }
     ensures moved { λ r. ⌜ Passed (now (src .entry)) (s .at) (r .state .at) ⌝ }
+    ensures indexed { λ r. ⌜ Tokens (now (src .entry)) (r .state .counts) (now (t1 .exit)) (now (i1 .exit)) ⌝ }
 {
     let mut st = s;
     loop {
-        let r = avoid_item(src, st, k, what, t1, t, t10);
+        let r = avoid_item(src, st, k, what, t1, t, t10, i1);
         let a = r.answer;
         let next = r.state;
         match a {
@@ -233,10 +252,12 @@ pub fn avoid_decl(
     t1: &mut [u32],
     t: &mut [u32],
     t10: &mut [u32],
+    i1: &mut [u32],
 ) -> Step
-    requires { ⌜ Here (now src) (s .at) ⌝ }
+    requires { ⌜ Here (now src) (s .at) × Tokens (now src) (s .counts) (now t1) (now i1) × (0 < k) ⌝ }
     ensures is { λ r. ⌜ _≡_ {A = Out3} (record { answer = r .answer; state = r .state; a = now (t1 .exit); b = now (t .exit); c = now (t10 .exit) }) (avoidDecl (now (src .entry)) s k what (now (t1 .entry)) (now (t .entry)) (now (t10 .entry))) ⌝ }
     ensures moved { λ r. ⌜ Passed (now (src .entry)) (s .at) (r .state .at) ⌝ }
+    ensures indexed { λ r. ⌜ Tokens (now (src .entry)) (r .state .counts) (now (t1 .exit)) (now (i1 .exit)) ⌝ }
 {
     let at = s.at;
     if src.len() <= at {
@@ -249,7 +270,7 @@ pub fn avoid_decl(
         Gap::GapTo(i, _) => {
             let mut next = s;
             next.at = i;
-            avoid_list(src, next, k, what, t1, t, t10)
+            avoid_list(src, next, k, what, t1, t, t10, i1)
         }
         Gap::GapRefused(f) => Step {
             answer: Answer::Refused(f),

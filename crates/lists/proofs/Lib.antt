@@ -4,3 +4,5 @@ pub mod Marks
 pub mod Items
 pub mod Meaning
 pub mod Goes
+pub mod Tracks
+pub mod Spares

@@ -8,19 +8,20 @@ use grammar::Step;
 use words::Name;
 use words::Token;
 ghost use mathlib.Core.Path.{_≡_};
-ghost use Rattle.grammar.specs.State.{Out1, Here, Passed, Moves, Onward};
+ghost use Rattle.grammar.specs.State.{Out1, Here, Passed, Moves, Onward, Tokens, Tracks};
 ghost use Rattle.lists.specs.Lists.{tokenItem, unusedRow, unusedItem, listItem, percentList, listDecl};
 
 // One token of a `%token` list, and the spacing behind it.
-pub fn token_item(src: &[u8], s: State, t1: &mut [u32]) -> Step
-    requires { ⌜ Here (now src) (s .at) ⌝ }
+pub fn token_item(src: &[u8], s: State, t1: &mut [u32], ix: &mut [u32]) -> Step
+    requires { ⌜ Here (now src) (s .at) × Tokens (now src) (s .counts) (now t1) (now ix) ⌝ }
     ensures is { λ r. ⌜ _≡_ {A = Out1} (record { answer = r .answer; state = r .state; a = now (t1 .exit) }) (tokenItem (now (src .entry)) s (now (t1 .entry))) ⌝ }
     ensures moved { λ r. ⌜ Moves (now (src .entry)) (s .at) (r .answer) (r .state .at) ⌝ }
+    ensures indexed { λ r. ⌜ Tokens (now (src .entry)) (r .state .counts) (now (t1 .exit)) (now (ix .exit)) ⌝ }
 {
     let at = s.at;
     match words::parse_token(src, at) {
         Token::Found(p, end, _) => {
-            let r = grammar::enter(src, s, p.from as u32, p.to as u32, true, t1);
+            let r = grammar::enter(src, s, p.from as u32, p.to as u32, true, t1, ix);
             grammar::pass_on(src, r, end, false)
         }
         Token::NoToken(k) => Step {
@@ -70,23 +71,25 @@ pub fn unused_item(src: &[u8], s: State, t6: &mut [u32]) -> Step
     }
 }
 
-pub fn list_item(src: &[u8], s: State, tokens: bool, t: &mut [u32]) -> Step
-    requires { ⌜ Here (now src) (s .at) ⌝ }
+pub fn list_item(src: &[u8], s: State, tokens: bool, t: &mut [u32], ix: &mut [u32]) -> Step
+    requires { ⌜ Here (now src) (s .at) × Tracks tokens (now src) (s .counts) (now t) (now ix) (now ix) ⌝ }
     ensures is { λ r. ⌜ _≡_ {A = Out1} (record { answer = r .answer; state = r .state; a = now (t .exit) }) (listItem (now (src .entry)) s tokens (now (t .entry))) ⌝ }
     ensures moved { λ r. ⌜ Moves (now (src .entry)) (s .at) (r .answer) (r .state .at) ⌝ }
+    ensures indexed { λ r. ⌜ Tracks tokens (now (src .entry)) (r .state .counts) (now (t .exit)) (now (ix .entry)) (now (ix .exit)) ⌝ }
 {
     if tokens {
-        token_item(src, s, t)
+        token_item(src, s, t, ix)
     } else {
         unused_item(src, s, t)
     }
 }
 
 // The items up to the next `%`, or to the source's end.
-pub fn percent_list(src: &[u8], s: State, tokens: bool, t: &mut [u32]) -> Step
-    requires { ⌜ Here (now src) (s .at) ⌝ }
+pub fn percent_list(src: &[u8], s: State, tokens: bool, t: &mut [u32], ix: &mut [u32]) -> Step
+    requires { ⌜ Here (now src) (s .at) × Tracks tokens (now src) (s .counts) (now t) (now ix) (now ix) ⌝ }
     ensures is { λ r. ⌜ _≡_ {A = Out1} (record { answer = r .answer; state = r .state; a = now (t .exit) }) (percentList (now (src .entry)) s tokens (now (t .entry))) ⌝ }
     ensures moved { λ r. ⌜ Passed (now (src .entry)) (s .at) (r .state .at) ⌝ }
+    ensures indexed { λ r. ⌜ Tracks tokens (now (src .entry)) (r .state .counts) (now (t .exit)) (now (ix .entry)) (now (ix .exit)) ⌝ }
 {
     let mut st = s;
     loop {
@@ -103,7 +106,7 @@ pub fn percent_list(src: &[u8], s: State, tokens: bool, t: &mut [u32]) -> Step
                 state: st,
             };
         }
-        let r = list_item(src, st, tokens, t);
+        let r = list_item(src, st, tokens, t, ix);
         let a = r.answer;
         match a {
             Answer::Going => {
@@ -120,17 +123,18 @@ pub fn percent_list(src: &[u8], s: State, tokens: bool, t: &mut [u32]) -> Step
     }
 }
 
-pub fn list_decl(src: &[u8], s: State, tokens: bool, t: &mut [u32]) -> Step
-    requires { ⌜ Here (now src) (s .at) ⌝ }
+pub fn list_decl(src: &[u8], s: State, tokens: bool, t: &mut [u32], ix: &mut [u32]) -> Step
+    requires { ⌜ Here (now src) (s .at) × Tracks tokens (now src) (s .counts) (now t) (now ix) (now ix) ⌝ }
     ensures is { λ r. ⌜ _≡_ {A = Out1} (record { answer = r .answer; state = r .state; a = now (t .exit) }) (listDecl (now (src .entry)) s tokens (now (t .entry))) ⌝ }
     ensures moved { λ r. ⌜ Passed (now (src .entry)) (s .at) (r .state .at) ⌝ }
+    ensures indexed { λ r. ⌜ Tracks tokens (now (src .entry)) (r .state .counts) (now (t .exit)) (now (ix .entry)) (now (ix .exit)) ⌝ }
 {
     let at = s.at;
     match grammar::pass_gap(src, at, false) {
         Gap::GapTo(i, _) => {
             let mut next = s;
             next.at = i;
-            percent_list(src, next, tokens, t)
+            percent_list(src, next, tokens, t, ix)
         }
         Gap::GapRefused(f) => Step {
             answer: Answer::Refused(f),

@@ -3,7 +3,7 @@
 use Prim.Native.Nat.{ℕ, _+_, _≤_, _<_}
 use mathlib.Core.Path.{_≡_, refl}
 use mathlib.Core.List.{List}
-use mathlib.Core.Bool.{_||_}
+use mathlib.Core.Bool.{Bool, true, false, _||_}
 use native.Mathlib.Omega.{arith}
 use lib.Dec.{ltb, eqb}
 use lib.ListN.{length, getD}
@@ -21,13 +21,13 @@ use Rattle.grammar.specs.declared.State.{State}
 use Rattle.grammar.specs.declared.Answer.{Answer}
 use Rattle.grammar.specs.declared.Answer.the-variants.{Going, Done, Refused}
 use Rattle.grammar.specs.State.{count, fresh}
-use Rattle.grammar.specs.Sound.{Tables, zeroAll}
+use Rattle.grammar.specs.Sound.{Tables, Indexes, zeroAll}
 use Rattle.declarations.specs.Declarations.{Out, declAll}
 use Rattle.rules.specs.Rules.{Ruled, rulesAll}
 use Rattle.reader.specs.declared.Admission.{Admission}
 use Rattle.reader.specs.declared.Admission.the-variants.{Fit, Unfit}
 use Rattle.reader.specs.declared.Reading.{Reading}
-use Rattle.reader.specs.Read.{Result, asText, admitted, restFrom, restAll, declared, sectionsFrom, sectionsAll, attemptOf, attempted, endedAt, finished, finishedRun, readAll}
+use Rattle.reader.specs.Read.{Result, asText, sized, sizedText, admitted, restFrom, restAll, declared, sectionsFrom, sectionsAll, attemptOf, attempted, endedAt, finished, finishedRun, indexed, readAll}
 use Rattle.meaning.specs.Regions.{ParamMade, ActionMade}
 use Rattle.meaning.specs.Made.{SymbolMade, TypeMade, ParamFrom, Made, MadeAt, MadeOf}
 use Rattle.meaning.proofs.Rules.{MadeIn, rules-made, programs-made}
@@ -55,14 +55,14 @@ module _ (src : List ℕ) (kind : ℕ) where
       go Done o x = let r = rulesAll src kind (o .state) (o .tables .t1) (T .t7) (T .t8) (T .t9) in rest (r .answer) r (rules-made src t kind (o .state) (o .tables .t1) (T .t7) (T .t8) (T .t9) x)
       go (Refused f) o x = x
 
-  finished-made : (a : Answer) (s : State) (T : Tables) → MadeAt src kind s (T .t7) (T .t8) (T .t9) → MadeOf src kind (finished a s T)
+  finished-made : (X : Indexes) (a : Answer) (s : State) (T : Tables) → MadeAt src kind s (T .t7) (T .t8) (T .t9) → MadeOf src kind (indexed src X (finished a s T))
   unfolding endedAt
-  finished-made a s T x = go a
+  finished-made X a s T x = go a
     where
       ended : let r = endedAt s (T .t10) in Made src kind (r .counts) (r .singles .param) (T .t7) (T .t8) (T .t9)
       ended = on-test (λ (r : Reading). Made src kind (r .counts) (r .singles .param) (T .t7) (T .t8) (T .t9)) (eqb (count s repeats) 0) _ _ (λ e. x) (λ e. x)
 
-      go : (a : Answer) → MadeOf src kind (finished a s T)
+      go : (a : Answer) → MadeOf src kind (indexed src X (finished a s T))
       go Going = ended
       go Done = ended
       go (Refused f) = none-made src kind _ _ _ _ refl refl refl
@@ -72,30 +72,34 @@ module _ (src : List ℕ) (kind : ℕ) where
   Admits Fit = Text src
   Admits (Unfit f) = Unit {0}
 
-  admits : Admits (admitted src kind)
+  admits : (fit : Bool) → Admits (admitted src kind fit)
   unfolding admitted
-  admits = on-test Admits (ltb kind 1 || ltb 3 kind) _ _ (λ e. tt) (λ e. on-test Admits (ltb 65536 (length src)) _ _ (λ h. tt) (λ h. go (checkAt src 0) refl))
+  admits fit = on-test Admits (ltb kind 1 || ltb 3 kind) _ _ (λ e. tt) (λ e. by fit)
     where
       go : (c : Checked) → checkAt src 0 ≡ c → Admits (asText c)
       go Good e = good-iff src .0 e
       go (BadAt i) e = tt
 
+      by : (b : Bool) → Admits (sizedText b src)
+      by true = on-test Admits (ltb 65536 (length src)) _ _ (λ h. tt) (λ h. go (checkAt src 0) refl)
+      by false = tt
+
   -- Each row of tables 7, 8 and 9 that a read leaves, and the parse parameter, is made from the source as it should be.
-  pub read-made : (T : Tables) → MadeOf src kind (readAll src kind T)
+  pub read-made : (T : Tables) (X : Indexes) → MadeOf src kind (readAll src kind T X)
   unfolding readAll attempted
-  read-made T = go (admitted src kind) admits
+  read-made T X = go (admitted src kind (sized T X)) (admits (sized T X))
     where
-      go : (m : Admission) → Admits m → MadeOf src kind (finishedRun (attemptOf m src kind (zeroAll T)))
-      go Fit t = let r = sectionsAll src kind fresh (zeroAll T) in finished-made (r .answer) (r .state) (r .tables) (sections-made t (zeroAll T))
+      go : (m : Admission) → Admits m → MadeOf src kind (indexed src X (finishedRun (attemptOf m src kind (zeroAll T))))
+      go Fit t = let r = sectionsAll src kind fresh (zeroAll T) in finished-made X (r .answer) (r .state) (r .tables) (sections-made t (zeroAll T))
       go (Unfit f) t = none-made src kind _ _ _ _ refl refl refl
 
-  module _ (T : Tables) where
+  module _ (T : Tables) (X : Indexes) where
     abbrev o : Result
-    o = readAll src kind T
+    o = readAll src kind T X
 
     -- Every symbol is a token as it stands in the source, a rule's name in a production is a bare one, and a bare one has no dot.
     pub symbols-spelled : (r : ℕ) → r < getD (o .counts .n) symbols 0 → SymbolMade src (rowAt (width symbols) (o .tables .t9) r)
-    symbols-spelled = read-made T .symbols
+    symbols-spelled = read-made T X .symbols
 
     -- "A dotted rule name accepted in a production" is ruled out: no symbol that is a rule has a dot.
     pub no-dotted-symbol : (r : ℕ) → r < getD (o .counts .n) symbols 0 → let x = rowAt (width symbols) (o .tables .t9) r in getD x 0 0 ≡ 1 → (k : ℕ) → getD x kindName 0 ≤ k → k < getD x (kindName + 1) 0 → getD src k 0 ≡ 46 → ⊥
@@ -103,12 +107,12 @@ module _ (src : List ℕ) (kind : ℕ) where
 
     -- The text of every action is what trimming leaves of the region between its braces, of which the first stands where the production ends.
     pub action-trimmed-read : (r : ℕ) → r < getD (o .counts .n) productions 0 → let x = rowAt (width productions) (o .tables .t8) r in getD x action 0 ≡ 1 → ActionMade src (getD x (place + 1) 0) (getD x (action + 1) 0) (getD x (action + 2) 0) (getD x (action + 3) 0) (getD x (action + 4) 0)
-    action-trimmed-read r h = read-made T .productions r h .acted
+    action-trimmed-read r h = read-made T X .productions r h .acted
 
     -- In kind 2 every rule has a type, which is what trimming leaves of the region from behind the `->` that follows its name to a single colon.
     pub type-trimmed : kind ≡ 2 → (r : ℕ) → r < getD (o .counts .n) rules 0 → TypeMade src (rowAt (width rules) (o .tables .t7) r)
-    type-trimmed = read-made T .rules
+    type-trimmed = read-made T X .rules
 
     -- The parse parameter's name is what trimming leaves of the region from behind a `%parse-param` to a single colon.
     pub param-trimmed : (a b c d : ℕ) → o .singles .param ≡ ParamAt a b c d → ParamMade src a b
-    param-trimmed a b c d e = told (ParamFrom src) e (read-made T .param)
+    param-trimmed a b c d e = told (ParamFrom src) e (read-made T X .param)

@@ -11,7 +11,7 @@ use Rattle.tables.specs.Table.{cell, lies}
 use Rattle.tables.specs.Layout.{tokens, rules, width}
 use Rattle.grammar.specs.declared.Counts.{Counts}
 use Rattle.grammar.specs.declared.Singles.{Singles}
-use Rattle.grammar.specs.Sound.{Tables}
+use Rattle.grammar.specs.Sound.{Tables, Indexes}
 use Rattle.sound.specs.Test.{countAt, soundTest}
 use Rattle.names.specs.Name.{nowhere, partOf, rowPlace, namePlace, partAt, nameOf}
 
@@ -57,11 +57,11 @@ unfolding namePlace
 place-none c t1 t7 table row d e = rw (namePlace, ne-eqb table 1 d, ne-eqb table 7 e)
 
 -- the name
-module _ (src : List ℕ) (c : Counts) (g : Singles) (T : Tables) (table row : ℕ) (b : Bool) (q : b ≡ soundTest src c g T) (l : List ℕ) where
-  pub name-unsound : b ≡ false → l ≡ partOf src 0 0 → l ≡ nameOf src c g T table row
+module _ (src : List ℕ) (c : Counts) (g : Singles) (T : Tables) (X : Indexes) (table row : ℕ) (b : Bool) (q : b ≡ soundTest src c g T X) (l : List ℕ) where
+  pub name-unsound : b ≡ false → l ≡ partOf src 0 0 → l ≡ nameOf src c g T X table row
   unfolding nameOf
   name-unsound e h = h ∙ sym (part-none src) ∙ rw (nameOf, ← q, e)
 
-  pub name-is : b ≡ true → (p : Place) → p ≡ namePlace c (T .t1) (T .t7) table row → l ≡ partOf src (p .from) (p .to) → l ≡ nameOf src c g T table row
+  pub name-is : b ≡ true → (p : Place) → p ≡ namePlace c (T .t1) (T .t7) table row → l ≡ partOf src (p .from) (p .to) → l ≡ nameOf src c g T X table row
   unfolding nameOf
   name-is e p k h = rw (nameOf, ← q, e) (rw k at h)

@@ -10,7 +10,7 @@ use Rattle.tables.specs.Table.{cell, lies}
 use Rattle.tables.specs.Layout.{tokens, rules, width}
 use Rattle.grammar.specs.declared.Counts.{Counts}
 use Rattle.grammar.specs.declared.Singles.{Singles}
-use Rattle.grammar.specs.Sound.{Tables}
+use Rattle.grammar.specs.Sound.{Tables, Indexes}
 use Rattle.sound.specs.Test.{countAt, soundTest}
 
 abbrev pub nowhere : Place
@@ -34,5 +34,5 @@ partOf src a b = elim (lies src a b) [ true ↦ take (b - a) (drop a src) | fals
 abbrev pub partAt : List ℕ → Place → List ℕ
 partAt src p = partOf src (p .from) (p .to)
 
-unfoldable pub nameOf : List ℕ → Counts → Singles → Tables → ℕ → ℕ → List ℕ
-nameOf src c g T table row = elim (soundTest src c g T) [ true ↦ partAt src (namePlace c (T .t1) (T .t7) table row) | false ↦ [] ]
+unfoldable pub nameOf : List ℕ → Counts → Singles → Tables → Indexes → ℕ → ℕ → List ℕ
+nameOf src c g T X table row = elim (soundTest src c g T X) [ true ↦ partAt src (namePlace c (T .t1) (T .t7) table row) | false ↦ [] ]

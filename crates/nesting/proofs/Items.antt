@@ -53,6 +53,7 @@ use Rattle.nesting.proofs.Laws.{lain-on, Actionless, shut-free, lying-s
 -- a row more, where there was room
 pub record RowPushed (s : State) (k : ℕ) (row t : List ℕ) (o : Out1) : Type 0 where
   pub room : count s k * length row + length row ≤ length t
+  pub low : count s k < 4294967295
   pub cells : o .a ≡ put t (count s k * length row) row
   pub counted : count (o .state) k ≡ count s k + 1
   pub other : (j : ℕ) → (j ≡ k → ⊥) → count (o .state) j ≡ count s j
@@ -62,7 +63,7 @@ pub push-is : (s : State) (k : ℕ) (row t : List ℕ) → k < length (s .counts
 unfolding pushRow
 push-is s k row t h =
     add-cases (λ (o : Added). pushed (o .ok) s k row (o .cells) .answer ≡ Going → RowPushed s k row t (pushed (o .ok) s k row (o .cells))) (count s k) row t
-    (λ room low g. record { room = room; cells = refl; counted = getD-set-same (s .counts .n) k (count s k + 1) 0 h; other = λ j d. getD-set-other (s .counts .n) k j (count s k + 1) 0 d; at = refl })
+    (λ room low g. record { room = room; low = low; cells = refl; counted = getD-set-same (s .counts .n) k (count s k + 1) 0 h; other = λ j d. getD-set-other (s .counts .n) k j (count s k + 1) 0 d; at = refl })
     (λ full g. absurd (refused-going _ g))
 
 -- a token entered counts tokens alone
@@ -85,9 +86,10 @@ symbol-nested {src} s d {t8} {t9} x free v ten c9 c8 kind from to end a b c g u 
     let row = kindCells kind from to in
     let p = push-is v symbols row t9 (rw ten (omega arith)) g in
     let room = p .room in
+    let low = p .low in
     let n : count u symbols ≡ count s symbols + 1 = rw k (p .counted ∙ rw c9) in
     let m : count u productions ≡ count s productions = rw k (p .other productions (λ e. omega arith) ∙ c8) in
-    let y = lying-symbol (count s symbols) row t9 refl (omega arith) x free end (u .at) a b c l in
+    let y = lying-symbol (count s symbols) row t9 refl (omega arith) (omega arith) x free end (u .at) a b c l in
     rw (n, m, p .cells, c9) y
 
 -- items that are taken
@@ -214,7 +216,7 @@ module _ {src : List ℕ} (s : State) (d : Production) {t8 t9 : List ℕ} (ten :
       let p = push-is (withAt s j) productions _ t8 (rw ten (omega arith)) g in
       let n : count u symbols ≡ count s symbols = rw k (p .other symbols (λ e. omega arith)) in
       let m : count u productions ≡ count s productions + 1 = rw k (p .counted) in
-      rw (n, m, p .cells) (lying-over d x (p .room) (u .at) (omega arith))
+      rw (n, m, p .cells) (lying-over d x (p .room) (p .low) (u .at) (omega arith))
 
   -- behind a `|` the next one begins,
   bar-nested : let o = barItem src (withAt s j) d t8 in j ≤ length src → o .answer ≡ Going → Nested src (o .state) (o .draft) (o .a) t9

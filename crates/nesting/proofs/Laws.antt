@@ -47,7 +47,7 @@ shut-free src at to NoAction x n = tt
 shut-free src at to (ActionAt a b c d) x n = n (x .3)
 
 -- a row more in table 9
-module _ (n : ℕ) (row t9 : List ℕ) (wide : length row ≡ width symbols) (room : n * width symbols + width symbols ≤ length t9) where
+module _ (n : ℕ) (row t9 : List ℕ) (wide : length row ≡ width symbols) (room : n * width symbols + width symbols ≤ length t9) (small : n < 4294967295) where
   over-row : (limit first : ℕ) → first ≤ n → (x : List ℕ) → ProductionOver limit first t9 x → ProductionOver limit first (put t9 (n * width symbols) row) x
   over-row limit first h x o =
       let l = o .last in
@@ -58,7 +58,7 @@ module _ (n : ℕ) (row t9 : List ℕ) (wide : length row ≡ width symbols) (ro
     lain-symbol =
         record {
           symbols =
-              rows-add (width symbols) n row t9 wide room (rows-map (seen-on at at′ (omega arith)) (x .lain .symbols))
+              rows-add (width symbols) n row t9 wide room small (rows-map (seen-on at at′ (omega arith)) (x .lain .symbols))
               (record { inked = record { some = b }; ends = omega arith })
               (λ r l. let e = x .lain .symbols .each r l .ends in record { apart = omega arith });
           productions = rows-map (over-row from first (x .since)) (x .lain .productions);
@@ -124,8 +124,8 @@ module _ {src : List ℕ} {at m n from to first : ℕ} {act : Act} {t8 t9 : List
   acted-cells (ActionAt a b c d) s = (λ e. s .2, λ e. s .0, λ e. s .1)
 
 -- the production is over, and its row joins table 8
-pub lying-over : {src : List ℕ} {at m n : ℕ} {t8 t9 : List ℕ} (d : Production) → Lying src at m n (d .from) (d .to) (d .first) (d .action) t8 t9 → m * width productions + width productions ≤ length t8 → (at′ : ℕ) → at < at′ → Lain at′ at′ n (m + 1) n (put t8 (m * width productions) (productionCells (withLast d n))) t9
-lying-over {src} {at} {m} {n} {t8} {t9} d x room at′ h =
+pub lying-over : {src : List ℕ} {at m n : ℕ} {t8 t9 : List ℕ} (d : Production) → Lying src at m n (d .from) (d .to) (d .first) (d .action) t8 t9 → m * width productions + width productions ≤ length t8 → m < 4294967295 → (at′ : ℕ) → at < at′ → Lain at′ at′ n (m + 1) n (put t8 (m * width productions) (productionCells (withLast d n))) t9
+lying-over {src} {at} {m} {n} {t8} {t9} d x room small at′ h =
     let c = acted-cells x (d .action) (x .shut) in
     let s = x .span in
     let t = x .here in
@@ -133,7 +133,7 @@ lying-over {src} {at} {m} {n} {t8} {t9} d x room at′ h =
     record {
       symbols = y .symbols;
       productions =
-          rows-add (width productions) m (productionCells (withLast d n)) t8 refl room (y .productions)
+          rows-add (width productions) m (productionCells (withLast d n)) t8 refl room small (y .productions)
           (record { span = omega arith; acted = λ e. let k = c .0 e in omega arith; behind = record { after = c .1; onward = c .2 }; last = omega arith; inside = x .inside })
           (λ r l. let o = x .lain .productions .each r l in record { span = o .span; action = o .acted });
     }

@@ -17,7 +17,7 @@ use Rattle.grammar.specs.declared.State.{State}
 use Rattle.grammar.specs.declared.Answer.{Answer}
 use Rattle.grammar.specs.declared.Answer.the-variants.{Going, Done, Refused}
 use Rattle.grammar.specs.State.{count, fresh}
-use Rattle.grammar.specs.Sound.{Tables, tab, setTab, zeroAll, Far}
+use Rattle.grammar.specs.Sound.{Tables, Indexes, tab, setTab, zeroAll, Far}
 use Rattle.grammar.proofs.Far.{fresh-far}
 use Rattle.grammar.proofs.Touch.{refused-going, done-going}
 use Rattle.declarations.specs.Declarations.{Out, declAll}
@@ -29,7 +29,7 @@ use Rattle.reader.specs.declared.Verdict.the-variants.{Accepted, Rejected}
 use Rattle.reader.specs.declared.Admission.{Admission}
 use Rattle.reader.specs.declared.Admission.the-variants.{Fit, Unfit}
 use Rattle.reader.specs.declared.Reading.{Reading}
-use Rattle.reader.specs.Read.{Result, asText, admitted, restFrom, restAll, declared, withDeclared, sectionsFrom, sectionsAll, attemptOf, attempted, endedAt, finished, finishedRun, readAll}
+use Rattle.reader.specs.Read.{asText, sized, sizedText, admitted, restFrom, restAll, declared, withDeclared, sectionsFrom, sectionsAll, attemptOf, attempted, endedAt, finished, finishedRun, readAll}
 use Rattle.nesting.specs.Nest.{Nest}
 use Rattle.nesting.specs.Under.{Lain, Settled}
 use Rattle.nesting.proofs.Rules.{LainUnless, lies-refused, settled-on, rules-nested}
@@ -96,15 +96,17 @@ abbrev Admits : List ℕ → Admission → Type 0
 Admits src Fit = length src ≤ 65536
 Admits src (Unfit f) = Unit {0}
 
-admits : (src : List ℕ) (kind : ℕ) → Admits src (admitted src kind)
+admits : (src : List ℕ) (kind : ℕ) (fit : Bool) → Admits src (admitted src kind fit)
 unfolding admitted
-admits src kind =
-    on-test (Admits src) (ltb kind 1 || ltb 3 kind) _ _ (λ e. tt)
-    (λ e. on-test (Admits src) (ltb 65536 (length src)) _ _ (λ h. tt) (λ h. go (checkAt src 0) (ltb-false _ _ h)))
+admits src kind fit = on-test (Admits src) (ltb kind 1 || ltb 3 kind) _ _ (λ e. tt) (λ e. by fit)
   where
     go : (c : Checked) → length src ≤ 65536 → Admits src (asText c)
     go Good h = h
     go (BadAt i) h = tt
+
+    by : (b : Bool) → Admits src (sizedText b src)
+    by true = on-test (Admits src) (ltb 65536 (length src)) _ _ (λ h. tt) (λ h. go (checkAt src 0) (ltb-false _ _ h))
+    by false = tt
 
 finished-nested : (a : Answer) (s : State) (T : Tables) → Rests a s T → let o = finished a s T in Nest (o .counts) (o .tables)
 unfolding endedAt
@@ -120,9 +122,9 @@ finished-nested a s T x = go a x
     go (Refused r) x = record { inside = λ r q h. absurd (omega arith); inked = λ q h. absurd (omega arith); ordered = λ q r l h. absurd (omega arith); follow = λ q r l h. absurd (omega arith); behind = λ r h. absurd (omega arith) }
 
 -- Places nest in every reading, whatever its answer: in an accepted one, in one that was refused for repeats only; any other leaves no production.
-pub read-nests : (src : List ℕ) (kind : ℕ) (T : Tables) → Nest (readAll src kind T .counts) (readAll src kind T .tables)
+pub read-nests : (src : List ℕ) (kind : ℕ) (T : Tables) (X : Indexes) → Nest (readAll src kind T X .counts) (readAll src kind T X .tables)
 unfolding readAll attempted
-read-nests src kind T = go (admitted src kind) (admits src kind)
+read-nests src kind T X = go (admitted src kind (sized T X)) (admits src kind (sized T X))
   where
     go : (m : Admission) → Admits src m → let o = finishedRun (attemptOf m src kind (zeroAll T)) in Nest (o .counts) (o .tables)
     go Fit h = let r = sectionsAll src kind fresh (zeroAll T) in finished-nested (r .answer) (r .state) (r .tables) (sections-nested src kind T h)

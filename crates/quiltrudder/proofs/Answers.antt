@@ -21,7 +21,7 @@ use Rattle.grammar.specs.declared.Counts.{Counts}
 use Rattle.grammar.specs.declared.Singles.{Singles}
 use Rattle.grammar.specs.declared.Told.{Told}
 use Rattle.grammar.specs.State.{Passed}
-use Rattle.grammar.specs.Sound.{Tables, Sound}
+use Rattle.grammar.specs.Sound.{Tables, Indexes, Sound}
 use Rattle.reader.specs.Read.{Result, readAll}
 use Rattle.sound.specs.Test.{countAt, soundTest}
 use Rattle.sound.proofs.Iff.{sound-iff}
@@ -72,38 +72,38 @@ module _ (m : List ℕ) (s n r : Part) (e f : Expect) (p : Param) where
   singles-are hs he hf hp hn hr = rw (hs, he, hf, hp, hn, hr)
 
 -- a read
-pub face-read : (src : List ℕ) (kind : ℕ) (T : Tables) (o : Result) (m : List ℕ) → m ≡ readingNumbers o → o ≡ readAll src kind T → _≡_ {A = ReadFace} (record { answer = m; tables = o .tables }) (readFace src kind T)
-face-read src kind T o m h e = rw h (ap readFaceOf e)
+pub face-read : (src : List ℕ) (kind : ℕ) (T : Tables) (X : Indexes) (o : Result) (m : List ℕ) → m ≡ readingNumbers o → o ≡ readAll src kind T X → _≡_ {A = ReadFace} (record { answer = m; tables = o .tables; indexes = o .indexes }) (readFace src kind T X)
+face-read src kind T X o m h e = rw h (ap readFaceOf e)
 
 -- an answer with a count
 counted : (t : Told) (told : List ℕ) (n count : ℕ) (a : List ℕ) → toldNumbers t ≡ told → n ≡ count → a ≡ toldNumbers t ++ halves n → a ≡ told ++ halves count
 counted t told n count a ht hn ha = ha ∙ ap (λ (x : List ℕ). x ++ halves n) ht ∙ ap (λ (k : ℕ). told ++ halves k) hn
 
 -- the others, on what is made of a reading's numbers
-module _ (src m : List ℕ) (T : Tables) (c : Counts) (g : Singles) (hc : c ≡ countsOf m) (hg : g ≡ singlesOf m) where
-  pub face-validity : (t : Told) (v : Validity) → v ≡ validity src c g T → toldNumbers t ≡ validityNumbers v ++ (0 ∷ []) → toldNumbers t ≡ validateFace src m T
+module _ (src m : List ℕ) (T : Tables) (X : Indexes) (c : Counts) (g : Singles) (hc : c ≡ countsOf m) (hg : g ≡ singlesOf m) where
+  pub face-validity : (t : Told) (v : Validity) → v ≡ validity src c g T X → toldNumbers t ≡ validityNumbers v ++ (0 ∷ []) → toldNumbers t ≡ validateFace src m T X
   face-validity t v hv ht =
-      let e : validity src c g T ≡ validity src (countsOf m) (singlesOf m) T = rw (hc, hg) in
+      let e : validity src c g T X ≡ validity src (countsOf m) (singlesOf m) T X = rw (hc, hg) in
       ht ∙ ap (λ (x : Validity). validityNumbers x ++ (0 ∷ [])) (hv ∙ e)
 
-  pub face-faults : (t₀ u a : List ℕ) (l : FaultListing) (t : Told) (n : ℕ) → _≡_ {A = AllFaults} (record { answer = l; cells = u }) (faultListing src c g T t₀) → toldNumbers t ≡ take 4 (faultListingNumbers l) → n ≡ getD (faultListingNumbers l) 4 0 → a ≡ toldNumbers t ++ halves n
-      → _≡_ {A = FaultsFace} (record { answer = a; cells = u }) (faultsFace src m T t₀)
+  pub face-faults : (t₀ u a : List ℕ) (l : FaultListing) (t : Told) (n : ℕ) → _≡_ {A = AllFaults} (record { answer = l; cells = u }) (faultListing src c g T X t₀) → toldNumbers t ≡ take 4 (faultListingNumbers l) → n ≡ getD (faultListingNumbers l) 4 0 → a ≡ toldNumbers t ++ halves n
+      → _≡_ {A = FaultsFace} (record { answer = a; cells = u }) (faultsFace src m T X t₀)
   face-faults t₀ u a l t n e ht hn ha =
       let k : a ≡ faultListingCells l = counted t (take 4 (faultListingNumbers l)) n (getD (faultListingNumbers l) 4 0) a ht hn ha in
-      let f : _≡_ {A = AllFaults} (record { answer = l; cells = u }) (faultListing src (countsOf m) (singlesOf m) T t₀) = rw (hc, hg) at e in
+      let f : _≡_ {A = AllFaults} (record { answer = l; cells = u }) (faultListing src (countsOf m) (singlesOf m) T X t₀) = rw (hc, hg) at e in
       rw k (ap faultsFaceOf f)
 
-  pub face-report : (ws₀ ws out₀ out a : List ℕ) (l : Listing) (t : Told) (n : ℕ) → Reported src c g T l ws₀ ws out₀ out → toldNumbers t ≡ take 4 (listingNumbers l) → n ≡ getD (listingNumbers l) 4 0 → a ≡ toldNumbers t ++ halves n → ReportFace src m T ws₀ ws out₀ out a
+  pub face-report : (ws₀ ws out₀ out a : List ℕ) (l : Listing) (t : Told) (n : ℕ) → Reported src c g T X l ws₀ ws out₀ out → toldNumbers t ≡ take 4 (listingNumbers l) → n ≡ getD (listingNumbers l) 4 0 → a ≡ toldNumbers t ++ halves n → ReportFace src m T X ws₀ ws out₀ out a
   face-report ws₀ ws out₀ out a l t n p ht hn ha = record { listing = l; reported = rw (hc, hg) at p; numbers = counted t (take 4 (listingNumbers l)) n (getD (listingNumbers l) 4 0) a ht hn ha }
 
-  pub face-name : (table row : ℕ) (a : List ℕ) → a ≡ placeCells (nameAt src c g T table row) → a ≡ nameFace src m T table row
+  pub face-name : (table row : ℕ) (a : List ℕ) → a ≡ placeCells (nameAt src c g T X table row) → a ≡ nameFace src m T X table row
   face-name table row a h = h ∙ rw (hc, hg)
 
-  pub face-value : (row : ℕ) (out₀ out a : List ℕ) (v : Valuation) (t : Told) (n : ℕ) → _≡_ {A = Valued} (record { answer = v; out = out }) (eppValue src c g T row out₀) → toldNumbers t ≡ take 4 (valuationNumbers v) → n ≡ getD (valuationNumbers v) 4 0 → a ≡ toldNumbers t ++ halves n
-      → _≡_ {A = ValueFace} (record { answer = a; out = out }) (valueFace src m T row out₀)
+  pub face-value : (row : ℕ) (out₀ out a : List ℕ) (v : Valuation) (t : Told) (n : ℕ) → _≡_ {A = Valued} (record { answer = v; out = out }) (eppValue src c g T X row out₀) → toldNumbers t ≡ take 4 (valuationNumbers v) → n ≡ getD (valuationNumbers v) 4 0 → a ≡ toldNumbers t ++ halves n
+      → _≡_ {A = ValueFace} (record { answer = a; out = out }) (valueFace src m T X row out₀)
   face-value row out₀ out a v t n e ht hn ha =
       let k : a ≡ valuationCells v = counted t (take 4 (valuationNumbers v)) n (getD (valuationNumbers v) 4 0) a ht hn ha in
-      let f : _≡_ {A = Valued} (record { answer = v; out = out }) (eppValue src (countsOf m) (singlesOf m) T row out₀) = rw (hc, hg) at e in
+      let f : _≡_ {A = Valued} (record { answer = v; out = out }) (eppValue src (countsOf m) (singlesOf m) T X row out₀) = rw (hc, hg) at e in
       rw k (ap valueFaceOf f)
 
 -- ---- the place of a name
@@ -120,9 +120,9 @@ row-low src t w n row short h = go (ltb row n) refl
     go true e = let p = h row (ltb-true row n e) in (omega (arith, p .onward, p .inside), omega (arith, p .inside))
     go false e = (omega arith, omega arith)
 
-place-low : (src : List ℕ) (c : Counts) (g : Singles) (T : Tables) → Sound src c g T → (table row : ℕ) → Low (namePlace c (T .t1) (T .t7) table row)
+place-low : (src : List ℕ) (c : Counts) (g : Singles) (T : Tables) (X : Indexes) → Sound src c g T X → (table row : ℕ) → Low (namePlace c (T .t1) (T .t7) table row)
 unfolding namePlace
-place-low src c g T s table row = go (eqb table 1) (eqb table 7)
+place-low src c g T X s table row = go (eqb table 1) (eqb table 7)
   where
     token : (r : ℕ) → r < countAt c tokens → Passed src (cell (width tokens) (T .t1) r 0) (cell (width tokens) (T .t1) r 1)
     token r h = rw (← row-cell (width tokens) (T .t1) r 0 (omega arith), ← row-cell (width tokens) (T .t1) r 1 (omega arith)) (s .rows tokens r (omega arith) h .name)
@@ -136,16 +136,16 @@ place-low src c g T s table row = go (eqb table 1) (eqb table 7)
     go false true = row-low src (T .t7) (width rules) (countAt c rules) row (s .short) rule
     go false false = (omega arith, omega arith)
 
-module _ (src : List ℕ) (c : Counts) (g : Singles) (T : Tables) (table row : ℕ) where
-  module _ (b : Bool) (q : b ≡ soundTest src c g T) where
-    pub place-none : b ≡ false → 0 ∷ 0 ∷ [] ≡ placeCells (nameAt src c g T table row)
+module _ (src : List ℕ) (c : Counts) (g : Singles) (T : Tables) (X : Indexes) (table row : ℕ) where
+  module _ (b : Bool) (q : b ≡ soundTest src c g T X) where
+    pub place-none : b ≡ false → 0 ∷ 0 ∷ [] ≡ placeCells (nameAt src c g T X table row)
     unfolding nameAt
     place-none e = rw (nameAt, ← q, e)
 
     module _ (e : b ≡ true) (p : Place) (h : p ≡ namePlace c (T .t1) (T .t7) table row) where
-      pub place-is : p .from ∷ p .to ∷ [] ≡ placeCells (nameAt src c g T table row)
+      pub place-is : p .from ∷ p .to ∷ [] ≡ placeCells (nameAt src c g T X table row)
       unfolding nameAt
       place-is = rw (nameAt, ← q, e, h)
 
       pub place-fits : Low p
-      place-fits = rw h (place-low src c g T (sound-iff src c g T .0 (sym q ∙ e)) table row)
+      place-fits = rw h (place-low src c g T X (sound-iff src c g T X .0 (sym q ∙ e)) table row)

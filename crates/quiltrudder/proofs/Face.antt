@@ -16,7 +16,7 @@ use Rattle.grammar.specs.declared.Param.the-variants.{NoParam, ParamAt}
 use Rattle.grammar.specs.declared.Counts.{Counts}
 use Rattle.grammar.specs.declared.Singles.{Singles}
 use Rattle.grammar.specs.Numbers.{partNumbers, paramNumbers}
-use Rattle.grammar.specs.Sound.{Tables}
+use Rattle.grammar.specs.Sound.{Tables, Indexes}
 use Rattle.reader.specs.declared.Verdict.{Verdict}
 use Rattle.reader.specs.declared.Verdict.the-variants.{Accepted, Rejected}
 use Rattle.reader.specs.Read.{Result, verdictNumbers}
@@ -98,16 +98,16 @@ all-counts-back o ten =
     ap (λ (l : List ℕ). record { n = l }) e
 
 -- The source's part at the place that `quiltrudder_name` gives is the row's name.
-pub name-part : (src : List ℕ) (c : Counts) (g : Singles) (T : Tables) (table row : ℕ) → partAt src (nameAt src c g T table row) ≡ nameOf src c g T table row
+pub name-part : (src : List ℕ) (c : Counts) (g : Singles) (T : Tables) (X : Indexes) (table row : ℕ) → partAt src (nameAt src c g T X table row) ≡ nameOf src c g T X table row
 unfolding nameAt nameOf
-name-part src c g T table row = go (soundTest src c g T)
+name-part src c g T X table row = go (soundTest src c g T X)
   where
     go : (b : Bool) → partAt src (elim b [ true ↦ namePlace c (T .t1) (T .t7) table row | false ↦ nowhere ]) ≡ elim b [ true ↦ partAt src (namePlace c (T .t1) (T .t7) table row) | false ↦ [] ]
     go true = refl
     go false = sym (part-none src)
 
 -- "Any two outcomes allowed by it are proved equal": of the report; the contracts of the others are equations.
-pub report-face-one : (src m : List ℕ) (T : Tables) (ws₀ ws vs out₀ out out' a b : List ℕ) → ReportFace src m T ws₀ ws out₀ out a → ReportFace src m T ws₀ vs out₀ out' b → (ws ≡ vs) × (out ≡ out') × (a ≡ b)
-report-face-one src m T ws₀ ws vs out₀ out out' a b p q =
-    let e = reported-one src (countsOf m) (singlesOf m) T ws₀ out₀ (p .listing) (q .listing) ws vs out out' (p .reported) (q .reported) in
+pub report-face-one : (src m : List ℕ) (T : Tables) (X : Indexes) (ws₀ ws vs out₀ out out' a b : List ℕ) → ReportFace src m T X ws₀ ws out₀ out a → ReportFace src m T X ws₀ vs out₀ out' b → (ws ≡ vs) × (out ≡ out') × (a ≡ b)
+report-face-one src m T X ws₀ ws vs out₀ out out' a b p q =
+    let e = reported-one src (countsOf m) (singlesOf m) T X ws₀ out₀ (p .listing) (q .listing) ws vs out out' (p .reported) (q .reported) in
     (ap (λ (o : Outcome). o .work) e, ap (λ (o : Outcome). o .cells) e, p .numbers ∙ ap (λ (o : Outcome). listingCells (o .answer)) e ∙ sym (q .numbers))

@@ -10,7 +10,7 @@ use lib.ListN.{length, getD}
 use Rattle.tables.specs.Layout.{epps, faultWidth}
 use Rattle.grammar.specs.declared.Counts.{Counts}
 use Rattle.grammar.specs.declared.Singles.{Singles}
-use Rattle.grammar.specs.Sound.{Tables}
+use Rattle.grammar.specs.Sound.{Tables, Indexes}
 use Rattle.reader.specs.Read.{Result, readAll}
 use Rattle.reader.specs.Allowed.{Full}
 use Rattle.reader.proofs.Sound.{read-sound, read-values}
@@ -36,19 +36,19 @@ use Rattle.values.proofs.Meaning.{value-not-44}
 use Rattle.quiltrudder.specs.Report.{grammarRead, excusesRead, Roomy, Exactly}
 
 -- What an accepted read left, or one refused for repeats only, passes the test of soundness,
-module _ (src : List ℕ) (kind : ℕ) (T : Tables) (full : Full (readAll src kind T .answer)) where
+module _ (src : List ℕ) (kind : ℕ) (T : Tables) (X : Indexes) (full : Full (readAll src kind T X .answer)) where
   abbrev o : Result
-  o = readAll src kind T
+  o = readAll src kind T X
 
-  pub read-passes : soundTest src (o .counts) (o .singles) (o .tables) ≡ true
-  read-passes = sound-iff src (o .counts) (o .singles) (o .tables) .1 (read-sound src kind T full)
+  pub read-passes : soundTest src (o .counts) (o .singles) (o .tables) (o .indexes) ≡ true
+  read-passes = sound-iff src (o .counts) (o .singles) (o .tables) (o .indexes) .1 (read-sound src kind T X full)
 
   -- so that validation never answers 44 on it,
-  pub validate-not-44 : validity src (o .counts) (o .singles) (o .tables) ≡ UnsoundTables → ⊥
-  validate-not-44 e = false≢true (sym (validity-unsound src (o .counts) (o .singles) (o .tables) .0 e) ∙ read-passes)
+  pub validate-not-44 : validity src (o .counts) (o .singles) (o .tables) (o .indexes) ≡ UnsoundTables → ⊥
+  validate-not-44 e = false≢true (sym (validity-unsound src (o .counts) (o .singles) (o .tables) (o .indexes) .0 e) ∙ read-passes)
 
   -- nor does the list of all faults,
-  pub faults-not-44 : (t : List ℕ) → faultListing src (o .counts) (o .singles) (o .tables) t .answer ≡ FaultsUnsound → ⊥
+  pub faults-not-44 : (t : List ℕ) → faultListing src (o .counts) (o .singles) (o .tables) (o .indexes) t .answer ≡ FaultsUnsound → ⊥
   unfolding faultListing
   faults-not-44 t e = go (leb (length all * faultWidth) (length t)) (rw (faultListing, read-passes) at e)
     where
@@ -60,17 +60,17 @@ module _ (src : List ℕ) (kind : ℕ) (T : Tables) (full : Full (readAll src ki
       go false e = let z : _≡_ {A = ℕ} 0 1 = cc in omega arith
 
   -- nor does the report,
-  pub report-not-44 : (ws₀ ws out₀ out : List ℕ) → Reported src (o .counts) (o .singles) (o .tables) OfUnsound ws₀ ws out₀ out → ⊥
-  report-not-44 ws₀ ws out₀ out = go (validity src (o .counts) (o .singles) (o .tables)) refl
+  pub report-not-44 : (ws₀ ws out₀ out : List ℕ) → Reported src (o .counts) (o .singles) (o .tables) (o .indexes) OfUnsound ws₀ ws out₀ out → ⊥
+  report-not-44 ws₀ ws out₀ out = go (validity src (o .counts) (o .singles) (o .tables) (o .indexes)) refl
     where
-      go : (v : Validity) → validity src (o .counts) (o .singles) (o .tables) ≡ v → Told v (grammarRead src o) (excusesRead src o) OfUnsound ws₀ ws out₀ out → ⊥
+      go : (v : Validity) → validity src (o .counts) (o .singles) (o .tables) (o .indexes) ≡ v → Told v (grammarRead src o) (excusesRead src o) OfUnsound ws₀ ws out₀ out → ⊥
       go Valid e p = p
       go UnsoundTables e p = validate-not-44 e
       go (Invalid f) e p = let q = p .0 in let z : _≡_ {A = ℕ} 0 1 = cc in omega arith
 
   -- nor the value of an `%epp` row.
-  pub value-row-not-44 : (row : ℕ) (out : List ℕ) → row < countAt (o .counts) epps → getD (valuationNumbers (eppValue src (o .counts) (o .singles) (o .tables) row out .answer)) 0 0 ≡ 44 → ⊥
-  value-row-not-44 row out h = value-not-44 src (o .counts) (o .singles) (o .tables) row out read-passes h (read-values src kind T row h)
+  pub value-row-not-44 : (row : ℕ) (out : List ℕ) → row < countAt (o .counts) epps → getD (valuationNumbers (eppValue src (o .counts) (o .singles) (o .tables) (o .indexes) row out .answer)) 0 0 ≡ 44 → ⊥
+  value-row-not-44 row out h = value-not-44 src (o .counts) (o .singles) (o .tables) (o .indexes) row out read-passes h (read-values src kind T X row h)
 
   -- The third demand, where it validates: what use and excuses go by.
   abbrev grammar : Grammar
@@ -79,27 +79,27 @@ module _ (src : List ℕ) (kind : ℕ) (T : Tables) (full : Full (readAll src ki
   abbrev excuses : Excuses
   excuses = excusesRead src o
 
-  module _ (l : Listing) (ws₀ ws out₀ out : List ℕ) (v : validity src (o .counts) (o .singles) (o .tables) ≡ Valid) where
-    module _ (words : need grammar ≤ length ws₀) (p : Reported src (o .counts) (o .singles) (o .tables) l ws₀ ws out₀ out) where
+  module _ (l : Listing) (ws₀ ws out₀ out : List ℕ) (v : validity src (o .counts) (o .singles) (o .tables) (o .indexes) ≡ Valid) where
+    module _ (words : need grammar ≤ length ws₀) (p : Reported src (o .counts) (o .singles) (o .tables) (o .indexes) l ws₀ ws out₀ out) where
       given : (n : ℕ) → l ≡ Unused n → Exactly grammar excuses l out
-      given n e = record { count = n; listed = e; rows = report-rows src (o .counts) (o .singles) (o .tables) n ws₀ ws out₀ out (rw e at p) }
+      given n e = record { count = n; listed = e; rows = report-rows src (o .counts) (o .singles) (o .tables) (o .indexes) n ws₀ ws out₀ out (rw e at p) }
 
       -- With words for the work bits, the report holds exactly the unused rows, each once, in order; or it answers 42 for table 12, and they are too many.
       pub report-either : Exactly grammar excuses l out ⊎ ((l ≡ NoRoom) × TooMany grammar excuses out₀)
-      report-either = ⊎-elim (λ y. inl (given (y .0) (y .1))) (λ y. inr y) (listed-or-many src (o .counts) (o .singles) (o .tables) l ws₀ ws out₀ out v words p)
+      report-either = ⊎-elim (λ y. inl (given (y .0) (y .1))) (λ y. inr y) (listed-or-many src (o .counts) (o .singles) (o .tables) (o .indexes) l ws₀ ws out₀ out v words p)
 
       -- So 42 comes exactly where they are too many,
       pub report-no-room : (l ≡ NoRoom) ↔ TooMany grammar excuses out₀
-      report-no-room = no-room-iff src (o .counts) (o .singles) (o .tables) l ws₀ ws out₀ out v words p
+      report-no-room = no-room-iff src (o .counts) (o .singles) (o .tables) (o .indexes) l ws₀ ws out₀ out v words p
 
       -- and where a list of them fits, they are given.
       pub report-fits : (n : ℕ) (list : List ℕ) → UnusedRows grammar excuses n list → n * 2 ≤ length out₀ → Exactly grammar excuses l out
-      report-fits n list r h = given n (listed-in-room src (o .counts) (o .singles) (o .tables) l ws₀ ws out₀ out v words p n list r h)
+      report-fits n list r h = given n (listed-in-room src (o .counts) (o .singles) (o .tables) (o .indexes) l ws₀ ws out₀ out v words p n list r h)
 
     -- They fit with room for every row.
-    pub report-exactly : Roomy grammar ws₀ out₀ → Reported src (o .counts) (o .singles) (o .tables) l ws₀ ws out₀ out → Exactly grammar excuses l out
-    report-exactly room p = let r = report-room src (o .counts) (o .singles) (o .tables) l ws₀ ws out₀ out v (room .words) (room .rows) p in given (room .words) p (r .0) (r .1)
+    pub report-exactly : Roomy grammar ws₀ out₀ → Reported src (o .counts) (o .singles) (o .tables) (o .indexes) l ws₀ ws out₀ out → Exactly grammar excuses l out
+    report-exactly room p = let r = report-room src (o .counts) (o .singles) (o .tables) (o .indexes) l ws₀ ws out₀ out v (room .words) (room .rows) p in given (room .words) p (r .0) (r .1)
 
 -- "Any two outcomes allowed by it are proved equal": of a name. `one-reading`, `validity-first`, `faults-one`, `reported-one` and `valued-one` say it of the other operations.
-pub name-one : (src : List ℕ) (c : Counts) (g : Singles) (T : Tables) (table row : ℕ) (a b : List ℕ) → a ≡ nameOf src c g T table row → b ≡ nameOf src c g T table row → a ≡ b
-name-one src c g T table row a b p q = p ∙ sym q
+pub name-one : (src : List ℕ) (c : Counts) (g : Singles) (T : Tables) (X : Indexes) (table row : ℕ) (a b : List ℕ) → a ≡ nameOf src c g T X table row → b ≡ nameOf src c g T X table row → a ≡ b
+name-one src c g T X table row a b p q = p ∙ sym q

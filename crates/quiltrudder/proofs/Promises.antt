@@ -12,9 +12,9 @@ use Rattle.grammar.specs.declared.Counts.{Counts}
 use Rattle.grammar.specs.declared.Singles.{Singles}
 use Rattle.grammar.specs.declared.Cause.{Cause}
 use Rattle.grammar.specs.declared.Cause.the-variants.{IntegerEmpty, IntegerTooLarge, IllegalName, IllegalString, IncompleteRule, IncompleteComment, IncompleteAction, MissingColon, MissingRightArrow, NonEmptyProduction, PrematureEnd, NotTerminated, UnknownDeclaration, ReachedEol, ReachedEnd, StringNotOpened, StringLineEnd, StringEscape, StringNotClosed, UnknownSymbol, NotUtf8}
-use Rattle.grammar.specs.declared.Refusal.the-variants.{Fault, Repeated, NoRoom as no-room, TooLong, BadKind}
+use Rattle.grammar.specs.declared.Refusal.the-variants.{Fault, Repeated, NoRoom as no-room, TooLong, BadKind, BadIndex}
 use Rattle.grammar.specs.Refusals.{numberOfCause}
-use Rattle.grammar.specs.Sound.{Tables}
+use Rattle.grammar.specs.Sound.{Tables, Indexes}
 use Rattle.reader.specs.declared.Verdict.{Verdict}
 use Rattle.reader.specs.declared.Verdict.the-variants.{Accepted, Rejected}
 use Rattle.reader.specs.Read.{Result, verdictNumbers, readAll}
@@ -108,20 +108,23 @@ valuation-number PastCount = refl
 valuation-number NotString = refl
 valuation-number NoTextRoom = refl
 
-module _ (src : List ℕ) (kind : ℕ) (T : Tables) where
+module _ (src : List ℕ) (kind : ℕ) (T : Tables) (X : Indexes) where
   abbrev o : Result
-  o = readAll src kind T
+  o = readAll src kind T X
 
-  -- the numbers that the C name of read wrote, and the tables that it left
+  -- the numbers that the C name of read wrote, and the tables and indexes that it left
   abbrev m : List ℕ
-  m = readFace src kind T .answer
+  m = readFace src kind T X .answer
 
   abbrev left : Tables
-  left = readFace src kind T .tables
+  left = readFace src kind T X .tables
+
+  abbrev slots : Indexes
+  slots = readFace src kind T X .indexes
 
   -- What the others take out of those numbers is what was read.
   pub face-back : (countsOf m ≡ o .counts) × (singlesOf m ≡ o .singles)
-  face-back = (all-counts-back o (read-ten src kind T), singles-back o)
+  face-back = (all-counts-back o (read-ten src kind T X), singles-back o)
 
   forth : (P : Counts → Singles → Type 0) → P (countsOf m) (singlesOf m) → P (o .counts) (o .singles)
   forth P p = told (λ (c : Counts). P c (o .singles)) (face-back .0) (told (P (countsOf m)) (face-back .1) p)
@@ -130,32 +133,32 @@ module _ (src : List ℕ) (kind : ℕ) (T : Tables) where
   back P p = told (λ (c : Counts). P c (singlesOf m)) (sym (face-back .0)) (told (P (o .counts)) (sym (face-back .1)) p)
 
   -- So they give what the operations give on the reading: the validation in numbers,
-  pub same-validity : validateFace src m left ≡ validityNumbers (validity src (o .counts) (o .singles) (o .tables)) ++ (0 ∷ [])
-  same-validity = forth (λ c g. validateFace src m left ≡ validityNumbers (validity src c g left) ++ (0 ∷ [])) refl
+  pub same-validity : validateFace src m left slots ≡ validityNumbers (validity src (o .counts) (o .singles) (o .tables) (o .indexes)) ++ (0 ∷ [])
+  same-validity = forth (λ c g. validateFace src m left slots ≡ validityNumbers (validity src c g left slots) ++ (0 ∷ [])) refl
 
   -- all faults with their answer in numbers,
-  pub same-faults : (t : List ℕ) → faultsFace src m left t ≡ faultsFaceOf (faultListing src (o .counts) (o .singles) (o .tables) t)
-  same-faults t = forth (λ c g. faultsFace src m left t ≡ faultsFaceOf (faultListing src c g left t)) refl
+  pub same-faults : (t : List ℕ) → faultsFace src m left slots t ≡ faultsFaceOf (faultListing src (o .counts) (o .singles) (o .tables) (o .indexes) t)
+  same-faults t = forth (λ c g. faultsFace src m left slots t ≡ faultsFaceOf (faultListing src c g left slots t)) refl
 
   -- the report with its answer in numbers,
-  pub same-report : (ws₀ ws out₀ out a : List ℕ) → ReportFace src m left ws₀ ws out₀ out a ↔ ((l : Listing) × Reported src (o .counts) (o .singles) (o .tables) l ws₀ ws out₀ out × (a ≡ listingCells l))
+  pub same-report : (ws₀ ws out₀ out a : List ℕ) → ReportFace src m left slots ws₀ ws out₀ out a ↔ ((l : Listing) × Reported src (o .counts) (o .singles) (o .tables) (o .indexes) l ws₀ ws out₀ out × (a ≡ listingCells l))
   same-report ws₀ ws out₀ out a = (
-    (λ r. (r .listing, forth (λ c g. Reported src c g left (r .listing) ws₀ ws out₀ out) (r .reported), r .numbers)),
-    (λ r. record { listing = r .0; reported = back (λ c g. Reported src c g left (r .0) ws₀ ws out₀ out) (r .1); numbers = r .2 }),
+    (λ r. (r .listing, forth (λ c g. Reported src c g left slots (r .listing) ws₀ ws out₀ out) (r .reported), r .numbers)),
+    (λ r. record { listing = r .0; reported = back (λ c g. Reported src c g left slots (r .0) ws₀ ws out₀ out) (r .1); numbers = r .2 }),
   )
 
   -- the place of a row's name,
-  pub same-place : (table row : ℕ) → nameFace src m left table row ≡ placeCells (nameAt src (o .counts) (o .singles) (o .tables) table row)
-  same-place table row = forth (λ c g. nameFace src m left table row ≡ placeCells (nameAt src c g left table row)) refl
+  pub same-place : (table row : ℕ) → nameFace src m left slots table row ≡ placeCells (nameAt src (o .counts) (o .singles) (o .tables) (o .indexes) table row)
+  same-place table row = forth (λ c g. nameFace src m left slots table row ≡ placeCells (nameAt src c g left slots table row)) refl
 
   -- at which the name stands in the source,
-  pub same-name : (table row : ℕ) → let a = nameFace src m left table row in partAt src (record { from = getD a 0 0; to = getD a 1 0 }) ≡ nameOf src (o .counts) (o .singles) (o .tables) table row
+  pub same-name : (table row : ℕ) → let a = nameFace src m left slots table row in partAt src (record { from = getD a 0 0; to = getD a 1 0 }) ≡ nameOf src (o .counts) (o .singles) (o .tables) (o .indexes) table row
   same-name table row =
-      name-part src (countsOf m) (singlesOf m) left table row ∙ forth (λ c g. nameOf src (countsOf m) (singlesOf m) left table row ≡ nameOf src c g left table row) refl
+      name-part src (countsOf m) (singlesOf m) left slots table row ∙ forth (λ c g. nameOf src (countsOf m) (singlesOf m) left slots table row ≡ nameOf src c g left slots table row) refl
 
   -- and the value with its answer in numbers.
-  pub same-value : (row : ℕ) (out : List ℕ) → valueFace src m left row out ≡ valueFaceOf (eppValue src (o .counts) (o .singles) (o .tables) row out)
-  same-value row out = forth (λ c g. valueFace src m left row out ≡ valueFaceOf (eppValue src c g left row out)) refl
+  pub same-value : (row : ℕ) (out : List ℕ) → valueFace src m left slots row out ≡ valueFaceOf (eppValue src (o .counts) (o .singles) (o .tables) (o .indexes) row out)
+  same-value row out = forth (λ c g. valueFace src m left slots row out ≡ valueFaceOf (eppValue src c g left slots row out)) refl
 
   -- A read is full where its number says so.
   pub face-full : FullNumber (getD m 0 0) → Full (o .answer)
@@ -169,26 +172,27 @@ module _ (src : List ℕ) (kind : ℕ) (T : Tables) where
       go (Rejected (no-room t a b)) xs ys n = ⊎-elim (λ e. omega arith) (λ e. omega arith) n
       go (Rejected TooLong) xs ys n = ⊎-elim (λ e. omega arith) (λ e. omega arith) n
       go (Rejected BadKind) xs ys n = ⊎-elim (λ e. omega arith) (λ e. omega arith) n
+      go (Rejected BadIndex) xs ys n = ⊎-elim (λ e. omega arith) (λ e. omega arith) n
 
   -- After a full read none of them answers 44;
   module _ (full : Full (o .answer)) where
-    pub face-validate-not-44 : getD (validateFace src m left) 0 0 ≡ 44 → ⊥
-    face-validate-not-44 e = validate-not-44 src kind T full (validity-44 _ (rw same-validity at e))
+    pub face-validate-not-44 : getD (validateFace src m left slots) 0 0 ≡ 44 → ⊥
+    face-validate-not-44 e = validate-not-44 src kind T X full (validity-44 _ (rw same-validity at e))
 
-    pub face-faults-not-44 : (t : List ℕ) → getD (faultsFace src m left t .answer) 0 0 ≡ 44 → ⊥
-    face-faults-not-44 t e = faults-not-44 src kind T full t (faults-44 _ (ap (λ (f : FaultsFace). getD (f .answer) 0 0) (sym (same-faults t)) ∙ e))
+    pub face-faults-not-44 : (t : List ℕ) → getD (faultsFace src m left slots t .answer) 0 0 ≡ 44 → ⊥
+    face-faults-not-44 t e = faults-not-44 src kind T X full t (faults-44 _ (ap (λ (f : FaultsFace). getD (f .answer) 0 0) (sym (same-faults t)) ∙ e))
 
-    pub face-report-not-44 : (ws₀ ws out₀ out a : List ℕ) → ReportFace src m left ws₀ ws out₀ out a → getD a 0 0 ≡ 44 → ⊥
+    pub face-report-not-44 : (ws₀ ws out₀ out a : List ℕ) → ReportFace src m left slots ws₀ ws out₀ out a → getD a 0 0 ≡ 44 → ⊥
     face-report-not-44 ws₀ ws out₀ out a r e =
         let q = same-report ws₀ ws out₀ out a .0 r in
         let l : q .0 ≡ OfUnsound = listing-44 (q .0) (rw (q .2) at e) in
-        report-not-44 src kind T full ws₀ ws out₀ out (told (λ (l : Listing). Reported src (o .counts) (o .singles) left l ws₀ ws out₀ out) l (q .1))
+        report-not-44 src kind T X full ws₀ ws out₀ out (told (λ (l : Listing). Reported src (o .counts) (o .singles) left slots l ws₀ ws out₀ out) l (q .1))
 
-    pub face-value-not-44 : (row : ℕ) (out : List ℕ) → row < countAt (countsOf m) epps → getD (valueFace src m left row out .answer) 0 0 ≡ 44 → ⊥
+    pub face-value-not-44 : (row : ℕ) (out : List ℕ) → row < countAt (countsOf m) epps → getD (valueFace src m left slots row out .answer) 0 0 ≡ 44 → ⊥
     face-value-not-44 row out h e =
         let k : row < countAt (o .counts) epps = forth (λ c g. row < countAt c epps) h in
-        let v = eppValue src (o .counts) (o .singles) left row out .answer in
-        value-row-not-44 src kind T full row out k (sym (valuation-number v) ∙ ap (λ (f : ValueFace). getD (f .answer) 0 0) (sym (same-value row out)) ∙ e)
+        let v = eppValue src (o .counts) (o .singles) left slots row out .answer in
+        value-row-not-44 src kind T X full row out k (sym (valuation-number v) ∙ ap (λ (f : ValueFace). getD (f .answer) 0 0) (sym (same-value row out)) ∙ e)
 
     -- and the third demand holds, where the number of validation is 0.
     abbrev grammar : Grammar
@@ -197,12 +201,12 @@ module _ (src : List ℕ) (kind : ℕ) (T : Tables) where
     abbrev excuses : Excuses
     excuses = excusesRead src o
 
-    module _ (ws₀ ws out₀ out a : List ℕ) (valid : getD (validateFace src m left) 0 0 ≡ 0) (r : ReportFace src m left ws₀ ws out₀ out a) where
-      reading-valid : validity src (o .counts) (o .singles) (o .tables) ≡ Valid
+    module _ (ws₀ ws out₀ out a : List ℕ) (valid : getD (validateFace src m left slots) 0 0 ≡ 0) (r : ReportFace src m left slots ws₀ ws out₀ out a) where
+      reading-valid : validity src (o .counts) (o .singles) (o .tables) (o .indexes) ≡ Valid
       reading-valid = validity-0 _ (rw same-validity at valid)
 
       -- what the operation reported, and the numbers that tell it
-      told-by : {Q : Type 0} → ((l : Listing) → Reported src (o .counts) (o .singles) (o .tables) l ws₀ ws out₀ out → a ≡ listingCells l → Q) → Q
+      told-by : {Q : Type 0} → ((l : Listing) → Reported src (o .counts) (o .singles) (o .tables) (o .indexes) l ws₀ ws out₀ out → a ≡ listingCells l → Q) → Q
       told-by f = let q = same-report ws₀ ws out₀ out a .0 r in f (q .0) (q .1) (q .2)
 
       in-numbers : (l : Listing) → a ≡ listingCells l → Exactly grammar excuses l out → ExactlyFace grammar excuses out a
@@ -210,10 +214,10 @@ module _ (src : List ℕ) (kind : ℕ) (T : Tables) where
 
       pub face-report-either : need grammar ≤ length ws₀ → ExactlyFace grammar excuses out a ⊎ CrowdedFace grammar excuses out₀ a
       face-report-either words =
-          told-by (λ l p e. ⊎-elim (λ x. inl (in-numbers l e x)) (λ x. inr (record { numbers = e ∙ ap listingCells (x .0); many = x .1 })) (report-either src kind T full l ws₀ ws out₀ out reading-valid words p))
+          told-by (λ l p e. ⊎-elim (λ x. inl (in-numbers l e x)) (λ x. inr (record { numbers = e ∙ ap listingCells (x .0); many = x .1 })) (report-either src kind T X full l ws₀ ws out₀ out reading-valid words p))
 
       pub face-report-fits : need grammar ≤ length ws₀ → (n : ℕ) (list : List ℕ) → UnusedRows grammar excuses n list → n * 2 ≤ length out₀ → ExactlyFace grammar excuses out a
-      face-report-fits words n list x h = told-by (λ l p e. in-numbers l e (report-fits src kind T full l ws₀ ws out₀ out reading-valid words p n list x h))
+      face-report-fits words n list x h = told-by (λ l p e. in-numbers l e (report-fits src kind T X full l ws₀ ws out₀ out reading-valid words p n list x h))
 
       pub face-report-exactly : Roomy grammar ws₀ out₀ → ExactlyFace grammar excuses out a
-      face-report-exactly room = told-by (λ l p e. in-numbers l e (report-exactly src kind T full l ws₀ ws out₀ out reading-valid room p))
+      face-report-exactly room = told-by (λ l p e. in-numbers l e (report-exactly src kind T X full l ws₀ ws out₀ out reading-valid room p))

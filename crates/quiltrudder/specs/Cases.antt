@@ -21,7 +21,10 @@ use Rattle.texts.specs.Action.{braced, bracedFrom, acted, actionAt}
 use Rattle.tables.specs.Table.{room, addRow, samePart, hasName, firstRow, findName, enterToken}
 use Rattle.keywords.specs.Keywords.{firstOf, seenAt}
 use Rattle.grammar.specs.State.{nextLevel, gapOf, gapAt, pushRow, listRepeat, enterStep, onceStep, pastGap}
-use Rattle.grammar.specs.Sound.{Tables}
+use Rattle.index.specs.Hash.{hashFrom, hashOf}
+use Rattle.tables.specs.Below.{below}
+use Rattle.index.specs.Index.{freshName, nextSlot, freeSlot, enterRow, entries, stands, rowStands, filled as index-filled, indexTest, halved, isPower, sizeTest}
+use Rattle.grammar.specs.Sound.{Tables, Indexes}
 use Rattle.settings.specs.Settings.{startNamed, startDecl, expectGiven, expectDecl, actiontypeNamed, actiontypeDecl, paramTyped, paramDecl, genericsDecl}
 use Rattle.lists.specs.Lists.{tokenItem, unusedRow, unusedItem, ends, listTurn, percentList, listDecl}
 use Rattle.lines.specs.Precedences.{precItem, precTurn, precList, precDecl}
@@ -30,14 +33,14 @@ use Rattle.epps.specs.Epps.{eppGiven, eppText, eppValue, eppDecl}
 use Rattle.declarations.specs.Declarations.{declStep, declTurn, declRun, declAll}
 use Rattle.items.specs.Items.{firstMark, sortAt, tokenSymbol, quotedRows, quotedItem, precName, precItem as item-precItem, mayEnd, afterAction, actionItem, mayFollow, emptyItem, symbolKind, bareItem, endProduction, barItem, endItem, itemStep, itemTurn, itemList}
 use Rattle.rules.specs.Rules.{passMark, firstStart, colonType, arrowType, ruleType, enterRule, namedHead, ruleHead, ruleBody, ruleStep, nextRule, rulesTurn, rulesRun, rulesAll, programsFrom}
-use Rattle.reader.specs.Read.{Result, admitted, restAll, sectionsAll, attempted, endedAt, readAll}
+use Rattle.reader.specs.Read.{Result, sizesFit, admitted, restAll, sectionsAll, attempted, endedAt, readAll}
 use Rattle.grammar.specs.declared.Refusal.{Refusal}
 use Rattle.grammar.specs.Refusals.{ofNumber, repeatOf}
-use Rattle.grammar.specs.declared.Refusal.the-variants.{Fault, Repeated, NoRoom, TooLong, BadKind}
+use Rattle.grammar.specs.declared.Refusal.the-variants.{Fault, Repeated, NoRoom, TooLong, BadKind, BadIndex}
 use Rattle.reader.specs.declared.Verdict.{Verdict}
 use Rattle.reader.specs.declared.Verdict.the-variants.{Accepted, Rejected}
 use Rattle.reader.specs.Cases.{Input, row, filled, numbers}
-use Rattle.sound.specs.Test.{zeros, zerosFrom, below, givenTest, actionTest, tokenTest, precTest, nameTest, eppTest, kindTest, ruleTest, productionTest, repeatTest, freshTest, tableTest, before, rangeTest, rangesTest, singlesTest, tablesTest, soundTest}
+use Rattle.sound.specs.Test.{zeros, zerosFrom, givenTest, actionTest, tokenTest, precTest, nameTest, eppTest, kindTest, ruleTest, productionTest, repeatTest, tableTest, before, rangeTest, rangesTest, singlesTest, indexRight, indexesTest, tablesTest, soundTest}
 use Rattle.productions.specs.Cells.{pushProduction, precOf, productionAt}
 use Rattle.validation.specs.Faults.{validityNumbers, upto, known, nameFaults, kindFaults, kindsFaults, productionFaults, ruleFaults, rulesFaults, eppFaults, eppsFaults, faults, validity}
 
@@ -48,6 +51,10 @@ free = replicate 39 7
 abbrev lent : Tables
 lent = record { t1 = free; t2 = free; t3 = free; t4 = free; t5 = free; t6 = free; t7 = free; t8 = free; t9 = free; t10 = free }
 
+-- and indexes that are large enough for them
+abbrev slots : Indexes
+slots = record { tokens = replicate 32 7; rules = replicate 16 7 }
+
 -- a full reading is validated, be it refused for repeats only
 abbrev full : Refusal → Bool
 full (Fault c i) = false
@@ -55,6 +62,7 @@ full (Repeated what a b) = true
 full (NoRoom t a b) = false
 full TooLong = false
 full BadKind = false
+full BadIndex = false
 
 abbrev isFull : Verdict → Bool
 isFull (Accepted i) = true
@@ -66,7 +74,7 @@ ifFull false v = []
 
 -- the read's number and place, counts, rows and singles; then validate's number and place
 abbrev told : List ℕ → Result → List ℕ
-told src o = numbers o ++ ifFull (isFull (o .answer)) (validityNumbers (validity src (o .counts) (o .singles) (o .tables)))
+told src o = numbers o ++ ifFull (isFull (o .answer)) (validityNumbers (validity src (o .counts) (o .singles) (o .tables) (o .indexes)))
 
 unfoldable pub table : List (Case Input)
 table =
@@ -100,6 +108,6 @@ table =
     ∷ row 1 (37 ∷ 115 ∷ 116 ∷ 97 ∷ 114 ∷ 116 ∷ 32 ∷ 97 ∷ 37 ∷ 115 ∷ 116 ∷ 97 ∷ 114 ∷ 116 ∷ 32 ∷ 98 ∷ 37 ∷ 37 ∷ 97 ∷ 58 ∷ 59 ∷ []) (25 ∷ 7 ∷ 8 ∷ 0 ∷ 0 ∷ 0 ∷ 0 ∷ 0 ∷ 0 ∷ 1 ∷ 1 ∷ 0 ∷ 1 ∷ 18 ∷ 19 ∷ 0 ∷ 0 ∷ 0 ∷ 0 ∷ 20 ∷ 20 ∷ 0 ∷ 0 ∷ 0 ∷ 0 ∷ 0 ∷ 0 ∷ 0 ∷ 0 ∷ 0 ∷ 0 ∷ 25 ∷ 7 ∷ 8 ∷ 15 ∷ 16 ∷ 1 ∷ 7 ∷ 8 ∷ 0 ∷ 0 ∷ 0 ∷ 0 ∷ 0 ∷ 0 ∷ 0 ∷ 0 ∷ 0 ∷ 0 ∷ 0 ∷ 0 ∷ 0 ∷ 0 ∷ 0 ∷ 0 ∷ 0 ∷ 0 ∷ 0 ∷ 0 ∷ 0 ∷ 0 ∷ [])
     ∷ []
 
-pub table-holds : all (λ x. told (x .src) (readAll (x .src) (x .kind) lent)) table ≡ true
-unfolding isWhite all same row table filled numbers readAll attempted admitted sectionsAll restAll endedAt repeatOf ofNumber check checkAt declAll declRun declTurn declStep seenAt firstOf startsAt begins turns gapAt gapOf spacing spacingAt isBlank isEol pastGap pushRow listRepeat enterStep onceStep addRow room samePart hasName firstRow findName enterToken nextLevel nameAt named wordAt tokenAt bare quotedAt closed isQuote isAt inClass isLetter isDigit runEnd runEndAt intAt counted decimal decimalAt stringAt stringFrom string lineEndAt single singleFrom colonText colonTextAt braced bracedFrom acted actionAt startDecl startNamed expectDecl expectGiven actiontypeDecl actiontypeNamed paramTyped paramDecl genericsDecl listDecl percentList listTurn ends tokenItem unusedItem unusedRow precDecl precList precTurn precItem avoidDecl avoidList avoidTurn avoidItem avoidNamed eppDecl eppValue eppText eppGiven pushProduction leadOf follow followAt begun decode decodeAt passed passedAt kept moved trimTurn trimmed firstMark sortAt tokenSymbol quotedRows quotedItem precName item-precItem mayEnd afterAction actionItem mayFollow emptyItem symbolKind bareItem endProduction barItem endItem itemStep itemTurn itemList passMark firstStart colonType arrowType ruleType enterRule namedHead ruleHead ruleBody ruleStep nextRule rulesTurn rulesRun rulesAll programsFrom zeros zerosFrom below givenTest actionTest tokenTest precTest nameTest eppTest kindTest ruleTest productionTest repeatTest freshTest tableTest before rangeTest rangesTest singlesTest tablesTest soundTest upto known nameFaults kindFaults kindsFaults productionFaults ruleFaults rulesFaults eppFaults eppsFaults faults validity productionAt precOf
+pub table-holds : all (λ x. told (x .src) (readAll (x .src) (x .kind) lent slots)) table ≡ true
+unfolding isWhite all same row table filled numbers readAll attempted sizesFit sizeTest isPower halved admitted sectionsAll restAll endedAt repeatOf ofNumber check checkAt declAll declRun declTurn declStep seenAt firstOf startsAt begins turns gapAt gapOf spacing spacingAt isBlank isEol pastGap pushRow listRepeat enterStep onceStep addRow room samePart hasName firstRow findName enterToken nextLevel nameAt named wordAt tokenAt bare quotedAt closed isQuote isAt inClass isLetter isDigit runEnd runEndAt intAt counted decimal decimalAt stringAt stringFrom string lineEndAt single singleFrom colonText colonTextAt braced bracedFrom acted actionAt startDecl startNamed expectDecl expectGiven actiontypeDecl actiontypeNamed paramTyped paramDecl genericsDecl listDecl percentList listTurn ends tokenItem unusedItem unusedRow precDecl precList precTurn precItem avoidDecl avoidList avoidTurn avoidItem avoidNamed eppDecl eppValue eppText eppGiven pushProduction leadOf follow followAt begun decode decodeAt passed passedAt kept moved trimTurn trimmed firstMark sortAt tokenSymbol quotedRows quotedItem precName item-precItem mayEnd afterAction actionItem mayFollow emptyItem symbolKind bareItem endProduction barItem endItem itemStep itemTurn itemList passMark firstStart colonType arrowType ruleType enterRule namedHead ruleHead ruleBody ruleStep nextRule rulesTurn rulesRun rulesAll programsFrom zeros zerosFrom below givenTest actionTest tokenTest precTest nameTest eppTest kindTest ruleTest productionTest repeatTest freshName tableTest before rangeTest rangesTest singlesTest hashFrom hashOf nextSlot freeSlot enterRow entries stands rowStands index-filled indexTest indexRight indexesTest tablesTest soundTest upto known nameFaults kindFaults kindsFaults productionFaults ruleFaults rulesFaults eppFaults eppsFaults faults validity productionAt precOf
 table-holds = refl

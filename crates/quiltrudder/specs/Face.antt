@@ -16,7 +16,7 @@ use Rattle.grammar.specs.declared.Param.the-variants.{NoParam, ParamAt}
 use Rattle.grammar.specs.declared.Counts.{Counts}
 use Rattle.grammar.specs.declared.Singles.{Singles}
 use Rattle.grammar.specs.Numbers.{partNumbers, paramNumbers}
-use Rattle.grammar.specs.Sound.{Tables}
+use Rattle.grammar.specs.Sound.{Tables, Indexes}
 use Rattle.reader.specs.declared.Verdict.{Verdict}
 use Rattle.reader.specs.Read.{Result, verdictNumbers, readAll}
 use Rattle.sound.specs.Test.{soundTest}
@@ -59,16 +59,17 @@ readingCells v c g = verdictNumbers v ++ countsCells c ++ singlesCells g
 abbrev pub readingNumbers : Result → List ℕ
 readingNumbers o = readingCells (o .answer) (o .counts) (o .singles)
 
--- a read's answer, and what it left in the tables
+-- a read's answer, and what it left in the tables and the indexes
 pub record ReadFace : Type 0 where
   pub answer : List ℕ
   pub tables : Tables
+  pub indexes : Indexes
 
 abbrev pub readFaceOf : Result → ReadFace
-readFaceOf o = record { answer = readingNumbers o; tables = o .tables }
+readFaceOf o = record { answer = readingNumbers o; tables = o .tables; indexes = o .indexes }
 
-abbrev pub readFace : List ℕ → ℕ → Tables → ReadFace
-readFace src kind T = readFaceOf (readAll src kind T)
+abbrev pub readFace : List ℕ → ℕ → Tables → Indexes → ReadFace
+readFace src kind T X = readFaceOf (readAll src kind T X)
 
 -- "0 accepted", or "20 Precedence, [..] 27 EPP repeated": the numbers after which "all tables hold the full reading"
 abbrev pub FullNumber : ℕ → Type 0
@@ -105,8 +106,8 @@ singlesOf m =
 -- ---- what the others answer
 
 -- whether a reading is valid: number and place; "table number (0 unless 42)"
-abbrev pub validateFace : List ℕ → List ℕ → Tables → List ℕ
-validateFace src m T = validityNumbers (validity src (countsOf m) (singlesOf m) T) ++ (0 ∷ [])
+abbrev pub validateFace : List ℕ → List ℕ → Tables → Indexes → List ℕ
+validateFace src m T X = validityNumbers (validity src (countsOf m) (singlesOf m) T X) ++ (0 ∷ [])
 
 -- number, place, table number and the count in halves: "Each also answers a count"
 abbrev pub countedCells : List ℕ → List ℕ
@@ -123,16 +124,16 @@ faultListingCells l = countedCells (faultListingNumbers l)
 abbrev pub faultsFaceOf : AllFaults → FaultsFace
 faultsFaceOf o = record { answer = faultListingCells (o .answer); cells = o .cells }
 
-abbrev pub faultsFace : List ℕ → List ℕ → Tables → List ℕ → FaultsFace
-faultsFace src m T t = faultsFaceOf (faultListing src (countsOf m) (singlesOf m) T t)
+abbrev pub faultsFace : List ℕ → List ℕ → Tables → Indexes → List ℕ → FaultsFace
+faultsFace src m T X t = faultsFaceOf (faultListing src (countsOf m) (singlesOf m) T X t)
 
 abbrev pub listingCells : Listing → List ℕ
 listingCells l = countedCells (listingNumbers l)
 
 -- the report, with its answer in numbers
-pub record ReportFace (src m : List ℕ) (T : Tables) (ws₀ ws out₀ out answer : List ℕ) : Type 0 where
+pub record ReportFace (src m : List ℕ) (T : Tables) (X : Indexes) (ws₀ ws out₀ out answer : List ℕ) : Type 0 where
   pub listing : Listing
-  pub reported : Reported src (countsOf m) (singlesOf m) T listing ws₀ ws out₀ out
+  pub reported : Reported src (countsOf m) (singlesOf m) T X listing ws₀ ws out₀ out
   pub numbers : answer ≡ listingCells listing
 
 -- The third demand, of what the C name of report wrote: number 0, how many rows there are, and they are the unused rows;
@@ -147,14 +148,14 @@ pub record CrowdedFace (g : Grammar) (x : Excuses) (out answer : List ℕ) : Typ
   pub many : TooMany g x out
 
 -- the place of a row's name; 0, 0 where "another table number, a row number not below its count or unsound tables give an empty part"
-unfoldable pub nameAt : List ℕ → Counts → Singles → Tables → ℕ → ℕ → Place
-nameAt src c g T table row = elim (soundTest src c g T) [ true ↦ namePlace c (T .t1) (T .t7) table row | false ↦ nowhere ]
+unfoldable pub nameAt : List ℕ → Counts → Singles → Tables → Indexes → ℕ → ℕ → Place
+nameAt src c g T X table row = elim (soundTest src c g T X) [ true ↦ namePlace c (T .t1) (T .t7) table row | false ↦ nowhere ]
 
 abbrev pub placeCells : Place → List ℕ
 placeCells p = p .from ∷ p .to ∷ []
 
-abbrev pub nameFace : List ℕ → List ℕ → Tables → ℕ → ℕ → List ℕ
-nameFace src m T table row = placeCells (nameAt src (countsOf m) (singlesOf m) T table row)
+abbrev pub nameFace : List ℕ → List ℕ → Tables → Indexes → ℕ → ℕ → List ℕ
+nameFace src m T X table row = placeCells (nameAt src (countsOf m) (singlesOf m) T X table row)
 
 -- the value of an `%epp` row, with its answer in numbers
 pub record ValueFace : Type 0 where
@@ -167,5 +168,5 @@ valuationCells v = countedCells (valuationNumbers v)
 abbrev pub valueFaceOf : Valued → ValueFace
 valueFaceOf o = record { answer = valuationCells (o .answer); out = o .out }
 
-abbrev pub valueFace : List ℕ → List ℕ → Tables → ℕ → List ℕ → ValueFace
-valueFace src m T row out = valueFaceOf (eppValue src (countsOf m) (singlesOf m) T row out)
+abbrev pub valueFace : List ℕ → List ℕ → Tables → Indexes → ℕ → List ℕ → ValueFace
+valueFace src m T X row out = valueFaceOf (eppValue src (countsOf m) (singlesOf m) T X row out)

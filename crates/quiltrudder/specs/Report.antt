@@ -5,7 +5,7 @@ use mathlib.Core.Path.{_≡_}
 use mathlib.Core.List.{List}
 use lib.ListN.{length}
 use Rattle.grammar.specs.declared.Counts.{Counts}
-use Rattle.grammar.specs.Sound.{Tables}
+use Rattle.grammar.specs.Sound.{Tables, Indexes}
 use Rattle.reader.specs.Read.{Result}
 use Rattle.reach.specs.Reach.{Grammar, grammarOf, need}
 use Rattle.usage.specs.declared.Listing.{Listing}

@@ -40,10 +40,12 @@ pub fn read(
     t8: &mut [u32],
     t9: &mut [u32],
     t10: &mut [u32],
+    i1: &mut [u32],
+    i7: &mut [u32],
 ) -> Reading
-    ensures { λ r. ⌜ _≡_ {A = Result} (record { answer = r .answer; counts = r .counts; singles = r .singles; tables = record { t1 = now (t1 .exit); t2 = now (t2 .exit); t3 = now (t3 .exit); t4 = now (t4 .exit); t5 = now (t5 .exit); t6 = now (t6 .exit); t7 = now (t7 .exit); t8 = now (t8 .exit); t9 = now (t9 .exit); t10 = now (t10 .exit) } }) (readAll (now (src .entry)) kind (record { t1 = now (t1 .entry); t2 = now (t2 .entry); t3 = now (t3 .entry); t4 = now (t4 .entry); t5 = now (t5 .entry); t6 = now (t6 .entry); t7 = now (t7 .entry); t8 = now (t8 .entry); t9 = now (t9 .entry); t10 = now (t10 .entry) })) ⌝ }
+    ensures { λ r. ⌜ _≡_ {A = Result} (record { answer = r .answer; counts = r .counts; singles = r .singles; tables = record { t1 = now (t1 .exit); t2 = now (t2 .exit); t3 = now (t3 .exit); t4 = now (t4 .exit); t5 = now (t5 .exit); t6 = now (t6 .exit); t7 = now (t7 .exit); t8 = now (t8 .exit); t9 = now (t9 .exit); t10 = now (t10 .exit) }; indexes = record { tokens = now (i1 .exit); rules = now (i7 .exit) } }) (readAll (now (src .entry)) kind (record { t1 = now (t1 .entry); t2 = now (t2 .entry); t3 = now (t3 .entry); t4 = now (t4 .entry); t5 = now (t5 .entry); t6 = now (t6 .entry); t7 = now (t7 .entry); t8 = now (t8 .entry); t9 = now (t9 .entry); t10 = now (t10 .entry) }) (record { tokens = now (i1 .entry); rules = now (i7 .entry) })) ⌝ }
 {
-    reader::read(src, kind, t1, t2, t3, t4, t5, t6, t7, t8, t9, t10)
+    reader::read(src, kind, t1, t2, t3, t4, t5, t6, t7, t8, t9, t10, i1, i7)
 }
 
 // Whether a reading is valid, or the first that it lacks. Changes nothing lent.
@@ -61,10 +63,12 @@ pub fn validate(
     t8: &[u32],
     t9: &[u32],
     t10: &[u32],
+    i1: &[u32],
+    i7: &[u32],
 ) -> Validity
-    ensures { λ r. ⌜ r ≡ validity (now (src .entry)) c g (record { t1 = now (t1 .entry); t2 = now (t2 .entry); t3 = now (t3 .entry); t4 = now (t4 .entry); t5 = now (t5 .entry); t6 = now (t6 .entry); t7 = now (t7 .entry); t8 = now (t8 .entry); t9 = now (t9 .entry); t10 = now (t10 .entry) }) ⌝ }
+    ensures { λ r. ⌜ r ≡ validity (now (src .entry)) c g (record { t1 = now (t1 .entry); t2 = now (t2 .entry); t3 = now (t3 .entry); t4 = now (t4 .entry); t5 = now (t5 .entry); t6 = now (t6 .entry); t7 = now (t7 .entry); t8 = now (t8 .entry); t9 = now (t9 .entry); t10 = now (t10 .entry) }) (record { tokens = now (i1 .entry); rules = now (i7 .entry) }) ⌝ }
 {
-    validation::validate(src, c, g, t1, t2, t3, t4, t5, t6, t7, t8, t9, t10)
+    validation::validate(src, c, g, t1, t2, t3, t4, t5, t6, t7, t8, t9, t10, i1, i7)
 }
 
 // Every fault that a reading has, as rows (number, from, to) of `t14`, in the order of the tests.
@@ -82,11 +86,30 @@ pub fn faults(
     t8: &[u32],
     t9: &[u32],
     t10: &[u32],
+    i1: &[u32],
+    i7: &[u32],
     t14: &mut [u32],
 ) -> FaultListing
-    ensures { λ r. ⌜ _≡_ {A = AllFaults} (record { answer = r; cells = now (t14 .exit) }) (faultListing (now (src .entry)) c g (record { t1 = now (t1 .entry); t2 = now (t2 .entry); t3 = now (t3 .entry); t4 = now (t4 .entry); t5 = now (t5 .entry); t6 = now (t6 .entry); t7 = now (t7 .entry); t8 = now (t8 .entry); t9 = now (t9 .entry); t10 = now (t10 .entry) }) (now (t14 .entry))) ⌝ }
+    ensures { λ r. ⌜ _≡_ {A = AllFaults} (record { answer = r; cells = now (t14 .exit) }) (faultListing (now (src .entry)) c g (record { t1 = now (t1 .entry); t2 = now (t2 .entry); t3 = now (t3 .entry); t4 = now (t4 .entry); t5 = now (t5 .entry); t6 = now (t6 .entry); t7 = now (t7 .entry); t8 = now (t8 .entry); t9 = now (t9 .entry); t10 = now (t10 .entry) }) (record { tokens = now (i1 .entry); rules = now (i7 .entry) }) (now (t14 .entry))) ⌝ }
 {
-    validation::faults(src, c, g, t1, t2, t3, t4, t5, t6, t7, t8, t9, t10, t14)
+    validation::faults(
+        src,
+        c,
+        g,
+        t1,
+        t2,
+        t3,
+        t4,
+        t5,
+        t6,
+        t7,
+        t8,
+        t9,
+        t10,
+        i1,
+        i7,
+        t14,
+    )
 }
 
 // The unused rules and tokens of a valid reading, into `out`; `work` holds a bit for each row that is used.
@@ -104,10 +127,12 @@ pub fn report(
     t8: &[u32],
     t9: &[u32],
     t10: &[u32],
+    i1: &[u32],
+    i7: &[u32],
     work: &mut [u32],
     out: &mut [u32],
 ) -> Listing
-    ensures { λ r. ⌜ Reported (now (src .entry)) c g (record { t1 = now (t1 .entry); t2 = now (t2 .entry); t3 = now (t3 .entry); t4 = now (t4 .entry); t5 = now (t5 .entry); t6 = now (t6 .entry); t7 = now (t7 .entry); t8 = now (t8 .entry); t9 = now (t9 .entry); t10 = now (t10 .entry) }) r (now (work .entry)) (now (work .exit)) (now (out .entry)) (now (out .exit)) ⌝ }
+    ensures { λ r. ⌜ Reported (now (src .entry)) c g (record { t1 = now (t1 .entry); t2 = now (t2 .entry); t3 = now (t3 .entry); t4 = now (t4 .entry); t5 = now (t5 .entry); t6 = now (t6 .entry); t7 = now (t7 .entry); t8 = now (t8 .entry); t9 = now (t9 .entry); t10 = now (t10 .entry) }) (record { tokens = now (i1 .entry); rules = now (i7 .entry) }) r (now (work .entry)) (now (work .exit)) (now (out .entry)) (now (out .exit)) ⌝ }
 {
     usage::report(
         src,
@@ -123,6 +148,8 @@ pub fn report(
         t8,
         t9,
         t10,
+        i1,
+        i7,
         work,
         out,
     )
@@ -143,10 +170,12 @@ pub fn name<'a>(
     t8: &[u32],
     t9: &[u32],
     t10: &[u32],
+    i1: &[u32],
+    i7: &[u32],
     table: u32,
     row: u32,
 ) -> &'a [u8]
-    ensures { λ r. ⌜ now r ≡ nameOf (now (src .entry)) c g (record { t1 = now (t1 .entry); t2 = now (t2 .entry); t3 = now (t3 .entry); t4 = now (t4 .entry); t5 = now (t5 .entry); t6 = now (t6 .entry); t7 = now (t7 .entry); t8 = now (t8 .entry); t9 = now (t9 .entry); t10 = now (t10 .entry) }) table row ⌝ }
+    ensures { λ r. ⌜ now r ≡ nameOf (now (src .entry)) c g (record { t1 = now (t1 .entry); t2 = now (t2 .entry); t3 = now (t3 .entry); t4 = now (t4 .entry); t5 = now (t5 .entry); t6 = now (t6 .entry); t7 = now (t7 .entry); t8 = now (t8 .entry); t9 = now (t9 .entry); t10 = now (t10 .entry) }) (record { tokens = now (i1 .entry); rules = now (i7 .entry) }) table row ⌝ }
 {
     names::name(
         src,
@@ -162,6 +191,8 @@ pub fn name<'a>(
         t8,
         t9,
         t10,
+        i1,
+        i7,
         table,
         row,
     )
@@ -182,12 +213,32 @@ pub fn epp_value(
     t8: &[u32],
     t9: &[u32],
     t10: &[u32],
+    i1: &[u32],
+    i7: &[u32],
     row: u32,
     out: &mut [u8],
 ) -> Valuation
-    ensures { λ r. ⌜ _≡_ {A = Valued} (record { answer = r; out = now (out .exit) }) (eppValue (now (src .entry)) c g (record { t1 = now (t1 .entry); t2 = now (t2 .entry); t3 = now (t3 .entry); t4 = now (t4 .entry); t5 = now (t5 .entry); t6 = now (t6 .entry); t7 = now (t7 .entry); t8 = now (t8 .entry); t9 = now (t9 .entry); t10 = now (t10 .entry) }) row (now (out .entry))) ⌝ }
+    ensures { λ r. ⌜ _≡_ {A = Valued} (record { answer = r; out = now (out .exit) }) (eppValue (now (src .entry)) c g (record { t1 = now (t1 .entry); t2 = now (t2 .entry); t3 = now (t3 .entry); t4 = now (t4 .entry); t5 = now (t5 .entry); t6 = now (t6 .entry); t7 = now (t7 .entry); t8 = now (t8 .entry); t9 = now (t9 .entry); t10 = now (t10 .entry) }) (record { tokens = now (i1 .entry); rules = now (i7 .entry) }) row (now (out .entry))) ⌝ }
 {
-    values::epp_value(src, c, g, t1, t2, t3, t4, t5, t6, t7, t8, t9, t10, row, out)
+    values::epp_value(
+        src,
+        c,
+        g,
+        t1,
+        t2,
+        t3,
+        t4,
+        t5,
+        t6,
+        t7,
+        t8,
+        t9,
+        t10,
+        i1,
+        i7,
+        row,
+        out,
+    )
 }
 
 // Stores `cells` into `out` from cell `at` on, as far as there is room.
@@ -358,12 +409,14 @@ fn name_cells(
     t8: &[u32],
     t9: &[u32],
     t10: &[u32],
+    i1: &[u32],
+    i7: &[u32],
     table: u32,
     row: u32,
 ) -> [u32; 2]
-    ensures { λ r. ⌜ r ≡ placeCells (nameAt (now (src .entry)) c g (record { t1 = now (t1 .entry); t2 = now (t2 .entry); t3 = now (t3 .entry); t4 = now (t4 .entry); t5 = now (t5 .entry); t6 = now (t6 .entry); t7 = now (t7 .entry); t8 = now (t8 .entry); t9 = now (t9 .entry); t10 = now (t10 .entry) }) table row) ⌝ }
+    ensures { λ r. ⌜ r ≡ placeCells (nameAt (now (src .entry)) c g (record { t1 = now (t1 .entry); t2 = now (t2 .entry); t3 = now (t3 .entry); t4 = now (t4 .entry); t5 = now (t5 .entry); t6 = now (t6 .entry); t7 = now (t7 .entry); t8 = now (t8 .entry); t9 = now (t9 .entry); t10 = now (t10 .entry) }) (record { tokens = now (i1 .entry); rules = now (i7 .entry) }) table row) ⌝ }
 {
-    if !sound::sound(src, c, g, t1, t2, t3, t4, t5, t6, t7, t8, t9, t10) {
+    if !sound::sound(src, c, g, t1, t2, t3, t4, t5, t6, t7, t8, t9, t10, i1, i7) {
         return [0, 0];
     }
     let p = names::name_place(c, t1, t7, table, row);
@@ -385,11 +438,13 @@ pub extern "C" fn quiltrudder_read(
     t8: &mut [u32],
     t9: &mut [u32],
     t10: &mut [u32],
+    i1: &mut [u32],
+    i7: &mut [u32],
     answer: &mut [u32; 38],
 )
-    ensures { λ r. ⌜ _≡_ {A = ReadFace} (record { answer = now (answer .exit); tables = record { t1 = now (t1 .exit); t2 = now (t2 .exit); t3 = now (t3 .exit); t4 = now (t4 .exit); t5 = now (t5 .exit); t6 = now (t6 .exit); t7 = now (t7 .exit); t8 = now (t8 .exit); t9 = now (t9 .exit); t10 = now (t10 .exit) } }) (readFace (now (src .entry)) kind (record { t1 = now (t1 .entry); t2 = now (t2 .entry); t3 = now (t3 .entry); t4 = now (t4 .entry); t5 = now (t5 .entry); t6 = now (t6 .entry); t7 = now (t7 .entry); t8 = now (t8 .entry); t9 = now (t9 .entry); t10 = now (t10 .entry) })) ⌝ }
+    ensures { λ r. ⌜ _≡_ {A = ReadFace} (record { answer = now (answer .exit); tables = record { t1 = now (t1 .exit); t2 = now (t2 .exit); t3 = now (t3 .exit); t4 = now (t4 .exit); t5 = now (t5 .exit); t6 = now (t6 .exit); t7 = now (t7 .exit); t8 = now (t8 .exit); t9 = now (t9 .exit); t10 = now (t10 .exit) }; indexes = record { tokens = now (i1 .exit); rules = now (i7 .exit) } }) (readFace (now (src .entry)) kind (record { t1 = now (t1 .entry); t2 = now (t2 .entry); t3 = now (t3 .entry); t4 = now (t4 .entry); t5 = now (t5 .entry); t6 = now (t6 .entry); t7 = now (t7 .entry); t8 = now (t8 .entry); t9 = now (t9 .entry); t10 = now (t10 .entry) }) (record { tokens = now (i1 .entry); rules = now (i7 .entry) })) ⌝ }
 {
-    let r = read(src, kind, t1, t2, t3, t4, t5, t6, t7, t8, t9, t10);
+    let r = read(src, kind, t1, t2, t3, t4, t5, t6, t7, t8, t9, t10, i1, i7);
     let v = r.answer;
     let c = r.counts;
     let g = r.singles;
@@ -411,13 +466,31 @@ pub extern "C" fn quiltrudder_validate(
     t8: &[u32],
     t9: &[u32],
     t10: &[u32],
+    i1: &[u32],
+    i7: &[u32],
     answer: &mut [u32; 4],
 )
-    ensures { λ r. ⌜ now (answer .exit) ≡ validateFace (now (src .entry)) (now (reading .entry)) (record { t1 = now (t1 .entry); t2 = now (t2 .entry); t3 = now (t3 .entry); t4 = now (t4 .entry); t5 = now (t5 .entry); t6 = now (t6 .entry); t7 = now (t7 .entry); t8 = now (t8 .entry); t9 = now (t9 .entry); t10 = now (t10 .entry) }) ⌝ }
+    ensures { λ r. ⌜ now (answer .exit) ≡ validateFace (now (src .entry)) (now (reading .entry)) (record { t1 = now (t1 .entry); t2 = now (t2 .entry); t3 = now (t3 .entry); t4 = now (t4 .entry); t5 = now (t5 .entry); t6 = now (t6 .entry); t7 = now (t7 .entry); t8 = now (t8 .entry); t9 = now (t9 .entry); t10 = now (t10 .entry) }) (record { tokens = now (i1 .entry); rules = now (i7 .entry) }) ⌝ }
 {
     let c = counts_of(reading);
     let g = singles_of(reading);
-    let t = numbers::of_validity(validate(src, c, g, t1, t2, t3, t4, t5, t6, t7, t8, t9, t10));
+    let t = numbers::of_validity(validate(
+        src,
+        c,
+        g,
+        t1,
+        t2,
+        t3,
+        t4,
+        t5,
+        t6,
+        t7,
+        t8,
+        t9,
+        t10,
+        i1,
+        i7,
+    ));
     *answer = [t.number, t.from, t.to, t.table];
 }
 
@@ -436,14 +509,33 @@ pub extern "C" fn quiltrudder_faults(
     t8: &[u32],
     t9: &[u32],
     t10: &[u32],
+    i1: &[u32],
+    i7: &[u32],
     t14: &mut [u32],
     answer: &mut [u32; 6],
 )
-    ensures { λ r. ⌜ _≡_ {A = FaultsFace} (record { answer = now (answer .exit); cells = now (t14 .exit) }) (faultsFace (now (src .entry)) (now (reading .entry)) (record { t1 = now (t1 .entry); t2 = now (t2 .entry); t3 = now (t3 .entry); t4 = now (t4 .entry); t5 = now (t5 .entry); t6 = now (t6 .entry); t7 = now (t7 .entry); t8 = now (t8 .entry); t9 = now (t9 .entry); t10 = now (t10 .entry) }) (now (t14 .entry))) ⌝ }
+    ensures { λ r. ⌜ _≡_ {A = FaultsFace} (record { answer = now (answer .exit); cells = now (t14 .exit) }) (faultsFace (now (src .entry)) (now (reading .entry)) (record { t1 = now (t1 .entry); t2 = now (t2 .entry); t3 = now (t3 .entry); t4 = now (t4 .entry); t5 = now (t5 .entry); t6 = now (t6 .entry); t7 = now (t7 .entry); t8 = now (t8 .entry); t9 = now (t9 .entry); t10 = now (t10 .entry) }) (record { tokens = now (i1 .entry); rules = now (i7 .entry) }) (now (t14 .entry))) ⌝ }
 {
     let c = counts_of(reading);
     let g = singles_of(reading);
-    let l = faults(src, c, g, t1, t2, t3, t4, t5, t6, t7, t8, t9, t10, t14);
+    let l = faults(
+        src,
+        c,
+        g,
+        t1,
+        t2,
+        t3,
+        t4,
+        t5,
+        t6,
+        t7,
+        t8,
+        t9,
+        t10,
+        i1,
+        i7,
+        t14,
+    );
     *answer = counted_cells(numbers::of_fault_listing(l), numbers::faulted(l));
 }
 
@@ -462,11 +554,13 @@ pub extern "C" fn quiltrudder_report(
     t8: &[u32],
     t9: &[u32],
     t10: &[u32],
+    i1: &[u32],
+    i7: &[u32],
     work: &mut [u32],
     out: &mut [u32],
     answer: &mut [u32; 6],
 )
-    ensures { λ r. ⌜ ReportFace (now (src .entry)) (now (reading .entry)) (record { t1 = now (t1 .entry); t2 = now (t2 .entry); t3 = now (t3 .entry); t4 = now (t4 .entry); t5 = now (t5 .entry); t6 = now (t6 .entry); t7 = now (t7 .entry); t8 = now (t8 .entry); t9 = now (t9 .entry); t10 = now (t10 .entry) }) (now (work .entry)) (now (work .exit)) (now (out .entry)) (now (out .exit)) (now (answer .exit)) ⌝ }
+    ensures { λ r. ⌜ ReportFace (now (src .entry)) (now (reading .entry)) (record { t1 = now (t1 .entry); t2 = now (t2 .entry); t3 = now (t3 .entry); t4 = now (t4 .entry); t5 = now (t5 .entry); t6 = now (t6 .entry); t7 = now (t7 .entry); t8 = now (t8 .entry); t9 = now (t9 .entry); t10 = now (t10 .entry) }) (record { tokens = now (i1 .entry); rules = now (i7 .entry) }) (now (work .entry)) (now (work .exit)) (now (out .entry)) (now (out .exit)) (now (answer .exit)) ⌝ }
 {
     let c = counts_of(reading);
     let g = singles_of(reading);
@@ -484,6 +578,8 @@ pub extern "C" fn quiltrudder_report(
         t8,
         t9,
         t10,
+        i1,
+        i7,
         work,
         out,
     );
@@ -505,11 +601,13 @@ pub extern "C" fn quiltrudder_name(
     t8: &[u32],
     t9: &[u32],
     t10: &[u32],
+    i1: &[u32],
+    i7: &[u32],
     table: u32,
     row: u32,
     answer: &mut [u32; 2],
 )
-    ensures { λ r. ⌜ now (answer .exit) ≡ nameFace (now (src .entry)) (now (reading .entry)) (record { t1 = now (t1 .entry); t2 = now (t2 .entry); t3 = now (t3 .entry); t4 = now (t4 .entry); t5 = now (t5 .entry); t6 = now (t6 .entry); t7 = now (t7 .entry); t8 = now (t8 .entry); t9 = now (t9 .entry); t10 = now (t10 .entry) }) table row ⌝ }
+    ensures { λ r. ⌜ now (answer .exit) ≡ nameFace (now (src .entry)) (now (reading .entry)) (record { t1 = now (t1 .entry); t2 = now (t2 .entry); t3 = now (t3 .entry); t4 = now (t4 .entry); t5 = now (t5 .entry); t6 = now (t6 .entry); t7 = now (t7 .entry); t8 = now (t8 .entry); t9 = now (t9 .entry); t10 = now (t10 .entry) }) (record { tokens = now (i1 .entry); rules = now (i7 .entry) }) table row ⌝ }
 {
     let c = counts_of(reading);
     let g = singles_of(reading);
@@ -527,6 +625,8 @@ pub extern "C" fn quiltrudder_name(
         t8,
         t9,
         t10,
+        i1,
+        i7,
         table,
         row,
     );
@@ -547,14 +647,34 @@ pub extern "C" fn quiltrudder_epp_value(
     t8: &[u32],
     t9: &[u32],
     t10: &[u32],
+    i1: &[u32],
+    i7: &[u32],
     row: u32,
     out: &mut [u8],
     answer: &mut [u32; 6],
 )
-    ensures { λ r. ⌜ _≡_ {A = ValueFace} (record { answer = now (answer .exit); out = now (out .exit) }) (valueFace (now (src .entry)) (now (reading .entry)) (record { t1 = now (t1 .entry); t2 = now (t2 .entry); t3 = now (t3 .entry); t4 = now (t4 .entry); t5 = now (t5 .entry); t6 = now (t6 .entry); t7 = now (t7 .entry); t8 = now (t8 .entry); t9 = now (t9 .entry); t10 = now (t10 .entry) }) row (now (out .entry))) ⌝ }
+    ensures { λ r. ⌜ _≡_ {A = ValueFace} (record { answer = now (answer .exit); out = now (out .exit) }) (valueFace (now (src .entry)) (now (reading .entry)) (record { t1 = now (t1 .entry); t2 = now (t2 .entry); t3 = now (t3 .entry); t4 = now (t4 .entry); t5 = now (t5 .entry); t6 = now (t6 .entry); t7 = now (t7 .entry); t8 = now (t8 .entry); t9 = now (t9 .entry); t10 = now (t10 .entry) }) (record { tokens = now (i1 .entry); rules = now (i7 .entry) }) row (now (out .entry))) ⌝ }
 {
     let c = counts_of(reading);
     let g = singles_of(reading);
-    let v = epp_value(src, c, g, t1, t2, t3, t4, t5, t6, t7, t8, t9, t10, row, out);
+    let v = epp_value(
+        src,
+        c,
+        g,
+        t1,
+        t2,
+        t3,
+        t4,
+        t5,
+        t6,
+        t7,
+        t8,
+        t9,
+        t10,
+        i1,
+        i7,
+        row,
+        out,
+    );
     *answer = counted_cells(numbers::of_valuation(v), numbers::written(v));
 }

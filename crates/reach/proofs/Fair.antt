@@ -13,7 +13,7 @@ use Rattle.tables.proofs.Cases.{same-part-sym, same-part-trans}
 use Rattle.tables.proofs.Rows.{row-cell}
 use Rattle.grammar.specs.declared.Counts.{Counts}
 use Rattle.grammar.specs.declared.Singles.{Singles}
-use Rattle.grammar.specs.Sound.{Tables, Sound, Differ}
+use Rattle.grammar.specs.Sound.{Indexes, Tables, Sound, Differ}
 use Rattle.reach.specs.Reach.{Named, Calls, Apart, grammarOf, named, ruleSort, tokenSort, Fair}
 
 -- rows whose names are pairwise different have no name in common
@@ -30,8 +30,8 @@ module _ (src : List ℕ) (d : Named) (two : 1 < d .sort .wide) (differ : (q r :
   apart : Apart src d
   apart a b q r x y = ⊎-elim (λ h. ⊎-elim (λ l. omega arith) (λ l. absurd (not-both a b r q y x l)) (le-or-lt q r)) (λ h. absurd (not-both a b q r x y h)) (le-or-lt r q)
 
-pub fair-sound : (src : List ℕ) (c : Counts) (g : Singles) (T : Tables) → Sound src c g T → Fair (grammarOf src c (g .start) (T .t1) (T .t7) (T .t8) (T .t9))
-fair-sound src c g T s = record {
+pub fair-sound : (src : List ℕ) (c : Counts) (g : Singles) (T : Tables) (X : Indexes) → Sound src c g T X → Fair (grammarOf src c (g .start) (T .t1) (T .t7) (T .t8) (T .t9))
+fair-sound src c g T X s = record {
   rules-apart = apart src (named (T .t7) (ruleSort c)) (omega arith) (λ q r l h. s .names rules q r (omega arith) l h);
   tokens-apart = apart src (named (T .t1) (tokenSort c)) (omega arith) (λ q r l h. s .names tokens q r (omega arith) l h);
   owned = λ p h. rw (← row-cell (width productions) (T .t8) p ruleRow (omega arith)) (s .rows productions p (omega arith) h .rule);

@@ -7,6 +7,9 @@ ghost use Prim.Native.Nat.{ℕ, _+_, _*_, _^_, _<_, _≤_};
 ghost use mathlib.Core.Bool.{Bool, true, false, _||_};
 ghost use lib.ListN.{length, getD};
 ghost use Rattle.bits.specs.Bits.{bit};
+ghost use Rattle.tables.specs.Layout.{tokens, rules, width};
+ghost use Rattle.sound.specs.Test.{countAt};
+ghost use Rattle.index.specs.Index.{Indexed};
 ghost use Rattle.reach.specs.Reach.{wordsFor, ruleSort, tokenSort, named, net, grammarOf, Begins, Apart, Owned, Fair, Adds, Added, Fits, Called, Among, Held, HeldPrec, Swept, Within, Done, Visited, Spread, TokenOf, Marks};
 
 // One sort of rows: its code, the width of its rows, their count, and the bit of row 0.
@@ -66,19 +69,27 @@ fn mark(w: &mut [u32], k: usize) -> bool
 }
 
 // Sets the bit of the row that has the name from `a` to `b`, if there is one. Says whether it was 0.
-fn mark_name(w: &mut [u32], src: &[u8], names: &[u32], z: Sort, a: u32, b: u32) -> bool
-    requires { ⌜ Fits z (now w) × Apart (now src) (named (now names) z) ⌝ }
+fn mark_name(w: &mut [u32], src: &[u8], names: &[u32], ix: &[u32], z: Sort, a: u32, b: u32) -> bool
+    requires { ⌜ Fits z (now w) × Apart (now src) (named (now names) z) × Indexed (now src) (z .wide) 0 (z .count) (now names) (now ix) ⌝ }
     ensures { λ r. ⌜ Added (Called (now (src .entry)) (named (now (names .entry)) z) a b) (now (w .entry)) (now (w .exit)) r ⌝ }
 {
-    match tables::find(src, names, z.wide, tables::NAME, z.count, a, b) {
+    match index::find(src, names, z.wide, tables::NAME, z.count, ix, a, b) {
         Found::RowAt(row) => mark(w, z.base + row as usize),
         Found::NoRow => false,
     }
 }
 
 // Sets the bit of the row that symbol `s` names, if it is of the sort.
-fn mark_symbol(w: &mut [u32], src: &[u8], names: &[u32], z: Sort, syms: &[u32], s: u32) -> bool
-    requires { ⌜ Fits z (now w) × Apart (now src) (named (now names) z) ⌝ }
+fn mark_symbol(
+    w: &mut [u32],
+    src: &[u8],
+    names: &[u32],
+    ix: &[u32],
+    z: Sort,
+    syms: &[u32],
+    s: u32,
+) -> bool
+    requires { ⌜ Fits z (now w) × Apart (now src) (named (now names) z) × Indexed (now src) (z .wide) 0 (z .count) (now names) (now ix) ⌝ }
     ensures { λ r. ⌜ Added (Among (now (src .entry)) (now (syms .entry)) (named (now (names .entry)) z) s (s + 1)) (now (w .entry)) (now (w .exit)) r ⌝ }
 {
     let wide = tables::SYMBOL_WIDTH;
@@ -87,7 +98,7 @@ fn mark_symbol(w: &mut [u32], src: &[u8], names: &[u32], z: Sort, syms: &[u32], 
     }
     let a = tables::cell(syms, wide, s, 1);
     let b = tables::cell(syms, wide, s, 2);
-    mark_name(w, src, names, z, a, b)
+    mark_name(w, src, names, ix, z, a, b)
 }
 
 // The same for the symbols from `from` on and before `to`.
@@ -95,18 +106,19 @@ fn mark_symbols(
     w: &mut [u32],
     src: &[u8],
     names: &[u32],
+    ix: &[u32],
     z: Sort,
     syms: &[u32],
     from: u32,
     to: u32,
 ) -> bool
-    requires { ⌜ Fits z (now w) × Apart (now src) (named (now names) z) ⌝ }
+    requires { ⌜ Fits z (now w) × Apart (now src) (named (now names) z) × Indexed (now src) (z .wide) 0 (z .count) (now names) (now ix) ⌝ }
     ensures { λ r. ⌜ Added (Among (now (src .entry)) (now (syms .entry)) (named (now (names .entry)) z) from to) (now (w .entry)) (now (w .exit)) r ⌝ }
 {
     let mut changed = false;
     let mut s = from;
     while s < to {
-        let one = mark_symbol(w, src, names, z, syms, s);
+        let one = mark_symbol(w, src, names, ix, z, syms, s);
         changed = either(one, changed);
         s += 1;
     }
@@ -118,13 +130,14 @@ fn mark_production(
     w: &mut [u32],
     src: &[u8],
     names: &[u32],
+    ix: &[u32],
     z: Sort,
     c: Counts,
     prods: &[u32],
     syms: &[u32],
     p: u32,
 ) -> bool
-    requires { ⌜ Fits z (now w) × Apart (now src) (named (now names) z) ⌝ }
+    requires { ⌜ Fits z (now w) × Apart (now src) (named (now names) z) × Indexed (now src) (z .wide) 0 (z .count) (now names) (now ix) ⌝ }
     ensures { λ r. ⌜ Added (Held (net (now (src .entry)) c (now (prods .entry)) (now (syms .entry))) (named (now (names .entry)) z) (now (w .entry)) p) (now (w .entry)) (now (w .exit)) r ⌝ }
 {
     let wide = tables::PRODUCTION_WIDTH;
@@ -134,12 +147,20 @@ fn mark_production(
     }
     let from = tables::cell(prods, wide, p, tables::FIRST);
     let to = tables::cell(prods, wide, p, tables::LAST);
-    mark_symbols(w, src, names, z, syms, from, to)
+    mark_symbols(w, src, names, ix, z, syms, from, to)
 }
 
 // The row that the `%prec` of production `p` names, if its rule is marked.
-fn mark_prec(w: &mut [u32], src: &[u8], names: &[u32], z: Sort, prods: &[u32], p: u32) -> bool
-    requires { ⌜ Fits z (now w) × Apart (now src) (named (now names) z) ⌝ }
+fn mark_prec(
+    w: &mut [u32],
+    src: &[u8],
+    names: &[u32],
+    ix: &[u32],
+    z: Sort,
+    prods: &[u32],
+    p: u32,
+) -> bool
+    requires { ⌜ Fits z (now w) × Apart (now src) (named (now names) z) × Indexed (now src) (z .wide) 0 (z .count) (now names) (now ix) ⌝ }
     ensures { λ r. ⌜ Added (HeldPrec (now (src .entry)) (now (prods .entry)) (named (now (names .entry)) z) (now (w .entry)) p) (now (w .entry)) (now (w .exit)) r ⌝ }
 {
     let wide = tables::PRODUCTION_WIDTH;
@@ -152,7 +173,7 @@ fn mark_prec(w: &mut [u32], src: &[u8], names: &[u32], z: Sort, prods: &[u32], p
     }
     let a = tables::cell(prods, wide, p, tables::PREC_FROM);
     let b = tables::cell(prods, wide, p, tables::PREC_TO);
-    mark_name(w, src, names, z, a, b)
+    mark_name(w, src, names, ix, z, a, b)
 }
 
 fn word_of(w: &[u32], i: usize) -> u32
@@ -178,20 +199,21 @@ fn visit(
     done: &[u32],
     src: &[u8],
     names: &[u32],
+    ix: &[u32],
     z: Sort,
     c: Counts,
     prods: &[u32],
     syms: &[u32],
     p: u32,
 ) -> bool
-    requires { ⌜ Fits z (now w) × Apart (now src) (named (now names) z) ⌝ }
+    requires { ⌜ Fits z (now w) × Apart (now src) (named (now names) z) × Indexed (now src) (z .wide) 0 (z .count) (now names) (now ix) ⌝ }
     ensures { λ r. ⌜ Visited (net (now (src .entry)) c (now (prods .entry)) (now (syms .entry))) (named (now (names .entry)) z) (now (done .entry)) p (now (w .entry)) (now (w .exit)) r ⌝ }
 {
     let rule = tables::cell(prods, tables::PRODUCTION_WIDTH, p, tables::RULE_ROW);
     if bits::test_bit(done, rule as usize) {
         return false;
     }
-    mark_production(w, src, names, z, c, prods, syms, p)
+    mark_production(w, src, names, ix, z, c, prods, syms, p)
 }
 
 // One pass over the productions: what a marked rule names is marked. Says whether a mark is new.
@@ -201,10 +223,11 @@ fn sweep(
     src: &[u8],
     c: Counts,
     rules: &[u32],
+    ix: &[u32],
     prods: &[u32],
     syms: &[u32],
 ) -> bool
-    requires { ⌜ Fits (ruleSort c) (now w) × Apart (now src) (named (now rules) (ruleSort c)) × Done (net (now src) c (now prods) (now syms)) (named (now rules) (ruleSort c)) (now done) (now w) ⌝ }
+    requires { ⌜ Fits (ruleSort c) (now w) × Apart (now src) (named (now rules) (ruleSort c)) × Done (net (now src) c (now prods) (now syms)) (named (now rules) (ruleSort c)) (now done) (now w) × Indexed (now src) (ruleSort c .wide) 0 (ruleSort c .count) (now rules) (now ix) ⌝ }
     ensures { λ r. ⌜ Swept (net (now (src .entry)) c (now (prods .entry)) (now (syms .entry))) (named (now (rules .entry)) (ruleSort c)) (now (w .entry)) (now (w .exit)) r ⌝ }
 {
     let z = rule_sort(c);
@@ -212,7 +235,7 @@ fn sweep(
     let mut news = false;
     let mut p = 0;
     while p < n {
-        let one = visit(w, done, src, rules, z, c, prods, syms, p);
+        let one = visit(w, done, src, rules, ix, z, c, prods, syms, p);
         news = either(one, news);
         p += 1;
     }
@@ -226,53 +249,70 @@ fn round(
     src: &[u8],
     c: Counts,
     rules: &[u32],
+    ix: &[u32],
     prods: &[u32],
     syms: &[u32],
 ) -> bool
-    requires { ⌜ Fits (ruleSort c) (now w) × Apart (now src) (named (now rules) (ruleSort c)) × Done (net (now src) c (now prods) (now syms)) (named (now rules) (ruleSort c)) (now done) (now w) ⌝ }
+    requires { ⌜ Fits (ruleSort c) (now w) × Apart (now src) (named (now rules) (ruleSort c)) × Done (net (now src) c (now prods) (now syms)) (named (now rules) (ruleSort c)) (now done) (now w) × Indexed (now src) (ruleSort c .wide) 0 (ruleSort c .count) (now rules) (now ix) ⌝ }
     ensures { λ r. ⌜ Swept (net (now (src .entry)) c (now (prods .entry)) (now (syms .entry))) (named (now (rules .entry)) (ruleSort c)) (now (w .entry)) (now (w .exit)) r × Done (net (now (src .entry)) c (now (prods .entry)) (now (syms .entry))) (named (now (rules .entry)) (ruleSort c)) (now (done .exit)) (now (w .exit)) ⌝ }
 {
     let mut before = [0u32; 512];
     copy_words(&mut before, w);
-    let news = sweep(w, done, src, c, rules, prods, syms);
+    let news = sweep(w, done, src, c, rules, ix, prods, syms);
     copy_words(done, &before);
     news
 }
 
 // Passes until no mark is new. Rows past 16,384 are never done, which costs time alone: no source has so many rules.
-fn spread(w: &mut [u32], src: &[u8], c: Counts, rules: &[u32], prods: &[u32], syms: &[u32])
-    requires { ⌜ Fits (ruleSort c) (now w) × Apart (now src) (named (now rules) (ruleSort c)) ⌝ }
+fn spread(
+    w: &mut [u32],
+    src: &[u8],
+    c: Counts,
+    rules: &[u32],
+    ix: &[u32],
+    prods: &[u32],
+    syms: &[u32],
+)
+    requires { ⌜ Fits (ruleSort c) (now w) × Apart (now src) (named (now rules) (ruleSort c)) × Indexed (now src) (ruleSort c .wide) 0 (ruleSort c .count) (now rules) (now ix) ⌝ }
     ensures { λ r. ⌜ Spread (net (now (src .entry)) c (now (prods .entry)) (now (syms .entry))) (named (now (rules .entry)) (ruleSort c)) (now (w .entry)) (now (w .exit)) ⌝ }
 {
     let mut done = [0u32; 512];
-    while round(w, &mut done, src, c, rules, prods, syms) {}
+    while round(w, &mut done, src, c, rules, ix, prods, syms) {}
 }
 
 // One pass that marks the tokens of productions of marked rules: symbols', and that of the `%prec`.
-fn mark_tokens(w: &mut [u32], src: &[u8], c: Counts, tokens: &[u32], prods: &[u32], syms: &[u32])
-    requires { ⌜ Fits (tokenSort c) (now w) × Apart (now src) (named (now tokens) (tokenSort c)) × Owned (net (now src) c (now prods) (now syms)) (ruleSort c .count) ⌝ }
+fn mark_tokens(
+    w: &mut [u32],
+    src: &[u8],
+    c: Counts,
+    tokens: &[u32],
+    ix: &[u32],
+    prods: &[u32],
+    syms: &[u32],
+)
+    requires { ⌜ Fits (tokenSort c) (now w) × Apart (now src) (named (now tokens) (tokenSort c)) × Owned (net (now src) c (now prods) (now syms)) (ruleSort c .count) × Indexed (now src) (tokenSort c .wide) 0 (tokenSort c .count) (now tokens) (now ix) ⌝ }
     ensures { λ r. ⌜ Adds (TokenOf (net (now (src .entry)) c (now (prods .entry)) (now (syms .entry))) (named (now (tokens .entry)) (tokenSort c)) (now (w .entry))) (now (w .entry)) (now (w .exit)) ⌝ }
 {
     let z = token_sort(c);
     let n = sound::rows_of(c, tables::PRODUCTIONS);
     let mut p = 0;
     while p < n {
-        mark_production(w, src, tokens, z, c, prods, syms, p);
-        mark_prec(w, src, tokens, z, prods, p);
+        mark_production(w, src, tokens, ix, z, c, prods, syms, p);
+        mark_prec(w, src, tokens, ix, z, prods, p);
         p += 1;
     }
 }
 
 // The start rule's bit.
-fn mark_start(w: &mut [u32], src: &[u8], c: Counts, start: Part, rules: &[u32])
-    requires { ⌜ Fits (ruleSort c) (now w) × Apart (now src) (named (now rules) (ruleSort c)) ⌝ }
+fn mark_start(w: &mut [u32], src: &[u8], c: Counts, start: Part, rules: &[u32], ix: &[u32])
+    requires { ⌜ Fits (ruleSort c) (now w) × Apart (now src) (named (now rules) (ruleSort c)) × Indexed (now src) (ruleSort c .wide) 0 (ruleSort c .count) (now rules) (now ix) ⌝ }
     ensures { λ r. ⌜ Adds (Begins (now (src .entry)) (named (now (rules .entry)) (ruleSort c)) start) (now (w .entry)) (now (w .exit)) ⌝ }
 {
     let z = rule_sort(c);
     match start {
         Part::Absent => {}
         Part::At(a, b) => {
-            mark_name(w, src, rules, z, a, b);
+            mark_name(w, src, rules, ix, z, a, b);
         }
     }
 }
@@ -287,8 +327,10 @@ pub fn mark_used(
     t7: &[u32],
     t8: &[u32],
     t9: &[u32],
+    i1: &[u32],
+    i7: &[u32],
 ) -> bool
-    requires { ⌜ Fair (grammarOf (now src) c start (now t1) (now t7) (now t8) (now t9)) ⌝ }
+    requires { ⌜ Fair (grammarOf (now src) c start (now t1) (now t7) (now t8) (now t9)) × Indexed (now src) (width tokens) 0 (countAt c tokens) (now t1) (now i1) × Indexed (now src) (width rules) 0 (countAt c rules) (now t7) (now i7) ⌝ }
     ensures { λ r. ⌜ Marks (grammarOf (now (src .entry)) c start (now (t1 .entry)) (now (t7 .entry)) (now (t8 .entry)) (now (t9 .entry))) r (now (w .entry)) (now (w .exit)) ⌝ }
 {
     tables::zero(w);
@@ -297,8 +339,8 @@ pub fn mark_used(
     if w.len() < rules + tokens {
         return false;
     }
-    mark_start(w, src, c, start, t7);
-    spread(w, src, c, t7, t8, t9);
-    mark_tokens(w, src, c, t1, t8, t9);
+    mark_start(w, src, c, start, t7, i7);
+    spread(w, src, c, t7, i7, t8, t9);
+    mark_tokens(w, src, c, t1, i1, t8, t9);
     true
 }

@@ -1,58 +1,65 @@
 -- The whole read: what it came to, one law for each answer. Assumes nothing.
 use Prim.Native.Nat.{ℕ, _+_, _≤_, _<_}
-use mathlib.Core.Path.{_≡_, sym, ap}
+use mathlib.Core.Path.{_≡_, refl, sym, ap, _∙_}
 use mathlib.Core.List.{List}
-use mathlib.Core.Bool.{true, false, _||_}
+use mathlib.Core.Bool.{Bool, true, false, _||_, _&&_, not}
 use native.Mathlib.Omega.{arith}
 use mir.Syntax.{w32}
 use mir.Val.{Fits}
-use lib.Dec.{ltb}
-use lib.ListN.{length}
-use borrow.Author.Tests.{lt-ltb, le-ltb, eq-eqb, ne-eqb}
-use Rattle.scan.proofs.Bytes.{told}
+use lib.Dec.{ltb, eqb}
+use lib.ListN.{length, getD, length-replicate}
+use borrow.Author.Tests.{lt-ltb, le-ltb, eq-eqb, ne-eqb, not-true, not-false}
+use Rattle.scan.proofs.Bytes.{told, on-test}
 use Rattle.whole.specs.declared.Checked.{Checked}
 use Rattle.whole.specs.declared.Checked.the-variants.{Good, BadAt}
 use Rattle.whole.specs.Whole.{checkAt, Below}
 use Rattle.tables.specs.Table.{zeroed, cell}
-use Rattle.tables.specs.Layout.{repeats, firstPlace, width}
+use Rattle.tables.specs.Layout.{tokens, rules, repeats, firstPlace, width}
+use Rattle.index.specs.Index.{entries, sizeTest}
+use Rattle.index.proofs.Theorems.{indexed-none}
 use Rattle.grammar.specs.declared.Singles.{Singles}
 use Rattle.grammar.specs.declared.State.{State}
 use Rattle.grammar.specs.declared.Cause.the-variants.{NotUtf8, PrematureEnd}
 use Rattle.grammar.specs.declared.Repeat.{Repeat}
 use Rattle.grammar.specs.Refusals.{repeatOf}
 use Rattle.grammar.specs.declared.Refusal.{Refusal}
-use Rattle.grammar.specs.declared.Refusal.the-variants.{Fault, Repeated, TooLong, BadKind}
+use Rattle.grammar.specs.declared.Refusal.the-variants.{Fault, Repeated, TooLong, BadKind, BadIndex}
 use Rattle.grammar.specs.declared.Answer.{Answer}
 use Rattle.grammar.specs.declared.Answer.the-variants.{Going, Done, Refused}
-use Rattle.grammar.specs.State.{Out0, Here, Passed, count, fresh, noSingles}
-use Rattle.grammar.specs.Sound.{Tables}
+use Rattle.grammar.specs.State.{Out0, Here, Passed, Tracked, Tokens, Rules, count, fresh, noCounts, noSingles}
+use Rattle.grammar.specs.Sound.{Tables, Indexes, zeroAll}
 use Rattle.declarations.specs.Declarations.{Out, declAll}
 use Rattle.rules.specs.Rules.{Ruled, rulesAll, programsFrom}
 use Rattle.reader.specs.declared.Admission.{Admission}
 use Rattle.reader.specs.declared.Admission.the-variants.{Fit, Unfit}
 use Rattle.reader.specs.declared.Verdict.the-variants.{Accepted, Rejected}
 use Rattle.reader.specs.declared.Reading.{Reading}
-use Rattle.reader.specs.Read.{Run, Result, Short, admitted, ranProgram, restAll, declared, withDeclared, withRuled, sectionsAll, attempted, onlyRepeats, stoppedAt, endedAt, result, finished, readAll}
+use Rattle.reader.specs.Read.{Run, Outcome, Result, Short, sizesFit, sized, sizedText, admitted, ranProgram, restAll, declared, withDeclared, withRuled, sectionsAll, attempted, onlyRepeats, stoppedAt, endedAt, result, finished, finishedRun, indexed, readAll}
 
--- kind, length, UTF-8
-module _ (src : List ℕ) (kind : ℕ) where
-  pub bad-kind : (ltb kind 1 || ltb 3 kind) ≡ true → Unfit BadKind ≡ admitted src kind
+-- kind, sizes, length, UTF-8
+module _ (src : List ℕ) (kind : ℕ) (fit : Bool) where
+  pub bad-kind : (ltb kind 1 || ltb 3 kind) ≡ true → Unfit BadKind ≡ admitted src kind fit
   unfolding admitted
   bad-kind e = rw (admitted, e)
 
   module _ (k : (ltb kind 1 || ltb 3 kind) ≡ false) where
-    pub too-long : 65536 < length src → Unfit TooLong ≡ admitted src kind
+    pub bad-index : not fit ≡ true → Unfit BadIndex ≡ admitted src kind fit
     unfolding admitted
-    too-long h = rw (admitted, k, lt-ltb _ _ h)
+    bad-index g = rw (admitted, k, not-true fit g)
 
-    module _ (h : length src ≤ 65536) (w : Checked) (q : w ≡ checkAt src 0) where
-      pub is-text : w ≡ Good → Fit ≡ admitted src kind
+    module _ (g : not fit ≡ false) where
+      pub too-long : 65536 < length src → Unfit TooLong ≡ admitted src kind fit
       unfolding admitted
-      is-text e = rw (admitted, k, le-ltb _ _ h, ← q, e)
+      too-long h = rw (admitted, k, not-false fit g, sizedText, lt-ltb _ _ h)
 
-      pub no-text : (i : ℕ) → w ≡ BadAt i → Unfit (Fault NotUtf8 i) ≡ admitted src kind
-      unfolding admitted
-      no-text i e = rw (admitted, k, le-ltb _ _ h, ← q, e)
+      module _ (h : length src ≤ 65536) (w : Checked) (q : w ≡ checkAt src 0) where
+        pub is-text : w ≡ Good → Fit ≡ admitted src kind fit
+        unfolding admitted
+        is-text e = rw (admitted, k, not-false fit g, sizedText, le-ltb _ _ h, ← q, e)
+
+        pub no-text : (i : ℕ) → w ≡ BadAt i → Unfit (Fault NotUtf8 i) ≡ admitted src kind fit
+        unfolding admitted
+        no-text i e = rw (admitted, k, not-false fit g, sizedText, le-ltb _ _ h, ← q, e)
 
 -- a byte of a source that is not too long is a 32-bit place
 pub bad-byte : (src : List ℕ) (w : Checked) (i : ℕ) → length src ≤ 65536 → Below (length src) w → w ≡ BadAt i → Fits w32 i
@@ -101,14 +108,24 @@ pub begun-near : (s : State) → s ≡ fresh → s .at ≤ 65536
 begun-near s b = told (λ (y : State). y .at ≤ 65536) (sym b) (omega arith)
 
 -- its sections
-module _ (src : List ℕ) (kind : ℕ) (T : Tables) (s : State) (b : s ≡ fresh) (a : Admission) (q : a ≡ admitted src kind) where
-  pub attempt-fit : (r : Run) → a ≡ Fit → r ≡ sectionsAll src kind s T → r ≡ attempted src kind T
+module _ (src : List ℕ) (kind : ℕ) (T : Tables) (s : State) (b : s ≡ fresh) (fit fits : Bool) (z : fit ≡ fits) (a : Admission) (q : a ≡ admitted src kind fit) where
+  pub attempt-fit : (r : Run) → a ≡ Fit → r ≡ sectionsAll src kind s T → r ≡ attempted src kind fits T
   unfolding attempted
-  attempt-fit r e h = rw (← q, e) (rw b at h)
+  attempt-fit r e h = rw (← z, ← q, e) (rw b at h)
 
-  pub attempt-unfit : (f : Refusal) → a ≡ Unfit f → record { answer = Refused f; state = s; tables = T } ≡ attempted src kind T
+  pub attempt-unfit : (f : Refusal) → a ≡ Unfit f → record { answer = Refused f; state = s; tables = T } ≡ attempted src kind fits T
   unfolding attempted
-  attempt-unfit f e = rw (← q, e, b)
+  attempt-unfit f e = rw (← z, ← q, e, b)
+
+-- where a reading begins, an index of zeros holds all rows, which are none
+pub begun-tracked : (src : List ℕ) (k w name : ℕ) (s : State) (t ix : List ℕ) → s ≡ fresh → Tracked src k w name noCounts t ix → Tracked src k w name (s .counts) t ix
+begun-tracked src k w name s t ix b I = told (λ (y : State). Tracked src k w name (y .counts) t ix) (sym b) I
+
+pub none-tokens : (src t ix jx : List ℕ) → jx ≡ zeroed ix → Tokens src noCounts t jx
+none-tokens src t ix jx e = rw e (record { ten = refl; index = indexed-none src (width tokens) 0 t ix })
+
+pub none-rules : (src t ix jx : List ℕ) → jx ≡ zeroed ix → Rules src noCounts t jx
+none-rules src t ix jx e = rw e (record { ten = refl; index = indexed-none src (width rules) 0 t ix })
 
 -- after a fatal refusal
 pub stopped-at : (s : State) (f : Refusal) (n : ℕ) (g : Singles) → n ≡ count s repeats → g ≡ noSingles → record { answer = Rejected f; counts = onlyRepeats n; singles = g } ≡ stoppedAt s f
@@ -125,6 +142,20 @@ module _ (s : State) (t10 : List ℕ) (n : ℕ) (c : n ≡ count s repeats) wher
   unfolding endedAt
   repeated what x y z e g w h k = rw (endedAt, ← c, ne-eqb _ _ e, w, g, h, k)
 
+-- what an end leaves of an index
+ended-counts : (s : State) (t10 : List ℕ) → endedAt s t10 .counts ≡ s .counts
+unfolding endedAt
+ended-counts s t10 = on-test (λ (r : Reading). r .counts ≡ s .counts) (eqb (count s repeats) 0) _ _ (λ e. refl) (λ e. refl)
+
+pub ended-tracked : (src : List ℕ) (k w name : ℕ) (s : State) (t10 : List ℕ) (r : Reading) (t ix : List ℕ) → r ≡ endedAt s t10 → Tracked src k w name (s .counts) t ix → Tracked src k w name (r .counts) t ix
+ended-tracked src k w name s t10 r t ix e I = let c : r .counts ≡ s .counts = ap (λ (y : Reading). y .counts) e ∙ ended-counts s t10 in rw c I
+
+pub stopped-tokens : (src : List ℕ) (s : State) (f : Refusal) (r : Reading) (t ix jx : List ℕ) → r ≡ stoppedAt s f → jx ≡ zeroed ix → Tokens src (r .counts) t jx
+stopped-tokens src s f r t ix jx e g = rw (ap (λ (y : Reading). y .counts) e, g) (record { ten = refl; index = indexed-none src (width tokens) 0 t ix })
+
+pub stopped-rules : (src : List ℕ) (s : State) (f : Refusal) (r : Reading) (t ix jx : List ℕ) → r ≡ stoppedAt s f → jx ≡ zeroed ix → Rules src (r .counts) t jx
+stopped-rules src s f r t ix jx e g = rw (ap (λ (y : Reading). y .counts) e, g) (record { ten = refl; index = indexed-none src (width rules) 0 t ix })
+
 -- tables 1 to 9 without anything in them
 abbrev Nine : Tables → Tables → Type 0
 Nine Z T = (Z .t1 ≡ zeroed (T .t1)) × (Z .t2 ≡ zeroed (T .t2)) × (Z .t3 ≡ zeroed (T .t3)) × (Z .t4 ≡ zeroed (T .t4)) × (Z .t5 ≡ zeroed (T .t5)) × (Z .t6 ≡ zeroed (T .t6)) × (Z .t7 ≡ zeroed (T .t7)) × (Z .t8 ≡ zeroed (T .t8)) × (Z .t9 ≡ zeroed (T .t9))
@@ -140,7 +171,28 @@ module _ (a : Answer) (s : State) (T : Tables) where
   pub finish-refused : (f : Refusal) (r : Reading) (Z : Tables) → a ≡ Refused f → r ≡ stoppedAt s f → Nine Z T → Z .t10 ≡ T .t10 → result r Z ≡ finished a s T
   finish-refused f r Z e h z k = rw (e, ← z .0, ← z .1, ← z .2, ← z .3, ← z .4, ← z .5, ← z .6, ← z .7, ← z .8, ← k) (ap (λ (y : Reading). result y Z) h)
 
--- The read: on tables of zeros, then its end.
-pub read-ends : (src : List ℕ) (kind : ℕ) (T Z : Tables) (o : Run) (r : Result) → Nine Z T → Z .t10 ≡ zeroed (T .t10) → o ≡ attempted src kind Z → r ≡ finished (o .answer) (o .state) (o .tables) → r ≡ readAll src kind T
+-- both sizes
+pub sizes-are : (m₁ n₁ m₇ n₇ : ℕ) (p q : Bool) → p ≡ sizeTest m₁ n₁ (width tokens) → q ≡ sizeTest m₇ n₇ (width rules) → (p && q) ≡ sizesFit m₁ n₁ m₇ n₇
+unfolding sizesFit
+sizes-are m₁ n₁ m₇ n₇ p q e f = rw (e, f)
+
+-- the sizes do not change
+sized-same : (t7 z7 t1 z1 xt yt xr yr : List ℕ) → z1 ≡ zeroed t1 → z7 ≡ zeroed t7 → yt ≡ zeroed xt → yr ≡ zeroed xr → sizesFit (length yt) (length z1) (length yr) (length z7) ≡ sizesFit (length xt) (length t1) (length xr) (length t7)
+sized-same t7 z7 t1 z1 xt yt xr yr a b c d = rw (a, b, c, d, length-replicate {A = ℕ} (length xt) 0, length-replicate {A = ℕ} (length xr) 0, length-replicate {A = ℕ} (length t1) 0, length-replicate {A = ℕ} (length t7) 0)
+
+-- The read: on tables of zeros, then its end, with indexes that hold the rows it left.
+pub read-ends : (src : List ℕ) (kind : ℕ) (T Z : Tables) (X : Indexes) (yt yr : List ℕ) (o : Run) (r : Outcome) (wt wr : List ℕ) → Nine Z T → Z .t10 ≡ zeroed (T .t10) → yt ≡ zeroed (X .tokens) → yr ≡ zeroed (X .rules)
+    → o ≡ attempted src kind (sizesFit (length yt) (length (Z .t1)) (length yr) (length (Z .t7))) Z → r ≡ finished (o .answer) (o .state) (o .tables)
+    → Tokens src (r .counts) (r .tables .t1) wt → Rules src (r .counts) (r .tables .t7) wr → length wt ≡ length (X .tokens) → length wr ≡ length (X .rules)
+    → record { answer = r .answer; counts = r .counts; singles = r .singles; tables = r .tables; indexes = record { tokens = wt; rules = wr } } ≡ readAll src kind T X
 unfolding readAll
-read-ends src kind T Z o r z k q h = rw (← z .0, ← z .1, ← z .2, ← z .3, ← z .4, ← z .5, ← z .6, ← z .7, ← z .8, ← k, ← q) h
+read-ends src kind T Z X yt yr o r wt wr z k v u q h I J l m =
+    let p : o ≡ attempted src kind (sized T X) Z = q ∙ ap (λ (fit : Bool). attempted src kind fit Z) (sized-same (T .t7) (Z .t7) (T .t1) (Z .t1) (X .tokens) yt (X .rules) yr (z .0) (z .6) v u) in
+    let g : r ≡ finishedRun (attempted src kind (sized T X) (zeroAll T)) = rw (← z .0, ← z .1, ← z .2, ← z .3, ← z .4, ← z .5, ← z .6, ← z .7, ← z .8, ← k, ← p) h in
+    let a : wt ≡ entries src (width tokens) 0 (r .tables .t1) (length (X .tokens)) (getD (r .counts .n) tokens 0) = rw l at (I .index .holds) in
+    let b : wr ≡ entries src (width rules) 0 (r .tables .t7) (length (X .rules)) (getD (r .counts .n) rules 0) = rw m at (J .index .holds) in
+    whole a b ∙ ap (indexed src X) g
+  where
+    whole : wt ≡ entries src (width tokens) 0 (r .tables .t1) (length (X .tokens)) (getD (r .counts .n) tokens 0) → wr ≡ entries src (width rules) 0 (r .tables .t7) (length (X .rules)) (getD (r .counts .n) rules 0)
+        → record { answer = r .answer; counts = r .counts; singles = r .singles; tables = r .tables; indexes = record { tokens = wt; rules = wr } } ≡ indexed src X r
+    whole a b = rw (a, b)

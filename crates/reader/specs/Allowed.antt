@@ -6,16 +6,16 @@ use lib.ListN.{getD}
 use Rattle.tables.specs.Table.{zeroed}
 use Rattle.tables.specs.Layout.{repeats}
 use Rattle.grammar.specs.declared.Refusal.{Refusal}
-use Rattle.grammar.specs.declared.Refusal.the-variants.{Fault, Repeated, NoRoom, TooLong, BadKind}
+use Rattle.grammar.specs.declared.Refusal.the-variants.{Fault, Repeated, NoRoom, TooLong, BadKind, BadIndex}
 use Rattle.grammar.specs.State.{noSingles}
-use Rattle.grammar.specs.Sound.{Tables, tab}
+use Rattle.grammar.specs.Sound.{Tables, Indexes, tab}
 use Rattle.reader.specs.declared.Verdict.{Verdict}
 use Rattle.reader.specs.declared.Verdict.the-variants.{Accepted, Rejected}
 use Rattle.reader.specs.Read.{Result, readAll}
 
--- "Any two outcomes allowed by it are proved equal": an outcome that the contract of `read` allows, on tables that held T
-abbrev pub Allowed : List ℕ → ℕ → Tables → Result → Type 0
-Allowed src kind T o = o ≡ readAll src kind T
+-- "Any two outcomes allowed by it are proved equal": an outcome that the contract of `read` allows, on tables that held T and indexes that held X
+abbrev pub Allowed : List ℕ → ℕ → Tables → Indexes → Result → Type 0
+Allowed src kind T X o = o ≡ readAll src kind T X
 
 -- "With repeats only, the number is the first repeat's": no fatal refusal
 abbrev pub RepeatsOnly : Refusal → Type 0
@@ -24,6 +24,7 @@ RepeatsOnly (Repeated what a b) = Unit {0}
 RepeatsOnly (NoRoom t a b) = ⊥
 RepeatsOnly TooLong = ⊥
 RepeatsOnly BadKind = ⊥
+RepeatsOnly BadIndex = ⊥
 
 -- "all tables hold the full reading": accepted, or refused for repeats only
 abbrev pub Full : Verdict → Type 0
@@ -31,7 +32,10 @@ Full (Accepted i) = Unit {0}
 Full (Rejected f) = RepeatsOnly f
 
 -- "After 1 to 15, 40 to 43, tables 1 to 9 and their counts are zero, the singles absent.": with document 02, request Four, after 1 to 19
-pub record Cleared (T : Tables) (o : Result) : Type 0 where
+pub record Cleared (T : Tables) (X : Indexes) (o : Result) : Type 0 where
   pub tables : (k : ℕ) → k < repeats → tab (o .tables) k ≡ zeroed (tab T k)
   pub counts : (k : ℕ) → k < repeats → getD (o .counts .n) k 0 ≡ 0
   pub singles : o .singles ≡ noSingles
+  -- document 02: "both indexes" too, also after 45
+  pub token-index : o .indexes .tokens ≡ zeroed (X .tokens)
+  pub rule-index : o .indexes .rules ≡ zeroed (X .rules)

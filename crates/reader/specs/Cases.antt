@@ -24,7 +24,8 @@ use Rattle.keywords.specs.Keywords.{firstOf, seenAt}
 use Rattle.grammar.specs.Refusals.{ofNumber, repeatOf}
 use Rattle.grammar.specs.Numbers.{singlesNumbers}
 use Rattle.grammar.specs.State.{nextLevel, gapOf, gapAt, pushRow, listRepeat, enterStep, onceStep, pastGap}
-use Rattle.grammar.specs.Sound.{Tables, tab, setTab}
+use Rattle.index.specs.Index.{halved, isPower, sizeTest}
+use Rattle.grammar.specs.Sound.{Tables, Indexes, tab, setTab}
 use Rattle.productions.specs.Cells.{pushProduction}
 use Rattle.settings.specs.Settings.{startNamed, startDecl, expectGiven, expectDecl, actiontypeNamed, actiontypeDecl, paramTyped, paramDecl, genericsDecl}
 use Rattle.lists.specs.Lists.{tokenItem, unusedRow, unusedItem, ends, listTurn, percentList, listDecl}
@@ -34,7 +35,7 @@ use Rattle.epps.specs.Epps.{eppGiven, eppText, eppValue, eppDecl}
 use Rattle.declarations.specs.Declarations.{declStep, declTurn, declRun, declAll}
 use Rattle.items.specs.Items.{firstMark, sortAt, tokenSymbol, quotedRows, quotedItem, precName, precItem as item-precItem, mayEnd, afterAction, actionItem, mayFollow, emptyItem, symbolKind, bareItem, endProduction, barItem, endItem, itemStep, itemTurn, itemList}
 use Rattle.rules.specs.Rules.{passMark, firstStart, colonType, arrowType, ruleType, enterRule, namedHead, ruleHead, ruleBody, ruleStep, nextRule, rulesTurn, rulesRun, rulesAll, programsFrom}
-use Rattle.reader.specs.Read.{Result, verdictNumbers, admitted, restAll, sectionsAll, attempted, endedAt, readAll}
+use Rattle.reader.specs.Read.{Result, verdictNumbers, sizesFit, admitted, restAll, sectionsAll, attempted, endedAt, readAll}
 
 -- a kind and a source
 pub record Input : Type 0 where
@@ -50,6 +51,10 @@ free = replicate 39 7
 
 abbrev lent : Tables
 lent = record { t1 = free; t2 = free; t3 = free; t4 = free; t5 = free; t6 = free; t7 = free; t8 = free; t9 = free; t10 = free }
+
+-- and indexes that are large enough for them
+abbrev slots : Indexes
+slots = record { tokens = replicate 32 7; rules = replicate 16 7 }
 
 -- the rows of table k + 1
 unfoldable pub filled : Result → ℕ → List ℕ
@@ -133,8 +138,8 @@ table =
     ∷ row 1 (37 ∷ 112 ∷ 97 ∷ 114 ∷ 115 ∷ 101 ∷ 45 ∷ 112 ∷ 97 ∷ 114 ∷ 97 ∷ 109 ∷ 32 ∷ 112 ∷ 32 ∷ 58 ∷ 32 ∷ 113 ∷ 10 ∷ 37 ∷ 112 ∷ 97 ∷ 114 ∷ 115 ∷ 101 ∷ 45 ∷ 103 ∷ 101 ∷ 110 ∷ 101 ∷ 114 ∷ 105 ∷ 99 ∷ 115 ∷ 32 ∷ 39 ∷ 97 ∷ 10 ∷ 37 ∷ 101 ∷ 120 ∷ 112 ∷ 101 ∷ 99 ∷ 116 ∷ 32 ∷ 50 ∷ 37 ∷ 101 ∷ 120 ∷ 112 ∷ 101 ∷ 99 ∷ 116 ∷ 45 ∷ 114 ∷ 114 ∷ 32 ∷ 51 ∷ 37 ∷ 37 ∷ 115 ∷ 58 ∷ 59 ∷ []) (0 ∷ 64 ∷ 64 ∷ 0 ∷ 0 ∷ 0 ∷ 0 ∷ 0 ∷ 0 ∷ 1 ∷ 1 ∷ 0 ∷ 0 ∷ 61 ∷ 62 ∷ 0 ∷ 0 ∷ 0 ∷ 0 ∷ 63 ∷ 63 ∷ 0 ∷ 0 ∷ 0 ∷ 0 ∷ 0 ∷ 0 ∷ 0 ∷ 0 ∷ 0 ∷ 0 ∷ 1 ∷ 61 ∷ 62 ∷ 1 ∷ 2 ∷ 46 ∷ 47 ∷ 1 ∷ 3 ∷ 58 ∷ 59 ∷ 1 ∷ 13 ∷ 14 ∷ 17 ∷ 18 ∷ 1 ∷ 35 ∷ 37 ∷ 0 ∷ 0 ∷ 0 ∷ [])
     ∷ []
 
-pub table-holds : all (λ x. numbers (readAll (x .src) (x .kind) lent)) table ≡ true
-unfolding isWhite all same row table filled numbers readAll attempted admitted sectionsAll restAll endedAt repeatOf ofNumber check checkAt declAll declRun declTurn declStep seenAt firstOf startsAt begins turns gapAt gapOf spacing spacingAt isBlank isEol pastGap pushRow listRepeat enterStep onceStep addRow room samePart hasName firstRow findName enterToken nextLevel nameAt named wordAt tokenAt bare quotedAt closed isQuote isAt inClass isLetter isDigit runEnd runEndAt intAt counted decimal decimalAt stringAt stringFrom string lineEndAt single singleFrom colonText colonTextAt braced bracedFrom acted actionAt startDecl startNamed expectDecl expectGiven actiontypeDecl actiontypeNamed paramTyped paramDecl genericsDecl listDecl percentList listTurn ends tokenItem unusedItem unusedRow precDecl precList precTurn precItem avoidDecl avoidList avoidTurn avoidItem avoidNamed eppDecl eppValue eppText eppGiven pushProduction leadOf follow followAt begun decode decodeAt passed passedAt kept moved trimTurn trimmed firstMark sortAt tokenSymbol quotedRows quotedItem precName item-precItem mayEnd afterAction actionItem mayFollow emptyItem symbolKind bareItem endProduction barItem endItem itemStep itemTurn itemList passMark firstStart colonType arrowType ruleType enterRule namedHead ruleHead ruleBody ruleStep nextRule rulesTurn rulesRun rulesAll programsFrom
+pub table-holds : all (λ x. numbers (readAll (x .src) (x .kind) lent slots)) table ≡ true
+unfolding isWhite all same row table filled numbers readAll attempted sizesFit sizeTest isPower halved admitted sectionsAll restAll endedAt repeatOf ofNumber check checkAt declAll declRun declTurn declStep seenAt firstOf startsAt begins turns gapAt gapOf spacing spacingAt isBlank isEol pastGap pushRow listRepeat enterStep onceStep addRow room samePart hasName firstRow findName enterToken nextLevel nameAt named wordAt tokenAt bare quotedAt closed isQuote isAt inClass isLetter isDigit runEnd runEndAt intAt counted decimal decimalAt stringAt stringFrom string lineEndAt single singleFrom colonText colonTextAt braced bracedFrom acted actionAt startDecl startNamed expectDecl expectGiven actiontypeDecl actiontypeNamed paramTyped paramDecl genericsDecl listDecl percentList listTurn ends tokenItem unusedItem unusedRow precDecl precList precTurn precItem avoidDecl avoidList avoidTurn avoidItem avoidNamed eppDecl eppValue eppText eppGiven pushProduction leadOf follow followAt begun decode decodeAt passed passedAt kept moved trimTurn trimmed firstMark sortAt tokenSymbol quotedRows quotedItem precName item-precItem mayEnd afterAction actionItem mayFollow emptyItem symbolKind bareItem endProduction barItem endItem itemStep itemTurn itemList passMark firstStart colonType arrowType ruleType enterRule namedHead ruleHead ruleBody ruleStep nextRule rulesTurn rulesRun rulesAll programsFrom
 table-holds = refl
 
 -- A source, a kind, and a table without room for a row: index k is table k + 1.
@@ -177,6 +182,36 @@ rooms =
     ∷ full 1 9 (37 ∷ 116 ∷ 111 ∷ 107 ∷ 101 ∷ 110 ∷ 32 ∷ 97 ∷ 98 ∷ 37 ∷ 101 ∷ 112 ∷ 112 ∷ 32 ∷ 39 ∷ 97 ∷ 98 ∷ 39 ∷ 32 ∷ 39 ∷ 120 ∷ 39 ∷ 37 ∷ 101 ∷ 112 ∷ 112 ∷ 32 ∷ 97 ∷ 98 ∷ 32 ∷ 39 ∷ 121 ∷ 39 ∷ 37 ∷ 37 ∷ 115 ∷ 58 ∷ 59 ∷ []) (42 ∷ 27 ∷ 29 ∷ 10 ∷ [])
     ∷ []
 
-pub rooms-hold : all (λ x. verdictNumbers (readAll (x .src) (x .kind) (setTab lent (x .without) []) .answer)) rooms ≡ true
-unfolding full rooms isWhite all same readAll attempted admitted sectionsAll restAll endedAt repeatOf ofNumber check checkAt declAll declRun declTurn declStep seenAt firstOf startsAt begins turns gapAt gapOf spacing spacingAt isBlank isEol pastGap pushRow listRepeat enterStep onceStep addRow room samePart hasName firstRow findName enterToken nextLevel nameAt named wordAt tokenAt bare quotedAt closed isQuote isAt inClass isLetter isDigit runEnd runEndAt intAt counted decimal decimalAt stringAt stringFrom string lineEndAt single singleFrom colonText colonTextAt braced bracedFrom acted actionAt startDecl startNamed expectDecl expectGiven actiontypeDecl actiontypeNamed paramTyped paramDecl genericsDecl listDecl percentList listTurn ends tokenItem unusedItem unusedRow precDecl precList precTurn precItem avoidDecl avoidList avoidTurn avoidItem avoidNamed eppDecl eppValue eppText eppGiven pushProduction leadOf follow followAt begun decode decodeAt passed passedAt kept moved trimTurn trimmed firstMark sortAt tokenSymbol quotedRows quotedItem precName item-precItem mayEnd afterAction actionItem mayFollow emptyItem symbolKind bareItem endProduction barItem endItem itemStep itemTurn itemList passMark firstStart colonType arrowType ruleType enterRule namedHead ruleHead ruleBody ruleStep nextRule rulesTurn rulesRun rulesAll programsFrom
+pub rooms-hold : all (λ x. verdictNumbers (readAll (x .src) (x .kind) (setTab lent (x .without) []) slots .answer)) rooms ≡ true
+unfolding full rooms isWhite all same readAll attempted sizesFit sizeTest isPower halved admitted sectionsAll restAll endedAt repeatOf ofNumber check checkAt declAll declRun declTurn declStep seenAt firstOf startsAt begins turns gapAt gapOf spacing spacingAt isBlank isEol pastGap pushRow listRepeat enterStep onceStep addRow room samePart hasName firstRow findName enterToken nextLevel nameAt named wordAt tokenAt bare quotedAt closed isQuote isAt inClass isLetter isDigit runEnd runEndAt intAt counted decimal decimalAt stringAt stringFrom string lineEndAt single singleFrom colonText colonTextAt braced bracedFrom acted actionAt startDecl startNamed expectDecl expectGiven actiontypeDecl actiontypeNamed paramTyped paramDecl genericsDecl listDecl percentList listTurn ends tokenItem unusedItem unusedRow precDecl precList precTurn precItem avoidDecl avoidList avoidTurn avoidItem avoidNamed eppDecl eppValue eppText eppGiven pushProduction leadOf follow followAt begun decode decodeAt passed passedAt kept moved trimTurn trimmed firstMark sortAt tokenSymbol quotedRows quotedItem precName item-precItem mayEnd afterAction actionItem mayFollow emptyItem symbolKind bareItem endProduction barItem endItem itemStep itemTurn itemList passMark firstStart colonType arrowType ruleType enterRule namedHead ruleHead ruleBody ruleStep nextRule rulesTurn rulesRun rulesAll programsFrom
 rooms-hold = refl
+
+-- a kind, a source, and how many slots each index has
+pub record Lent : Type 0 where
+  pub kind : ℕ
+  pub src : List ℕ
+  pub first : ℕ
+  pub seventh : ℕ
+
+unfoldable pub lend : ℕ → List ℕ → ℕ → ℕ → List ℕ → Case Lent
+lend kind src first seventh gives = record { input = record { kind = kind; src = src; first = first; seventh = seventh }; gives = gives }
+
+-- "45, index not a power of two or below twice the rows its table has room for", "tested after 43": table 1 has room for 13 rows, table 7 for 7
+unfoldable pub sizes : List (Case Lent)
+sizes =
+    lend 1 (37 ∷ 37 ∷ []) 32 16 (0 ∷ 2 ∷ 2 ∷ 0 ∷ [])
+    ∷ lend 1 (37 ∷ 37 ∷ []) 64 32 (0 ∷ 2 ∷ 2 ∷ 0 ∷ [])
+    ∷ lend 1 (37 ∷ 37 ∷ []) 16 16 (45 ∷ 0 ∷ 0 ∷ 0 ∷ [])
+    ∷ lend 1 (37 ∷ 37 ∷ []) 32 8 (45 ∷ 0 ∷ 0 ∷ 0 ∷ [])
+    ∷ lend 1 (37 ∷ 37 ∷ []) 0 16 (45 ∷ 0 ∷ 0 ∷ 0 ∷ [])
+    ∷ lend 1 (37 ∷ 37 ∷ []) 33 16 (45 ∷ 0 ∷ 0 ∷ 0 ∷ [])
+    ∷ lend 1 (37 ∷ 37 ∷ []) 48 16 (45 ∷ 0 ∷ 0 ∷ 0 ∷ [])
+    -- a kind that is none comes first
+    ∷ lend 4 (37 ∷ 37 ∷ []) 0 0 (43 ∷ 0 ∷ 0 ∷ 0 ∷ [])
+    -- a byte that begins no character comes later
+    ∷ lend 1 (255 ∷ []) 0 0 (45 ∷ 0 ∷ 0 ∷ 0 ∷ [])
+    ∷ []
+
+pub sizes-hold : all (λ x. verdictNumbers (readAll (x .src) (x .kind) lent (record { tokens = replicate (x .first) 7; rules = replicate (x .seventh) 7 }) .answer)) sizes ≡ true
+unfolding lend sizes isWhite all same readAll attempted sizesFit sizeTest isPower halved admitted sectionsAll restAll endedAt repeatOf ofNumber check checkAt declAll declRun declTurn declStep seenAt firstOf startsAt begins turns gapAt gapOf spacing spacingAt isBlank isEol pastGap pushRow listRepeat enterStep onceStep addRow room samePart hasName firstRow findName enterToken nextLevel nameAt named wordAt tokenAt bare quotedAt closed isQuote isAt inClass isLetter isDigit runEnd runEndAt intAt counted decimal decimalAt stringAt stringFrom string lineEndAt single singleFrom colonText colonTextAt braced bracedFrom acted actionAt startDecl startNamed expectDecl expectGiven actiontypeDecl actiontypeNamed paramTyped paramDecl genericsDecl listDecl percentList listTurn ends tokenItem unusedItem unusedRow precDecl precList precTurn precItem avoidDecl avoidList avoidTurn avoidItem avoidNamed eppDecl eppValue eppText eppGiven pushProduction leadOf follow followAt begun decode decodeAt passed passedAt kept moved trimTurn trimmed firstMark sortAt tokenSymbol quotedRows quotedItem precName item-precItem mayEnd afterAction actionItem mayFollow emptyItem symbolKind bareItem endProduction barItem endItem itemStep itemTurn itemList passMark firstStart colonType arrowType ruleType enterRule namedHead ruleHead ruleBody ruleStep nextRule rulesTurn rulesRun rulesAll programsFrom
+sizes-hold = refl

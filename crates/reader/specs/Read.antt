@@ -1,27 +1,28 @@
--- Document 01, "Numbers given back": "Order: 43, 41, 40, then reading."
+-- Document 01, "Numbers given back": "Order: 43, 41, 40, then reading.", and document 02: 45 "tested after 43".
 use Prim.Native.Nat.{ℕ, _+_, _≤_}
 use mathlib.Core.Path.{_≡_}
 use mathlib.Core.List.{List, [], _∷_}
-use mathlib.Core.Bool.{Bool, true, false, _||_}
+use mathlib.Core.Bool.{Bool, true, false, _||_, _&&_}
 use lib.Dec.{ltb, eqb}
-use lib.ListN.{length}
+use lib.ListN.{length, getD}
 use Rattle.whole.specs.declared.Checked.{Checked}
 use Rattle.whole.specs.declared.Checked.the-variants.{Good, BadAt}
 use Rattle.whole.specs.Whole.{checkAt}
 use Rattle.tables.specs.Table.{zeroed, cell}
-use Rattle.tables.specs.Layout.{repeats, firstPlace, width}
+use Rattle.tables.specs.Layout.{tokens, rules, repeats, firstPlace, width}
+use Rattle.index.specs.Index.{entries, sizeTest}
 use Rattle.grammar.specs.declared.Counts.{Counts}
 use Rattle.grammar.specs.declared.Singles.{Singles}
 use Rattle.grammar.specs.declared.State.{State}
 use Rattle.grammar.specs.declared.Cause.the-variants.{NotUtf8, PrematureEnd}
 use Rattle.grammar.specs.declared.Refusal.{Refusal}
-use Rattle.grammar.specs.declared.Refusal.the-variants.{Fault, Repeated, TooLong, BadKind}
+use Rattle.grammar.specs.declared.Refusal.the-variants.{Fault, Repeated, TooLong, BadKind, BadIndex}
 use Rattle.grammar.specs.declared.Answer.{Answer}
 use Rattle.grammar.specs.declared.Answer.the-variants.{Going, Done, Refused}
 use Rattle.grammar.specs.Refusals.{repeatOf}
 use Rattle.grammar.specs.Numbers.{refusalNumbers}
 use Rattle.grammar.specs.State.{Out0, count, fresh, noSingles}
-use Rattle.grammar.specs.Sound.{Tables, zeroAll}
+use Rattle.grammar.specs.Sound.{Tables, Indexes, zeroAll}
 use Rattle.declarations.specs.Declarations.{Declared, Out, declAll}
 use Rattle.rules.specs.Rules.{Ruled, rulesAll, programsFrom}
 use Rattle.reader.specs.declared.Verdict.{Verdict}
@@ -37,11 +38,19 @@ pub record Run : Type 0 where
   pub tables : Tables
 
 -- "A read's answer holds number, place, table number [..], and the ten counts [..] besides" the singles; and the tables it left
+pub record Outcome : Type 0 where
+  pub answer : Verdict
+  pub counts : Counts
+  pub singles : Singles
+  pub tables : Tables
+
+-- and the indexes
 pub record Result : Type 0 where
   pub answer : Verdict
   pub counts : Counts
   pub singles : Singles
   pub tables : Tables
+  pub indexes : Indexes
 
 -- document 01's number, place and table of each answer: "0 accepted: end reached, twice"
 abbrev pub verdictNumbers : Verdict → List ℕ
@@ -57,13 +66,20 @@ abbrev pub asText : Checked → Admission
 asText Good = Fit
 asText (BadAt i) = Unfit (Fault NotUtf8 i)
 
+-- "a power of two of slots", at least "twice the rows its table has room for": m slots for n cells, of tables 1 and 7
+unfoldable pub sizesFit : ℕ → ℕ → ℕ → ℕ → Bool
+sizesFit m₁ n₁ m₇ n₇ = sizeTest m₁ n₁ (width tokens) && sizeTest m₇ n₇ (width rules)
+
+abbrev pub sized : Tables → Indexes → Bool
+sized T X = sizesFit (length (X .tokens)) (length (T .t1)) (length (X .rules)) (length (T .t7))
+
 -- "Kinds: 1 Original, 2 Grmtools, 3 Eco. Source: 0 to 65,536 bytes."
-unfoldable pub admitted : List ℕ → ℕ → Admission
-admitted src kind =
-    elim (ltb kind 1 || ltb 3 kind) [
-      | true ↦ Unfit BadKind
-      | false ↦ elim (ltb 65536 (length src)) [ true ↦ Unfit TooLong | false ↦ asText (checkAt src 0) ]
-    ]
+abbrev pub sizedText : Bool → List ℕ → Admission
+sizedText true src = elim (ltb 65536 (length src)) [ true ↦ Unfit TooLong | false ↦ asText (checkAt src 0) ]
+sizedText false src = Unfit BadIndex
+
+unfoldable pub admitted : List ℕ → ℕ → Bool → Admission
+admitted src kind fit = elim (ltb kind 1 || ltb 3 kind) [ true ↦ Unfit BadKind | false ↦ sizedText fit src ]
 
 -- a source that can be read is not too long
 abbrev pub Short : List ℕ → Admission → Type 0
@@ -117,8 +133,8 @@ abbrev pub attemptOf : Admission → List ℕ → ℕ → Tables → Run
 attemptOf Fit src kind T = sectionsAll src kind fresh T
 attemptOf (Unfit f) src kind T = record { answer = Refused f; state = fresh; tables = T }
 
-unfoldable pub attempted : List ℕ → ℕ → Tables → Run
-attempted src kind T = attemptOf (admitted src kind) src kind T
+unfoldable pub attempted : List ℕ → ℕ → Bool → Tables → Run
+attempted src kind fit T = attemptOf (admitted src kind fit) src kind T
 
 -- "After 1 to 15, 40 to 43, tables 1 to 9 and their counts are zero, the singles absent", and with document 02, request Four, after 16 to 19; "repeats met before
 -- it stay listed"
@@ -139,17 +155,32 @@ endedAt s t10 =
 abbrev pub clearNine : Tables → Tables
 clearNine T = record { t1 = zeroed (T .t1); t2 = zeroed (T .t2); t3 = zeroed (T .t3); t4 = zeroed (T .t4); t5 = zeroed (T .t5); t6 = zeroed (T .t6); t7 = zeroed (T .t7); t8 = zeroed (T .t8); t9 = zeroed (T .t9); t10 = T .t10 }
 
-abbrev pub result : Reading → Tables → Result
+abbrev pub result : Reading → Tables → Outcome
 result r T = record { answer = r .answer; counts = r .counts; singles = r .singles; tables = T }
 
-abbrev pub finished : Answer → State → Tables → Result
+abbrev pub finished : Answer → State → Tables → Outcome
 finished Going s T = result (endedAt s (T .t10)) T
 finished Done s T = result (endedAt s (T .t10)) T
 finished (Refused f) s T = result (stoppedAt s f) (clearNine T)
 
-abbrev pub finishedRun : Run → Result
+abbrev pub finishedRun : Run → Outcome
 finishedRun r = finished (r .answer) (r .state) (r .tables)
 
--- The read: on tables of zeros.
-unfoldable pub readAll : List ℕ → ℕ → Tables → Result
-readAll src kind T = finishedRun (attempted src kind (zeroAll T))
+-- an index is "exactly what entering its table's rows in order gives", whatever the answer: after a refusal that left no row, all zero
+abbrev pub indexed : List ℕ → Indexes → Outcome → Result
+indexed src X o =
+    record {
+      answer = o .answer;
+      counts = o .counts;
+      singles = o .singles;
+      tables = o .tables;
+      indexes =
+          record {
+            tokens = entries src (width tokens) 0 (o .tables .t1) (length (X .tokens)) (getD (o .counts .n) tokens 0);
+            rules = entries src (width rules) 0 (o .tables .t7) (length (X .rules)) (getD (o .counts .n) rules 0);
+          };
+    }
+
+-- The read: on tables of zeros, and on indexes of which the sizes alone matter.
+unfoldable pub readAll : List ℕ → ℕ → Tables → Indexes → Result
+readAll src kind T X = indexed src X (finishedRun (attempted src kind (sized T X) (zeroAll T)))

@@ -1,4 +1,4 @@
-// The whole read: kind, length and UTF-8, then declarations, rules and programs on tables of zeros, and what is left of them after a refusal.
+// The whole read: kind, the indexes' sizes, length and UTF-8, then declarations, rules and programs on tables of zeros, and what is left of them after a refusal.
 use grammar::Answer;
 use grammar::Cause;
 use grammar::Counts;
@@ -12,11 +12,12 @@ use grammar::Step;
 use whole::Checked;
 ghost use mathlib.Core.Path.{_≡_};
 ghost use Prim.Native.Nat.{_≤_};
-ghost use Rattle.grammar.specs.State.{Here, Passed, fresh, noSingles};
+ghost use lib.ListN.{length};
+ghost use Rattle.grammar.specs.State.{Here, Passed, Tokens, Rules, fresh, noCounts, noSingles};
 ghost use Rattle.grammar.specs.Sound.{Tables};
 ghost use Rattle.rules.specs.Rules.{Ruled};
 ghost use Rattle.tables.specs.Table.{zeroed};
-ghost use Rattle.reader.specs.Read.{Run, Result, Short, admitted, restAll, sectionsAll, attempted, stoppedAt, endedAt, finished, readAll};
+ghost use Rattle.reader.specs.Read.{Run, Outcome, Result, Short, sizesFit, admitted, restAll, sectionsAll, attempted, stoppedAt, endedAt, finished, readAll};
 
 // What a read came to.
 pub enum Verdict {
@@ -37,13 +38,23 @@ pub enum Admission {
     Unfit(Refusal),
 }
 
-// 43, 41 and 40, in that order.
-pub fn admit(src: &[u8], kind: u32) -> Admission
-    ensures is { λ r. ⌜ r ≡ admitted (now (src .entry)) kind ⌝ }
+// Whether both indexes have a right size for their tables: slots for cells.
+pub fn sizes_fit(m1: usize, n1: usize, m7: usize, n7: usize) -> bool
+    ensures { λ r. ⌜ r ≡ sizesFit m1 n1 m7 n7 ⌝ }
+{
+    index::size_sound(m1, n1, tables::TOKEN_WIDTH) & index::size_sound(m7, n7, tables::RULE_WIDTH)
+}
+
+// 43, 45, 41 and 40, in that order.
+pub fn admit(src: &[u8], kind: u32, sized: bool) -> Admission
+    ensures is { λ r. ⌜ r ≡ admitted (now (src .entry)) kind sized ⌝ }
     ensures short { λ r. ⌜ Short (now (src .entry)) r ⌝ }
 {
     if (kind < 1) | (3 < kind) {
         return Admission::Unfit(Refusal::BadKind);
+    }
+    if !sized {
+        return Admission::Unfit(Refusal::BadIndex);
     }
     if 65536 < src.len() {
         return Admission::Unfit(Refusal::TooLong);
@@ -91,12 +102,15 @@ pub fn rest(
     t7: &mut [u32],
     t8: &mut [u32],
     t9: &mut [u32],
+    i1: &mut [u32],
+    i7: &mut [u32],
 ) -> Step
-    requires { ⌜ Here (now src) (s .at) ⌝ }
+    requires { ⌜ Here (now src) (s .at) × Tokens (now src) (s .counts) (now t1) (now i1) × Rules (now src) (s .counts) (now t7) (now i7) ⌝ }
     ensures is { λ r. ⌜ _≡_ {A = Ruled} (record { answer = r .answer; state = r .state; t1 = now (t1 .exit); t7 = now (t7 .exit); t8 = now (t8 .exit); t9 = now (t9 .exit) }) (restAll (now (src .entry)) kind s (now (t1 .entry)) (now (t7 .entry)) (now (t8 .entry)) (now (t9 .entry))) ⌝ }
     ensures moved { λ r. ⌜ Passed (now (src .entry)) (s .at) (r .state .at) ⌝ }
+    ensures indexed { λ r. ⌜ Tokens (now (src .entry)) (r .state .counts) (now (t1 .exit)) (now (i1 .exit)) × Rules (now (src .entry)) (r .state .counts) (now (t7 .exit)) (now (i7 .exit)) ⌝ }
 {
-    let r = rules::rules(src, kind, s, t1, t7, t8, t9);
+    let r = rules::rules(src, kind, s, t1, t7, t8, t9, i1, i7);
     let a = r.answer;
     let n = r.state;
     match a {
@@ -127,12 +141,15 @@ pub fn sections(
     t8: &mut [u32],
     t9: &mut [u32],
     t10: &mut [u32],
+    i1: &mut [u32],
+    i7: &mut [u32],
 ) -> Step
-    requires { ⌜ Here (now src) (s .at) ⌝ }
+    requires { ⌜ Here (now src) (s .at) × Tokens (now src) (s .counts) (now t1) (now i1) × Rules (now src) (s .counts) (now t7) (now i7) ⌝ }
     ensures is { λ r. ⌜ _≡_ {A = Run} (record { answer = r .answer; state = r .state; tables = record { t1 = now (t1 .exit); t2 = now (t2 .exit); t3 = now (t3 .exit); t4 = now (t4 .exit); t5 = now (t5 .exit); t6 = now (t6 .exit); t7 = now (t7 .exit); t8 = now (t8 .exit); t9 = now (t9 .exit); t10 = now (t10 .exit) } }) (sectionsAll (now (src .entry)) kind s (record { t1 = now (t1 .entry); t2 = now (t2 .entry); t3 = now (t3 .entry); t4 = now (t4 .entry); t5 = now (t5 .entry); t6 = now (t6 .entry); t7 = now (t7 .entry); t8 = now (t8 .entry); t9 = now (t9 .entry); t10 = now (t10 .entry) })) ⌝ }
     ensures moved { λ r. ⌜ Passed (now (src .entry)) (s .at) (r .state .at) ⌝ }
+    ensures indexed { λ r. ⌜ Tokens (now (src .entry)) (r .state .counts) (now (t1 .exit)) (now (i1 .exit)) × Rules (now (src .entry)) (r .state .counts) (now (t7 .exit)) (now (i7 .exit)) ⌝ }
 {
-    let r = declarations::declarations(src, kind, s, t1, t2, t3, t4, t5, t6, t10);
+    let r = declarations::declarations(src, kind, s, t1, t2, t3, t4, t5, t6, t10, i1);
     let a = r.answer;
     let n = r.state;
     match a {
@@ -140,7 +157,7 @@ pub fn sections(
             answer: Answer::Refused(Refusal::Fault(Cause::PrematureEnd, n.at as u32)),
             state: n,
         },
-        Answer::Done => rest(src, kind, n, t1, t7, t8, t9),
+        Answer::Done => rest(src, kind, n, t1, t7, t8, t9, i1, i7),
         Answer::Refused(f) => Step {
             answer: Answer::Refused(f),
             state: n,
@@ -162,14 +179,35 @@ pub fn attempt(
     t8: &mut [u32],
     t9: &mut [u32],
     t10: &mut [u32],
+    i1: &mut [u32],
+    i7: &mut [u32],
 ) -> Step
-    ensures is { λ r. ⌜ _≡_ {A = Run} (record { answer = r .answer; state = r .state; tables = record { t1 = now (t1 .exit); t2 = now (t2 .exit); t3 = now (t3 .exit); t4 = now (t4 .exit); t5 = now (t5 .exit); t6 = now (t6 .exit); t7 = now (t7 .exit); t8 = now (t8 .exit); t9 = now (t9 .exit); t10 = now (t10 .exit) } }) (attempted (now (src .entry)) kind (record { t1 = now (t1 .entry); t2 = now (t2 .entry); t3 = now (t3 .entry); t4 = now (t4 .entry); t5 = now (t5 .entry); t6 = now (t6 .entry); t7 = now (t7 .entry); t8 = now (t8 .entry); t9 = now (t9 .entry); t10 = now (t10 .entry) })) ⌝ }
+    requires { ⌜ Tokens (now src) noCounts (now t1) (now i1) × Rules (now src) noCounts (now t7) (now i7) ⌝ }
+    ensures is { λ r. ⌜ _≡_ {A = Run} (record { answer = r .answer; state = r .state; tables = record { t1 = now (t1 .exit); t2 = now (t2 .exit); t3 = now (t3 .exit); t4 = now (t4 .exit); t5 = now (t5 .exit); t6 = now (t6 .exit); t7 = now (t7 .exit); t8 = now (t8 .exit); t9 = now (t9 .exit); t10 = now (t10 .exit) } }) (attempted (now (src .entry)) kind (sizesFit (length (now (i1 .entry))) (length (now (t1 .entry))) (length (now (i7 .entry))) (length (now (t7 .entry)))) (record { t1 = now (t1 .entry); t2 = now (t2 .entry); t3 = now (t3 .entry); t4 = now (t4 .entry); t5 = now (t5 .entry); t6 = now (t6 .entry); t7 = now (t7 .entry); t8 = now (t8 .entry); t9 = now (t9 .entry); t10 = now (t10 .entry) })) ⌝ }
     ensures near { λ r. ⌜ r .state .at ≤ 65536 ⌝ }
+    ensures indexed { λ r. ⌜ Tokens (now (src .entry)) (r .state .counts) (now (t1 .exit)) (now (i1 .exit)) × Rules (now (src .entry)) (r .state .counts) (now (t7 .exit)) (now (i7 .exit)) ⌝ }
 {
     let s = begin();
-    let a = admit(src, kind);
+    let sized = sizes_fit(i1.len(), t1.len(), i7.len(), t7.len());
+    let a = admit(src, kind, sized);
     match a {
-        Admission::Fit => sections(src, kind, s, t1, t2, t3, t4, t5, t6, t7, t8, t9, t10),
+        Admission::Fit => sections(
+            src,
+            kind,
+            s,
+            t1,
+            t2,
+            t3,
+            t4,
+            t5,
+            t6,
+            t7,
+            t8,
+            t9,
+            t10,
+            i1,
+            i7,
+        ),
         Admission::Unfit(f) => Step {
             answer: Answer::Refused(f),
             state: s,
@@ -177,7 +215,7 @@ pub fn attempt(
     }
 }
 
-// Tables 1 to 9 without anything in them.
+// Tables 1 to 9 and the indexes without anything in them.
 pub fn clear(
     t1: &mut [u32],
     t2: &mut [u32],
@@ -188,8 +226,10 @@ pub fn clear(
     t7: &mut [u32],
     t8: &mut [u32],
     t9: &mut [u32],
+    i1: &mut [u32],
+    i7: &mut [u32],
 )
-    ensures { λ r. ⌜ (now (t1 .exit) ≡ zeroed (now (t1 .entry))) × (now (t2 .exit) ≡ zeroed (now (t2 .entry))) × (now (t3 .exit) ≡ zeroed (now (t3 .entry))) × (now (t4 .exit) ≡ zeroed (now (t4 .entry))) × (now (t5 .exit) ≡ zeroed (now (t5 .entry))) × (now (t6 .exit) ≡ zeroed (now (t6 .entry))) × (now (t7 .exit) ≡ zeroed (now (t7 .entry))) × (now (t8 .exit) ≡ zeroed (now (t8 .entry))) × (now (t9 .exit) ≡ zeroed (now (t9 .entry))) ⌝ }
+    ensures { λ r. ⌜ (now (t1 .exit) ≡ zeroed (now (t1 .entry))) × (now (t2 .exit) ≡ zeroed (now (t2 .entry))) × (now (t3 .exit) ≡ zeroed (now (t3 .entry))) × (now (t4 .exit) ≡ zeroed (now (t4 .entry))) × (now (t5 .exit) ≡ zeroed (now (t5 .entry))) × (now (t6 .exit) ≡ zeroed (now (t6 .entry))) × (now (t7 .exit) ≡ zeroed (now (t7 .entry))) × (now (t8 .exit) ≡ zeroed (now (t8 .entry))) × (now (t9 .exit) ≡ zeroed (now (t9 .entry))) × (now (i1 .exit) ≡ zeroed (now (i1 .entry))) × (now (i7 .exit) ≡ zeroed (now (i7 .entry))) ⌝ }
 {
     tables::zero(t1);
     tables::zero(t2);
@@ -200,6 +240,8 @@ pub fn clear(
     tables::zero(t7);
     tables::zero(t8);
     tables::zero(t9);
+    tables::zero(i1);
+    tables::zero(i7);
 }
 
 // After a fatal refusal only the repeats stay listed.
@@ -242,6 +284,7 @@ pub fn ended(s: State, t10: &[u32]) -> Reading
 }
 
 pub fn finish(
+    src: &[u8],
     r: Step,
     t1: &mut [u32],
     t2: &mut [u32],
@@ -253,9 +296,12 @@ pub fn finish(
     t8: &mut [u32],
     t9: &mut [u32],
     t10: &[u32],
+    i1: &mut [u32],
+    i7: &mut [u32],
 ) -> Reading
-    requires { ⌜ r .state .at ≤ 65536 ⌝ }
-    ensures is { λ q. ⌜ _≡_ {A = Result} (record { answer = q .answer; counts = q .counts; singles = q .singles; tables = record { t1 = now (t1 .exit); t2 = now (t2 .exit); t3 = now (t3 .exit); t4 = now (t4 .exit); t5 = now (t5 .exit); t6 = now (t6 .exit); t7 = now (t7 .exit); t8 = now (t8 .exit); t9 = now (t9 .exit); t10 = now (t10 .entry) } }) (finished (r .answer) (r .state) (record { t1 = now (t1 .entry); t2 = now (t2 .entry); t3 = now (t3 .entry); t4 = now (t4 .entry); t5 = now (t5 .entry); t6 = now (t6 .entry); t7 = now (t7 .entry); t8 = now (t8 .entry); t9 = now (t9 .entry); t10 = now (t10 .entry) })) ⌝ }
+    requires { ⌜ (r .state .at ≤ 65536) × Tokens (now src) (r .state .counts) (now t1) (now i1) × Rules (now src) (r .state .counts) (now t7) (now i7) ⌝ }
+    ensures is { λ q. ⌜ _≡_ {A = Outcome} (record { answer = q .answer; counts = q .counts; singles = q .singles; tables = record { t1 = now (t1 .exit); t2 = now (t2 .exit); t3 = now (t3 .exit); t4 = now (t4 .exit); t5 = now (t5 .exit); t6 = now (t6 .exit); t7 = now (t7 .exit); t8 = now (t8 .exit); t9 = now (t9 .exit); t10 = now (t10 .entry) } }) (finished (r .answer) (r .state) (record { t1 = now (t1 .entry); t2 = now (t2 .entry); t3 = now (t3 .entry); t4 = now (t4 .entry); t5 = now (t5 .entry); t6 = now (t6 .entry); t7 = now (t7 .entry); t8 = now (t8 .entry); t9 = now (t9 .entry); t10 = now (t10 .entry) })) ⌝ }
+    ensures indexed { λ q. ⌜ Tokens (now (src .entry)) (q .counts) (now (t1 .exit)) (now (i1 .exit)) × Rules (now (src .entry)) (q .counts) (now (t7 .exit)) (now (i7 .exit)) ⌝ }
 {
     let a = r.answer;
     let s = r.state;
@@ -263,13 +309,13 @@ pub fn finish(
         Answer::Going => ended(s, t10),
         Answer::Done => ended(s, t10),
         Answer::Refused(f) => {
-            clear(t1, t2, t3, t4, t5, t6, t7, t8, t9);
+            clear(t1, t2, t3, t4, t5, t6, t7, t8, t9, i1, i7);
             stopped(s, f)
         }
     }
 }
 
-// The read of a source of the kind, into ten lent tables.
+// The read of a source of the kind, into ten lent tables and two lent indexes.
 pub fn read(
     src: &[u8],
     kind: u32,
@@ -283,11 +329,13 @@ pub fn read(
     t8: &mut [u32],
     t9: &mut [u32],
     t10: &mut [u32],
+    i1: &mut [u32],
+    i7: &mut [u32],
 ) -> Reading
-    ensures is { λ r. ⌜ _≡_ {A = Result} (record { answer = r .answer; counts = r .counts; singles = r .singles; tables = record { t1 = now (t1 .exit); t2 = now (t2 .exit); t3 = now (t3 .exit); t4 = now (t4 .exit); t5 = now (t5 .exit); t6 = now (t6 .exit); t7 = now (t7 .exit); t8 = now (t8 .exit); t9 = now (t9 .exit); t10 = now (t10 .exit) } }) (readAll (now (src .entry)) kind (record { t1 = now (t1 .entry); t2 = now (t2 .entry); t3 = now (t3 .entry); t4 = now (t4 .entry); t5 = now (t5 .entry); t6 = now (t6 .entry); t7 = now (t7 .entry); t8 = now (t8 .entry); t9 = now (t9 .entry); t10 = now (t10 .entry) })) ⌝ }
+    ensures is { λ r. ⌜ _≡_ {A = Result} (record { answer = r .answer; counts = r .counts; singles = r .singles; tables = record { t1 = now (t1 .exit); t2 = now (t2 .exit); t3 = now (t3 .exit); t4 = now (t4 .exit); t5 = now (t5 .exit); t6 = now (t6 .exit); t7 = now (t7 .exit); t8 = now (t8 .exit); t9 = now (t9 .exit); t10 = now (t10 .exit) }; indexes = record { tokens = now (i1 .exit); rules = now (i7 .exit) } }) (readAll (now (src .entry)) kind (record { t1 = now (t1 .entry); t2 = now (t2 .entry); t3 = now (t3 .entry); t4 = now (t4 .entry); t5 = now (t5 .entry); t6 = now (t6 .entry); t7 = now (t7 .entry); t8 = now (t8 .entry); t9 = now (t9 .entry); t10 = now (t10 .entry) }) (record { tokens = now (i1 .entry); rules = now (i7 .entry) })) ⌝ }
 {
-    clear(t1, t2, t3, t4, t5, t6, t7, t8, t9);
+    clear(t1, t2, t3, t4, t5, t6, t7, t8, t9, i1, i7);
     tables::zero(t10);
-    let r = attempt(src, kind, t1, t2, t3, t4, t5, t6, t7, t8, t9, t10);
-    finish(r, t1, t2, t3, t4, t5, t6, t7, t8, t9, t10)
+    let r = attempt(src, kind, t1, t2, t3, t4, t5, t6, t7, t8, t9, t10, i1, i7);
+    finish(src, r, t1, t2, t3, t4, t5, t6, t7, t8, t9, t10, i1, i7)
 }

@@ -2,7 +2,7 @@
 use Prim.Native.Nat.{ℕ, _+_, _≤_, _<_}
 use mathlib.Core.Path.{_≡_, refl, sym}
 use mathlib.Core.List.{List}
-use mathlib.Core.Bool.{_||_}
+use mathlib.Core.Bool.{Bool, true, false, _||_}
 use mathlib.Core.Logic.{_⊎_, inl, inr}
 use native.Mathlib.Omega.{arith}
 use lib.Dec.{ltb, eqb}
@@ -20,13 +20,13 @@ use Rattle.grammar.specs.declared.State.{State}
 use Rattle.grammar.specs.declared.Cause.{Cause}
 use Rattle.grammar.specs.declared.Cause.the-variants.{IntegerEmpty, IntegerTooLarge, IllegalName, IllegalString, IncompleteRule, IncompleteComment, IncompleteAction, MissingColon, MissingRightArrow, NonEmptyProduction, PrematureEnd, NotTerminated, UnknownDeclaration, ReachedEol, ReachedEnd, StringNotOpened, StringLineEnd, StringEscape, StringNotClosed, UnknownSymbol, NotUtf8}
 use Rattle.grammar.specs.declared.Refusal.{Refusal}
-use Rattle.grammar.specs.declared.Refusal.the-variants.{Fault, Repeated, NoRoom, TooLong, BadKind}
+use Rattle.grammar.specs.declared.Refusal.the-variants.{Fault, Repeated, NoRoom, TooLong, BadKind, BadIndex}
 use Rattle.grammar.specs.declared.Repeat.{Repeat}
 use Rattle.grammar.specs.declared.Answer.{Answer}
 use Rattle.grammar.specs.declared.Answer.the-variants.{Going, Done, Refused}
 use Rattle.grammar.specs.Refusals.{numberOfCause, numberOfRepeat, repeatOf}
 use Rattle.grammar.specs.State.{Passed, count, fresh}
-use Rattle.grammar.specs.Sound.{Tables, zeroAll, Far}
+use Rattle.grammar.specs.Sound.{Tables, Indexes, zeroAll, Far}
 use Rattle.grammar.proofs.Repeats.{repeat-least, repeat-most, number-back}
 use Rattle.declarations.specs.Declarations.{Out, declAll}
 use Rattle.rules.specs.Rules.{Ruled, rulesAll}
@@ -35,7 +35,7 @@ use Rattle.reader.specs.declared.Verdict.the-variants.{Accepted, Rejected}
 use Rattle.reader.specs.declared.Admission.{Admission}
 use Rattle.reader.specs.declared.Admission.the-variants.{Fit, Unfit}
 use Rattle.reader.specs.declared.Reading.{Reading}
-use Rattle.reader.specs.Read.{Result, asText, admitted, restFrom, restAll, declared, sectionsFrom, sectionsAll, attemptOf, attempted, endedAt, result, finished, finishedRun, readAll}
+use Rattle.reader.specs.Read.{Result, asText, sized, sizedText, admitted, restFrom, restAll, declared, sectionsFrom, sectionsAll, attemptOf, attempted, endedAt, result, finished, finishedRun, indexed, readAll}
 use Rattle.reader.proofs.Sound.{sections-far}
 use Rattle.refusals.specs.Refusal.{Documented, RepeatsListed, FirstRepeat}
 use Rattle.refusals.specs.Steps.{Fatal, Stops, Sited}
@@ -47,15 +47,17 @@ abbrev Admits : List ℕ → Admission → Type 0
 Admits src Fit = length src ≤ 65536
 Admits src (Unfit f) = Fatal src f
 
-admits : (src : List ℕ) (kind : ℕ) → Admits src (admitted src kind)
+admits : (src : List ℕ) (kind : ℕ) (fit : Bool) → Admits src (admitted src kind fit)
 unfolding admitted
-admits src kind =
-    on-test (Admits src) (ltb kind 1 || ltb 3 kind) _ _ (λ e. tt)
-    (λ e. on-test (Admits src) (ltb 65536 (length src)) _ _ (λ h. tt) (λ h. go (checkAt src 0) (ltb-false _ _ h) (check-inside src)))
+admits src kind fit = on-test (Admits src) (ltb kind 1 || ltb 3 kind) _ _ (λ e. tt) (λ e. by fit)
   where
     go : (c : Checked) → length src ≤ 65536 → Below (length src) c → Admits src (asText c)
     go Good h b = h
     go (BadAt i) h b = omega arith
+
+    by : (b : Bool) → Admits src (sizedText b src)
+    by true = on-test (Admits src) (ltb 65536 (length src)) _ _ (λ h. tt) (λ h. go (checkAt src 0) (ltb-false _ _ h) (check-inside src))
+    by false = tt
 
 -- The sections of a source: a refusal is a fatal one of the source.
 sections-stop : (src : List ℕ) (kind : ℕ) (T : Tables) → Stops src (sectionsAll src kind fresh T .answer)
@@ -73,24 +75,24 @@ sections-stop src kind T = let o = declAll src kind fresh (declared T) in go (o 
     go (Refused f) o x = x .stops
 
 -- "10 repeats (number, first place, repeated place)": whole rows of the source, and zeros behind them, after any read, also one that was stopped.
-finished-listed : {src : List ℕ} {done : ℕ} (a : Answer) (s : State) (T : Tables) → Far src done s T → RepeatsListed src (finished a s T)
+finished-listed : {src : List ℕ} {done : ℕ} (X : Indexes) (a : Answer) (s : State) (T : Tables) → Far src done s T → RepeatsListed src (indexed src X (finished a s T))
 unfolding endedAt
-finished-listed {src} a s T f = go a
+finished-listed {src} X a s T f = go a
   where
-    ended : RepeatsListed src (finished Going s T)
-    ended = on-test (λ (r : Reading). RepeatsListed src (result r T)) (eqb (count s repeats) 0) _ _ (λ e. f .tables repeats) (λ e. f .tables repeats)
+    ended : RepeatsListed src (indexed src X (finished Going s T))
+    ended = on-test (λ (r : Reading). RepeatsListed src (indexed src X (result r T))) (eqb (count s repeats) 0) _ _ (λ e. f .tables repeats) (λ e. f .tables repeats)
 
-    go : (a : Answer) → RepeatsListed src (finished a s T)
+    go : (a : Answer) → RepeatsListed src (indexed src X (finished a s T))
     go Going = ended
     go Done = ended
     go (Refused x) = f .tables repeats
 
-pub read-repeats : (src : List ℕ) (kind : ℕ) (T : Tables) → RepeatsListed src (readAll src kind T)
+pub read-repeats : (src : List ℕ) (kind : ℕ) (T : Tables) (X : Indexes) → RepeatsListed src (readAll src kind T X)
 unfolding readAll attempted
-read-repeats src kind T = go (admitted src kind) (admits src kind)
+read-repeats src kind T X = go (admitted src kind (sized T X)) (admits src kind (sized T X))
   where
-    go : (m : Admission) → Admits src m → RepeatsListed src (finishedRun (attemptOf m src kind (zeroAll T)))
-    go Fit h = let r = sectionsAll src kind fresh (zeroAll T) in finished-listed (r .answer) (r .state) (r .tables) (sections-far src kind T h .far)
+    go : (m : Admission) → Admits src m → RepeatsListed src (indexed src X (finishedRun (attemptOf m src kind (zeroAll T))))
+    go Fit h = let r = sectionsAll src kind fresh (zeroAll T) in finished-listed X (r .answer) (r .state) (r .tables) (sections-far src kind T h .far)
     go (Unfit f) h = rows-zeroed _ (T .t10)
 
 -- What a verdict tells: a refusal is a fatal one of the source, or it is the first repeat.
@@ -101,6 +103,7 @@ Verdicts src o (Rejected (Repeated what a b)) = FirstRepeat what a b o
 Verdicts src o (Rejected (NoRoom t a b)) = Fatal src (NoRoom t a b)
 Verdicts src o (Rejected TooLong) = Unit {0}
 Verdicts src o (Rejected BadKind) = Unit {0}
+Verdicts src o (Rejected BadIndex) = Unit {0}
 
 stopped-verdict : (src : List ℕ) (o : Result) (f : Refusal) → Fatal src f → Verdicts src o (Rejected f)
 stopped-verdict src o (Fault c i) x = x
@@ -108,10 +111,11 @@ stopped-verdict src o (Repeated what a b) x = absurd x
 stopped-verdict src o (NoRoom t a b) x = x
 stopped-verdict src o TooLong x = tt
 stopped-verdict src o BadKind x = tt
+stopped-verdict src o BadIndex x = tt
 
-finished-verdict : {src : List ℕ} {done : ℕ} (a : Answer) (s : State) (T : Tables) → Far src done s T → Stops src a → let o = finished a s T in Verdicts src o (o .answer)
+finished-verdict : {src : List ℕ} {done : ℕ} (X : Indexes) (a : Answer) (s : State) (T : Tables) → Far src done s T → Stops src a → let o = indexed src X (finished a s T) in Verdicts src o (o .answer)
 unfolding endedAt
-finished-verdict {src} a s T f = go a
+finished-verdict {src} X a s T f = go a
   where
     listed : 0 < count s repeats → cell (width repeats) (T .t10) 0 0 ≡ numberOfRepeat (repeatOf (cell (width repeats) (T .t10) 0 0))
     listed h =
@@ -121,27 +125,27 @@ finished-verdict {src} a s T f = go a
         let m = x .most in
         sym (number-back (cell (width repeats) (T .t10) 0 0) (omega arith) (omega arith))
 
-    ended : let o = finished Going s T in Verdicts src o (o .answer)
+    ended : let o = indexed src X (finished Going s T) in Verdicts src o (o .answer)
     ended =
-        on-test (λ (r : Reading). Verdicts src (result r T) (r .answer)) (eqb (count s repeats) 0) _ _ (λ e. tt)
+        on-test (λ (r : Reading). Verdicts src (indexed src X (result r T)) (r .answer)) (eqb (count s repeats) 0) _ _ (λ e. tt)
         (λ e. let n = eqb-false (count s repeats) 0 e in let h : 0 < count s repeats = omega arith in record { some = h; number = listed h; from = refl; to = refl })
 
-    go : (a : Answer) → Stops src a → let o = finished a s T in Verdicts src o (o .answer)
+    go : (a : Answer) → Stops src a → let o = indexed src X (finished a s T) in Verdicts src o (o .answer)
     go Going x = ended
     go Done x = ended
     go (Refused g) x = stopped-verdict src _ g x
 
-read-verdict : (src : List ℕ) (kind : ℕ) (T : Tables) → Verdicts src (readAll src kind T) (readAll src kind T .answer)
+read-verdict : (src : List ℕ) (kind : ℕ) (T : Tables) (X : Indexes) → Verdicts src (readAll src kind T X) (readAll src kind T X .answer)
 unfolding readAll attempted
-read-verdict src kind T = go (admitted src kind) (admits src kind)
+read-verdict src kind T X = go (admitted src kind (sized T X)) (admits src kind (sized T X))
   where
-    go : (m : Admission) → Admits src m → let o = finishedRun (attemptOf m src kind (zeroAll T)) in Verdicts src o (o .answer)
-    go Fit h = let r = sectionsAll src kind fresh (zeroAll T) in finished-verdict (r .answer) (r .state) (r .tables) (sections-far src kind T h .far) (sections-stop src kind (zeroAll T))
+    go : (m : Admission) → Admits src m → let o = indexed src X (finishedRun (attemptOf m src kind (zeroAll T))) in Verdicts src o (o .answer)
+    go Fit h = let r = sectionsAll src kind fresh (zeroAll T) in finished-verdict X (r .answer) (r .state) (r .tables) (sections-far src kind T h .far) (sections-stop src kind (zeroAll T))
     go (Unfit f) h = stopped-verdict src _ f h
 
 -- "With repeats only, the number is the first repeat's": number and place of such an answer are those of the first row of table 10.
-pub repeated-first : (src : List ℕ) (kind : ℕ) (T : Tables) (what : Repeat) (a b : ℕ) → readAll src kind T .answer ≡ Rejected (Repeated what a b) → FirstRepeat what a b (readAll src kind T)
-repeated-first src kind T what a b e = told (Verdicts src (readAll src kind T)) e (read-verdict src kind T)
+pub repeated-first : (src : List ℕ) (kind : ℕ) (T : Tables) (X : Indexes) (what : Repeat) (a b : ℕ) → readAll src kind T X .answer ≡ Rejected (Repeated what a b) → FirstRepeat what a b (readAll src kind T X)
+repeated-first src kind T X what a b e = told (Verdicts src (readAll src kind T X)) e (read-verdict src kind T X)
 
 -- the first repeat's place lies in the source
 first-place : {src : List ℕ} {what : Repeat} {a b : ℕ} (o : Result) → RepeatsListed src o → FirstRepeat what a b o → Passed src a b
@@ -174,19 +178,20 @@ cause-number UnknownSymbol = inl (omega arith, omega arith)
 cause-number NotUtf8 = inr refl
 
 -- What each refusal of a read tells: one of read's numbers, a place in the source, and 42's table.
-pub refusal-documented : (src : List ℕ) (kind : ℕ) (T : Tables) (f : Refusal) → readAll src kind T .answer ≡ Rejected f → Documented src f
-refusal-documented src kind T f e = go f (told (Verdicts src (readAll src kind T)) e (read-verdict src kind T))
+pub refusal-documented : (src : List ℕ) (kind : ℕ) (T : Tables) (X : Indexes) (f : Refusal) → readAll src kind T X .answer ≡ Rejected f → Documented src f
+refusal-documented src kind T X f e = go f (told (Verdicts src (readAll src kind T X)) e (read-verdict src kind T X))
   where
-    go : (f : Refusal) → Verdicts src (readAll src kind T) (Rejected f) → Documented src f
+    go : (f : Refusal) → Verdicts src (readAll src kind T X) (Rejected f) → Documented src f
     go (Fault c i) x = fault (cause-number c)
       where
         fault : ((1 ≤ numberOfCause c) × (numberOfCause c ≤ 19)) ⊎ (numberOfCause c ≡ 40) → Documented src (Fault c i)
         fault (inl y) = let l = y .1 in record { number = inl y; place = record { onward = omega arith; inside = omega arith }; other = λ d. refl; full = λ n. absurd (omega arith) }
-        fault (inr y) = record { number = inr (inr (omega arith, omega arith)); place = record { onward = omega arith; inside = omega arith }; other = λ d. refl; full = λ n. absurd (omega arith) }
+        fault (inr y) = record { number = inr (inr (inl (omega arith, omega arith))); place = record { onward = omega arith; inside = omega arith }; other = λ d. refl; full = λ n. absurd (omega arith) }
     go (Repeated what a b) x =
         let l = repeat-least what in
         let m = repeat-most what in
-        record { number = inr (inl (l, m)); place = first-place (readAll src kind T) (read-repeats src kind T) x; other = λ d. refl; full = λ n. absurd (omega arith) }
-    go (NoRoom t a b) x = let l = x .0 in let m = x .1 in record { number = inr (inr (omega arith, omega arith)); place = x .2; other = λ d. absurd (d refl); full = λ n. (omega arith, omega arith) }
-    go TooLong x = record { number = inr (inr (omega arith, omega arith)); place = record { onward = omega arith; inside = omega arith }; other = λ d. refl; full = λ n. absurd (omega arith) }
-    go BadKind x = record { number = inr (inr (omega arith, omega arith)); place = record { onward = omega arith; inside = omega arith }; other = λ d. refl; full = λ n. absurd (omega arith) }
+        record { number = inr (inl (l, m)); place = first-place (readAll src kind T X) (read-repeats src kind T X) x; other = λ d. refl; full = λ n. absurd (omega arith) }
+    go (NoRoom t a b) x = let l = x .0 in let m = x .1 in record { number = inr (inr (inl (omega arith, omega arith))); place = x .2; other = λ d. absurd (d refl); full = λ n. (omega arith, omega arith) }
+    go TooLong x = record { number = inr (inr (inl (omega arith, omega arith))); place = record { onward = omega arith; inside = omega arith }; other = λ d. refl; full = λ n. absurd (omega arith) }
+    go BadKind x = record { number = inr (inr (inl (omega arith, omega arith))); place = record { onward = omega arith; inside = omega arith }; other = λ d. refl; full = λ n. absurd (omega arith) }
+    go BadIndex x = record { number = inr (inr (inr refl)); place = record { onward = omega arith; inside = omega arith }; other = λ d. refl; full = λ n. absurd (omega arith) }

@@ -14,9 +14,9 @@ use Rattle.grammar.specs.State.{Passed}
 use Rattle.grammar.specs.Sound.{RepeatRow}
 use Rattle.reader.specs.Read.{Result}
 
--- read's own: "1 IllegalInteger" to "15 UnknownSymbol", 16 to 19 by document 02, request Four, "20 Precedence" to "27 EPP repeated", "40 not UTF-8" to "43 bad kind"
+-- read's own: "1 IllegalInteger" to "15 UnknownSymbol", 16 to 19 by document 02, request Four, "20 Precedence" to "27 EPP repeated", "40 not UTF-8" to "43 bad kind", and document 02's 45
 abbrev pub ReadNumber : ℕ → Type 0
-ReadNumber n = ((1 ≤ n) × (n ≤ 19)) ⊎ (((20 ≤ n) × (n ≤ 27)) ⊎ ((40 ≤ n) × (n ≤ 43)))
+ReadNumber n = ((1 ≤ n) × (n ≤ 19)) ⊎ (((20 ≤ n) × (n ≤ 27)) ⊎ (((40 ≤ n) × (n ≤ 43)) ⊎ (n ≡ 45)))
 
 -- "number, place, table number (0 unless 42)": a place in the source, and 42's table is one of the ten
 pub record Documented (src : List ℕ) (f : Refusal) : Type 0 where

@@ -4,7 +4,7 @@ use mathlib.Core.List.{List}
 use lib.ListN.{length}
 use Rattle.grammar.specs.declared.State.{State}
 use Rattle.grammar.specs.declared.Refusal.{Refusal}
-use Rattle.grammar.specs.declared.Refusal.the-variants.{Fault, Repeated, NoRoom, TooLong, BadKind}
+use Rattle.grammar.specs.declared.Refusal.the-variants.{Fault, Repeated, NoRoom, TooLong, BadKind, BadIndex}
 use Rattle.grammar.specs.declared.Answer.{Answer}
 use Rattle.grammar.specs.declared.Answer.the-variants.{Going, Done, Refused}
 use Rattle.grammar.specs.declared.Gap.{Gap}
@@ -22,6 +22,7 @@ Fatal src (Repeated what a b) = ⊥
 Fatal src (NoRoom t a b) = (1 ≤ t) × (t ≤ 10) × Passed src a b
 Fatal src TooLong = Unit {0}
 Fatal src BadKind = Unit {0}
+Fatal src BadIndex = Unit {0}
 
 abbrev pub Stops : List ℕ → Answer → Type 0
 Stops src Going = Unit {0}

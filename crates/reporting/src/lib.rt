@@ -67,6 +67,8 @@ fn print_report(
     t8: &[u32],
     t9: &[u32],
     t10: &[u32],
+    i1: &[u32],
+    i7: &[u32],
     work: &mut [u32],
     out: &mut [u32],
 ) {
@@ -84,6 +86,8 @@ fn print_report(
         t8,
         t9,
         t10,
+        i1,
+        i7,
         work,
         out,
     );
@@ -115,6 +119,8 @@ fn print_reading(
     t8: &[u32],
     t9: &[u32],
     t10: &[u32],
+    i1: &[u32],
+    i7: &[u32],
     work: &mut [u32],
     out: &mut [u32],
 ) {
@@ -135,6 +141,8 @@ fn print_reading(
                 t8,
                 t9,
                 t10,
+                i1,
+                i7,
                 work,
                 out,
             );
@@ -155,10 +163,12 @@ fn run(
     t8: &mut [u32],
     t9: &mut [u32],
     t10: &mut [u32],
+    i1: &mut [u32],
+    i7: &mut [u32],
     work: &mut [u32],
     out: &mut [u32],
 ) {
-    let r = quiltrudder::read(src, 1, t1, t2, t3, t4, t5, t6, t7, t8, t9, t10);
+    let r = quiltrudder::read(src, 1, t1, t2, t3, t4, t5, t6, t7, t8, t9, t10, i1, i7);
     let v = r.answer;
     let c = r.counts;
     let g = r.singles;
@@ -177,12 +187,14 @@ fn run(
         t8,
         t9,
         t10,
+        i1,
+        i7,
         work,
         out,
     );
 }
 
-// 1,024 rows a table, 2,048 for the report, and a byte more than a source may have.
+// 1,024 rows a table, 2,048 slots an index, 2,048 rows for the report, and a byte more than a source may have.
 pub fn report_input() {
     let mut text = [0u8; 65537];
     let n = io::read_full(0, &mut text);
@@ -196,6 +208,8 @@ pub fn report_input() {
     let mut t8 = [0u32; 13312];
     let mut t9 = [0u32; 3072];
     let mut t10 = [0u32; 5120];
+    let mut i1 = [0u32; 2048];
+    let mut i7 = [0u32; 2048];
     let mut work = [0u32; 64];
     let mut out = [0u32; 4096];
     run(
@@ -210,6 +224,8 @@ pub fn report_input() {
         &mut t8,
         &mut t9,
         &mut t10,
+        &mut i1,
+        &mut i7,
         &mut work,
         &mut out,
     );

@@ -11,7 +11,7 @@ use tables::Found;
 use texts::ColonText;
 use words::Name;
 ghost use mathlib.Core.Path.{_≡_};
-ghost use Rattle.grammar.specs.State.{Out0, Here, Passed, Moves, Onward};
+ghost use Rattle.grammar.specs.State.{Out0, Here, Passed, Moves, Onward, Tokens, Rules};
 ghost use Rattle.items.specs.Items.{Itemed};
 ghost use Rattle.rules.specs.Rules.{passMark, firstStart, Typing, colonType, arrowType, ruleType, Heading, enterRule, namedHead, ruleHead, ruleBody, Ruled, ruleStep, nextRule, rulesRun, rulesAll, withPrograms, programsFrom};
 
@@ -136,12 +136,22 @@ pub fn rule_type(src: &[u8], kind: u32, s: State) -> Typed
 }
 
 // A rule seen again keeps its row; a new one joins table 7.
-pub fn enter_rule(src: &[u8], s: State, from: u32, to: u32, given: Part, t7: &mut [u32]) -> Headed
+pub fn enter_rule(
+    src: &[u8],
+    s: State,
+    from: u32,
+    to: u32,
+    given: Part,
+    t7: &mut [u32],
+    i7: &mut [u32],
+) -> Headed
+    requires { ⌜ Rules (now src) (s .counts) (now t7) (now i7) ⌝ }
     ensures is { λ r. ⌜ _≡_ {A = Heading} (record { answer = r .answer; state = r .state; row = r .row; t7 = now (t7 .exit) }) (enterRule (now (src .entry)) s from to given (now (t7 .entry))) ⌝ }
     ensures kept { λ r. ⌜ r .state .at ≡ s .at ⌝ }
+    ensures indexed { λ r. ⌜ Rules (now (src .entry)) (r .state .counts) (now (t7 .exit)) (now (i7 .exit)) ⌝ }
 {
     let n = grammar::count_of(s, tables::RULES);
-    match tables::find(src, t7, tables::RULE_WIDTH, tables::NAME, n, from, to) {
+    match index::find(src, t7, tables::RULE_WIDTH, tables::NAME, n, i7, from, to) {
         Found::RowAt(r) => Headed {
             answer: Answer::Going,
             state: s,
@@ -150,7 +160,16 @@ pub fn enter_rule(src: &[u8], s: State, from: u32, to: u32, given: Part, t7: &mu
         Found::NoRow => {
             let x = grammar::part_cells(given);
             let row = [from, to, x[0], x[1], x[2]];
-            let r = grammar::push(s, tables::RULES, &row, t7);
+            let r = grammar::push_entered(
+                src,
+                s,
+                tables::RULES,
+                tables::RULE_WIDTH,
+                tables::NAME,
+                &row,
+                t7,
+                i7,
+            );
             let answer = r.answer;
             let state = r.state;
             Headed {
@@ -163,11 +182,20 @@ pub fn enter_rule(src: &[u8], s: State, from: u32, to: u32, given: Part, t7: &mu
 }
 
 // A rule's head behind its name, which begins where the state stands and ends at `j`: the start, the type, then the rule's row.
-pub fn named_head(src: &[u8], kind: u32, s: State, j: usize, t7: &mut [u32]) -> Headed
+pub fn named_head(
+    src: &[u8],
+    kind: u32,
+    s: State,
+    j: usize,
+    t7: &mut [u32],
+    i7: &mut [u32],
+) -> Headed
     requires { ⌜ Here (now src) j ⌝ }
     requires { ⌜ Passed (now src) (s .at) j ⌝ }
+    requires { ⌜ Rules (now src) (s .counts) (now t7) (now i7) ⌝ }
     ensures is { λ r. ⌜ _≡_ {A = Heading} (record { answer = r .answer; state = r .state; row = r .row; t7 = now (t7 .exit) }) (namedHead (now (src .entry)) kind s j (now (t7 .entry))) ⌝ }
     ensures moved { λ r. ⌜ Passed (now (src .entry)) j (r .state .at) ⌝ }
+    ensures indexed { λ r. ⌜ Rules (now (src .entry)) (r .state .counts) (now (t7 .exit)) (now (i7 .exit)) ⌝ }
 {
     let from = s.at as u32;
     let to = j as u32;
@@ -178,7 +206,7 @@ pub fn named_head(src: &[u8], kind: u32, s: State, j: usize, t7: &mut [u32]) -> 
     let m = ty.state;
     let given = ty.given;
     match a {
-        Answer::Going => enter_rule(src, m, from, to, given, t7),
+        Answer::Going => enter_rule(src, m, from, to, given, t7, i7),
         Answer::Done => Headed {
             answer: Answer::Done,
             state: m,
@@ -192,14 +220,15 @@ pub fn named_head(src: &[u8], kind: u32, s: State, j: usize, t7: &mut [u32]) -> 
     }
 }
 
-pub fn rule_head(src: &[u8], kind: u32, s: State, t7: &mut [u32]) -> Headed
-    requires { ⌜ Here (now src) (s .at) ⌝ }
+pub fn rule_head(src: &[u8], kind: u32, s: State, t7: &mut [u32], i7: &mut [u32]) -> Headed
+    requires { ⌜ Here (now src) (s .at) × Rules (now src) (s .counts) (now t7) (now i7) ⌝ }
     ensures is { λ r. ⌜ _≡_ {A = Heading} (record { answer = r .answer; state = r .state; row = r .row; t7 = now (t7 .exit) }) (ruleHead (now (src .entry)) kind s (now (t7 .entry))) ⌝ }
     ensures moved { λ r. ⌜ Moves (now (src .entry)) (s .at) (r .answer) (r .state .at) ⌝ }
+    ensures indexed { λ r. ⌜ Rules (now (src .entry)) (r .state .counts) (now (t7 .exit)) (now (i7 .exit)) ⌝ }
 {
     let at = s.at;
     match words::parse_name(src, at) {
-        Name::NameTo(j) => named_head(src, kind, s, j, t7),
+        Name::NameTo(j) => named_head(src, kind, s, j, t7, i7),
         Name::NoName(k) => Headed {
             answer: Answer::Refused(Refusal::Fault(Cause::IllegalName, k as u32)),
             state: s,
@@ -216,10 +245,12 @@ pub fn rule_body(
     t1: &mut [u32],
     t8: &mut [u32],
     t9: &mut [u32],
+    i1: &mut [u32],
 ) -> Step
-    requires { ⌜ Here (now src) (s .at) ⌝ }
+    requires { ⌜ Here (now src) (s .at) × Tokens (now src) (s .counts) (now t1) (now i1) ⌝ }
     ensures is { λ r. ⌜ _≡_ {A = Itemed} (record { answer = r .answer; state = r .state; t1 = now (t1 .exit); t8 = now (t8 .exit); t9 = now (t9 .exit) }) (ruleBody (now (src .entry)) s row (now (t1 .entry)) (now (t8 .entry)) (now (t9 .entry))) ⌝ }
     ensures moved { λ r. ⌜ Passed (now (src .entry)) (s .at) (r .state .at) ⌝ }
+    ensures indexed { λ r. ⌜ Tokens (now (src .entry)) (r .state .counts) (now (t1 .exit)) (now (i1 .exit)) ⌝ }
 {
     let c = pass_mark(src, s, b":", Cause::MissingColon);
     let a = c.answer;
@@ -227,7 +258,7 @@ pub fn rule_body(
     match a {
         Answer::Going => {
             let d = items::begin(row, n.at as u32, grammar::count_of(n, tables::SYMBOLS));
-            items::items(src, n, d, t1, t8, t9)
+            items::items(src, n, d, t1, t8, t9, i1)
         }
         Answer::Done => Step {
             answer: Answer::Done,
@@ -248,16 +279,19 @@ pub fn rule(
     t7: &mut [u32],
     t8: &mut [u32],
     t9: &mut [u32],
+    i1: &mut [u32],
+    i7: &mut [u32],
 ) -> Step
-    requires { ⌜ Here (now src) (s .at) ⌝ }
+    requires { ⌜ Here (now src) (s .at) × Tokens (now src) (s .counts) (now t1) (now i1) × Rules (now src) (s .counts) (now t7) (now i7) ⌝ }
     ensures is { λ r. ⌜ _≡_ {A = Ruled} (record { answer = r .answer; state = r .state; t1 = now (t1 .exit); t7 = now (t7 .exit); t8 = now (t8 .exit); t9 = now (t9 .exit) }) (ruleStep (now (src .entry)) kind s (now (t1 .entry)) (now (t7 .entry)) (now (t8 .entry)) (now (t9 .entry))) ⌝ }
     ensures moved { λ r. ⌜ Moves (now (src .entry)) (s .at) (r .answer) (r .state .at) ⌝ }
+    ensures indexed { λ r. ⌜ Tokens (now (src .entry)) (r .state .counts) (now (t1 .exit)) (now (i1 .exit)) × Rules (now (src .entry)) (r .state .counts) (now (t7 .exit)) (now (i7 .exit)) ⌝ }
 {
-    let h = rule_head(src, kind, s, t7);
+    let h = rule_head(src, kind, s, t7, i7);
     let a = h.answer;
     let n = h.state;
     match a {
-        Answer::Going => rule_body(src, n, h.row, t1, t8, t9),
+        Answer::Going => rule_body(src, n, h.row, t1, t8, t9, i1),
         Answer::Done => Step {
             answer: Answer::Done,
             state: n,
@@ -278,12 +312,15 @@ pub fn next_rule(
     t7: &mut [u32],
     t8: &mut [u32],
     t9: &mut [u32],
+    i1: &mut [u32],
+    i7: &mut [u32],
 ) -> Step
-    requires { ⌜ Here (now src) (s .at) ⌝ }
+    requires { ⌜ Here (now src) (s .at) × Tokens (now src) (s .counts) (now t1) (now i1) × Rules (now src) (s .counts) (now t7) (now i7) ⌝ }
     ensures is { λ r. ⌜ _≡_ {A = Ruled} (record { answer = r .answer; state = r .state; t1 = now (t1 .exit); t7 = now (t7 .exit); t8 = now (t8 .exit); t9 = now (t9 .exit) }) (nextRule (now (src .entry)) kind s (now (t1 .entry)) (now (t7 .entry)) (now (t8 .entry)) (now (t9 .entry))) ⌝ }
     ensures moved { λ r. ⌜ Moves (now (src .entry)) (s .at) (r .answer) (r .state .at) ⌝ }
+    ensures indexed { λ r. ⌜ Tokens (now (src .entry)) (r .state .counts) (now (t1 .exit)) (now (i1 .exit)) × Rules (now (src .entry)) (r .state .counts) (now (t7 .exit)) (now (i7 .exit)) ⌝ }
 {
-    let r = rule(src, kind, s, t1, t7, t8, t9);
+    let r = rule(src, kind, s, t1, t7, t8, t9, i1, i7);
     let n = r.state;
     let at = n.at;
     grammar::pass_on(src, r, at, false)
@@ -298,10 +335,13 @@ pub fn rules_run(
     t7: &mut [u32],
     t8: &mut [u32],
     t9: &mut [u32],
+    i1: &mut [u32],
+    i7: &mut [u32],
 ) -> Step
-    requires { ⌜ Here (now src) (s .at) ⌝ }
+    requires { ⌜ Here (now src) (s .at) × Tokens (now src) (s .counts) (now t1) (now i1) × Rules (now src) (s .counts) (now t7) (now i7) ⌝ }
     ensures is { λ r. ⌜ _≡_ {A = Ruled} (record { answer = r .answer; state = r .state; t1 = now (t1 .exit); t7 = now (t7 .exit); t8 = now (t8 .exit); t9 = now (t9 .exit) }) (rulesRun (now (src .entry)) kind s (now (t1 .entry)) (now (t7 .entry)) (now (t8 .entry)) (now (t9 .entry))) ⌝ }
     ensures moved { λ r. ⌜ Passed (now (src .entry)) (s .at) (r .state .at) ⌝ }
+    ensures indexed { λ r. ⌜ Tokens (now (src .entry)) (r .state .counts) (now (t1 .exit)) (now (i1 .exit)) × Rules (now (src .entry)) (r .state .counts) (now (t7 .exit)) (now (i7 .exit)) ⌝ }
 {
     let mut st = s;
     loop {
@@ -318,7 +358,7 @@ pub fn rules_run(
                 state: st,
             };
         }
-        let r = next_rule(src, kind, st, t1, t7, t8, t9);
+        let r = next_rule(src, kind, st, t1, t7, t8, t9, i1, i7);
         let a = r.answer;
         match a {
             Answer::Going => {
@@ -344,16 +384,19 @@ pub fn rules(
     t7: &mut [u32],
     t8: &mut [u32],
     t9: &mut [u32],
+    i1: &mut [u32],
+    i7: &mut [u32],
 ) -> Step
-    requires { ⌜ Here (now src) (s .at) ⌝ }
+    requires { ⌜ Here (now src) (s .at) × Tokens (now src) (s .counts) (now t1) (now i1) × Rules (now src) (s .counts) (now t7) (now i7) ⌝ }
     ensures is { λ r. ⌜ _≡_ {A = Ruled} (record { answer = r .answer; state = r .state; t1 = now (t1 .exit); t7 = now (t7 .exit); t8 = now (t8 .exit); t9 = now (t9 .exit) }) (rulesAll (now (src .entry)) kind s (now (t1 .entry)) (now (t7 .entry)) (now (t8 .entry)) (now (t9 .entry))) ⌝ }
     ensures moved { λ r. ⌜ Passed (now (src .entry)) (s .at) (r .state .at) ⌝ }
+    ensures indexed { λ r. ⌜ Tokens (now (src .entry)) (r .state .counts) (now (t1 .exit)) (now (i1 .exit)) × Rules (now (src .entry)) (r .state .counts) (now (t7 .exit)) (now (i7 .exit)) ⌝ }
 {
     let r = pass_mark(src, s, b"%%", Cause::UnknownDeclaration);
     let a = r.answer;
     let n = r.state;
     match a {
-        Answer::Going => rules_run(src, kind, n, t1, t7, t8, t9),
+        Answer::Going => rules_run(src, kind, n, t1, t7, t8, t9, i1, i7),
         Answer::Done => Step {
             answer: Answer::Done,
             state: n,

@@ -2,7 +2,7 @@
 use Prim.Native.Nat.{ℕ, zero, suc, _*_, _≤_, _<_}
 use mathlib.Core.Path.{_≡_, refl, sym, ap, _∙_}
 use mathlib.Core.List.{List}
-use mathlib.Core.Bool.{true, false, _||_, false≢true}
+use mathlib.Core.Bool.{Bool, true, false, _||_, _&&_, false≢true}
 use mathlib.Core.Logic.{_↔_, Iff·trans}
 use native.Mathlib.Omega.{arith}
 use lib.Dec.{eqb}
@@ -22,10 +22,15 @@ use Rattle.grammar.specs.declared.Expect.the-variants.{NotExpected, Expected}
 use Rattle.grammar.specs.declared.Param.{Param}
 use Rattle.grammar.specs.declared.Param.the-variants.{NoParam, ParamAt}
 use Rattle.grammar.specs.declared.Singles.{Singles}
-use Rattle.grammar.specs.Sound.{Tables, tab, Differ, each, pairs, Table, Lies, LiesExpected, LiesParam, Lie, soundView, Sound}
-use Rattle.sound.specs.Test.{below, rowTest, unfound, freshTest, namesTest, tableTest, before, rangeTest, rangesTest, partTest, expectTest, paramTest, singlesTest, countAt, tablesTest, soundTest}
-use Rattle.sound.proofs.Tells.{both-iff, le-iff, eq-iff, below-iff, chain-iff, clean-iff, lies-iff}
+use Rattle.grammar.specs.Sound.{Tables, Indexes, tab, Differ, each, pairs, Table, Lies, LiesExpected, LiesParam, Lie, soundView, Sound}
+use Rattle.sound.specs.Test.{rowTest, namesTest, tableTest, before, rangeTest, rangesTest, partTest, expectTest, paramTest, singlesTest, countAt, tablesTest, soundTest}
+use Rattle.tables.specs.Below.{below}
+use Rattle.tables.proofs.Below.{below-iff}
+use Rattle.index.specs.Index.{unfound, freshName}
+use Rattle.tables.proofs.Tells.{both-iff, le-iff, eq-iff}
+use Rattle.sound.proofs.Tells.{chain-iff, clean-iff, lies-iff}
 use Rattle.sound.proofs.RowTests.{each-iff}
+use Rattle.sound.proofs.Indexes.{indexes-iff}
 
 -- "names in 1 and in 7 are pairwise different"
 unfound-iff : (f : Found) → (unfound f ≡ true) ↔ (f ≡ NoRow)
@@ -41,15 +46,15 @@ module _ (src : List ℕ) (w : ℕ) (t : List ℕ) where
           ≡ samePart src (cell w t q 0) (cell w t q 1) (cell w t r 0) (cell w t r 1)
       same = rw (row-cell w t q 0 (omega arith), row-cell w t q 1 h, row-cell w t r 0 (omega arith), row-cell w t r 1 h)
 
-  fresh-iff : 1 < w → (r : ℕ) → (freshTest src w t r ≡ true) ↔ ((q : ℕ) → q < r → Differ src (rowAt w t q) (rowAt w t r))
-  unfolding freshTest
+  fresh-iff : 1 < w → (r : ℕ) → (freshName src w 0 t r ≡ true) ↔ ((q : ℕ) → q < r → Differ src (rowAt w t q) (rowAt w t r))
+  unfolding freshName
   fresh-iff h r =
       Iff·trans (Iff·trans (unfound-iff (findName src w 0 r t (cell w t r 0) (cell w t r 1))) (none-iff src w 0 r t (cell w t r 0) (cell w t r 1)))
       (λ f q l. differ-iff h q r .0 (f q l), λ f q l. differ-iff h q r .1 (f q l))
 
-  apart-iff : 1 < w → (n : ℕ) → (below n (freshTest src w t) ≡ true) ↔ ((q r : ℕ) → q < r → r < n → Differ src (rowAt w t q) (rowAt w t r))
+  apart-iff : 1 < w → (n : ℕ) → (below n (freshName src w 0 t) ≡ true) ↔ ((q r : ℕ) → q < r → r < n → Differ src (rowAt w t q) (rowAt w t r))
   apart-iff h n =
-      Iff·trans (below-iff (freshTest src w t) (λ (r : ℕ). (q : ℕ) → q < r → Differ src (rowAt w t q) (rowAt w t r)) (fresh-iff h) n)
+      Iff·trans (below-iff (freshName src w 0 t) (λ (r : ℕ). (q : ℕ) → q < r → Differ src (rowAt w t q) (rowAt w t r)) (fresh-iff h) n)
       (λ f q r k l. f r l q k, λ f r l q k. f q r k l)
 
 -- in other tables they are free
@@ -75,10 +80,10 @@ pub table-iff : (src : List ℕ) (c : Counts) (k n : ℕ) (t : List ℕ) → k <
 unfolding tableTest
 table-iff src c k n t h =
     Iff·trans
-    (both-iff (le-iff (n * width k) (length t)) (both-iff (clean-iff (width k) n t)
+    (both-iff (le-iff n 4294967295) (both-iff (le-iff (n * width k) (length t)) (both-iff (clean-iff (width k) n t)
     (both-iff (below-iff (rowTest src (countAt c rules) k t) (λ (r : ℕ). each src (soundView c) k (rowAt (width k) t r)) (λ r. each-iff src t r (soundView c) (λ m. tt) (λ _ a b. tt) k) n)
-    (names-iff src k n t h))))
-    (λ x. record { fits = x .0; clean = x .1 .0; each = x .1 .1 .0; pairs = x .1 .1 .1 }, λ R. (R .fits, (R .clean, (R .each, R .pairs))))
+    (names-iff src k n t h)))))
+    (λ x. record { fits = x .1 .0; low = x .0; clean = x .1 .1 .0; each = x .1 .1 .1 .0; pairs = x .1 .1 .1 .1 }, λ R. (R .low, (R .fits, (R .clean, (R .each, R .pairs)))))
 
 -- all ten
 tables-iff : (src : List ℕ) (c : Counts) (T : Tables) → (tablesTest src c T ≡ true) ↔ ((k : ℕ) → k < 10 → Table src (soundView c) k (countAt c k) (tab T k))
@@ -132,12 +137,19 @@ module _ (src : List ℕ) where
         λ l. (((((l .start, l .expect), l .expect-rr), l .param), l .generics), l .programs),
       )
 
+-- a test that counts where an earlier one says yes
+both-when : (a b : Bool) {P Q : Type 0} → (a ≡ true) ↔ P → (P → (b ≡ true) ↔ Q) → ((a && b) ≡ true) ↔ (P × Q)
+both-when true b f g = (λ h. let p = f .0 refl in (p, g p .0 h), λ x. g (x .0) .1 (x .1))
+both-when false b f g = (λ h. absurd (false≢true h), λ x. absurd (false≢true (f .1 (x .0))))
+
 -- "Tables are sound when"
-pub sound-iff : (src : List ℕ) (c : Counts) (g : Singles) (T : Tables) → (soundTest src c g T ≡ true → Sound src c g T) × (Sound src c g T → soundTest src c g T ≡ true)
+pub sound-iff : (src : List ℕ) (c : Counts) (g : Singles) (T : Tables) (X : Indexes) → (soundTest src c g T X ≡ true → Sound src c g T X) × (Sound src c g T X → soundTest src c g T X ≡ true)
 unfolding soundTest
-sound-iff src c g T =
+sound-iff src c g T X =
     Iff·trans
-    (both-iff (le-iff (length src) 65536) (both-iff (tables-iff src c T) (both-iff (ranges-iff (T .t8) (countAt c productions) (countAt c symbols)) (singles-iff src g)))) (
-      λ x. record { short = x .0; fits = λ k h. x .1 .0 k h .fits; clean = λ k h. x .1 .0 k h .clean; rows = λ k r h. x .1 .0 k h .each r; singles = x .1 .1 .1; ranges = x .1 .1 .0; names = λ k q r h. x .1 .0 k h .pairs q r },
-      λ s. (s .short, (λ k h. record { fits = s .fits k h; clean = s .clean k h; each = λ r. s .rows k r h; pairs = λ q r. s .names k q r h }, (s .ranges, s .singles))),
+    (both-iff (le-iff (length src) 65536)
+    (both-when (tablesTest src c T) _ (tables-iff src c T)
+    (λ R. both-iff (indexes-iff src c T X (R tokens (omega arith) .fits) (R rules (omega arith) .fits) (R tokens (omega arith) .low) (R rules (omega arith) .low)) (both-iff (ranges-iff (T .t8) (countAt c productions) (countAt c symbols)) (singles-iff src g))))) (
+      λ x. record { short = x .0; fits = λ k h. x .1 .0 k h .fits; low = λ k h. x .1 .0 k h .low; clean = λ k h. x .1 .0 k h .clean; rows = λ k r h. x .1 .0 k h .each r; singles = x .1 .1 .1 .1; ranges = x .1 .1 .1 .0; names = λ k q r h. x .1 .0 k h .pairs q r; indexes = x .1 .1 .0 },
+      λ s. (s .short, (λ k h. record { fits = s .fits k h; low = s .low k h; clean = s .clean k h; each = λ r. s .rows k r h; pairs = λ q r. s .names k q r h }, (s .indexes, (s .ranges, s .singles)))),
     )

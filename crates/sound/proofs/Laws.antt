@@ -12,12 +12,12 @@ use lib.Dec.{eqb, leb}
 use lib.ListN.{length, getD, drop-of-length-le}
 use Rattle.scan.proofs.Bytes.{drop-at, drop-key}
 use Rattle.tables.specs.Layout.{tokens, rules, productions, symbols, symbolsFrom, symbolsTo, width}
-use Rattle.tables.specs.Table.{cell, findName}
-use Rattle.tables.specs.declared.Found.{Found}
-use Rattle.grammar.specs.Sound.{Tables, tab}
+use Rattle.tables.specs.Below.{below}
+use Rattle.tables.specs.Table.{cell}
+use Rattle.grammar.specs.Sound.{Tables, Indexes, tab}
 use Rattle.grammar.specs.declared.Counts.{Counts}
 use Rattle.grammar.specs.declared.Singles.{Singles}
-use Rattle.sound.specs.Test.{zeros, zerosFrom, below, rowTest, unfound, freshTest, before, rangeTest, rangesTest, namesTest, tableTest, countAt, tablesTest, singlesTest, soundTest}
+use Rattle.sound.specs.Test.{indexesTest, zeros, zerosFrom, rowTest, before, rangeTest, rangesTest, namesTest, tableTest, countAt, tablesTest, singlesTest, soundTest}
 
 -- a table number past the tenth
 past-five : (k n : ℕ) → n ≤ k → (k ≡ n → ⊥) → (k ≡ n + 1 → ⊥) → (k ≡ n + 2 → ⊥) → (k ≡ n + 3 → ⊥) → (k ≡ n + 4 → ⊥) → n + 5 ≤ k
@@ -50,39 +50,6 @@ module _ (t : List ℕ) (i : ℕ) (r : Bool) (inv : zerosFrom t i ≡ r) where
   pub zeros-end : length t ≤ i → true ≡ r
   unfolding zerosFrom zeros
   zeros-end h = rw (drop-of-length-le t h) at inv
-
--- a test of every number below n, number by number
-pub below-none : (p : ℕ → Bool) → below 0 p ≡ true
-unfolding below
-below-none p = refl
-
-module _ (p : ℕ → Bool) (i : ℕ) where
-  pub below-on : (q : Bool) → below i p ≡ true → q ≡ p i → not q ≡ false → below (i + 1) p ≡ true
-  unfolding below
-  below-on q h e k = rw (add-one i, below, h) (sym e ∙ not-false q k)
-
-  pub below-not : (n : ℕ) (q : Bool) → i < n → q ≡ p i → not q ≡ true → false ≡ below n p
-  unfolding below
-  below-not n q h e k = sym (go n h)
-    where
-      go : (n : ℕ) → i < n → below n p ≡ false
-      go zero h = absurd (omega arith)
-      go (suc n) h =
-          elim (ℕ-discrete i n) [
-            | yes f ↦ ap (λ (b : Bool). below n p && b) (ap p (sym f) ∙ sym e ∙ not-true q k) ∙ and-false (below n p)
-            | no f ↦ ap (λ (b : Bool). b && p n) (go n (omega arith))
-          ]
-
-  pub below-all : (n : ℕ) → below i p ≡ true → i ≤ n → n ≤ i → true ≡ below n p
-  below-all n h k l =
-      let e : i ≡ n = omega arith in
-      rw (← e) (sym h)
-
--- a name, sought in the rows before
-module _ (src t : List ℕ) (w r a b : ℕ) (f : Found) (x : a ≡ cell w t r 0) (y : b ≡ cell w t r 1) (q : f ≡ findName src w 0 r t a b) where
-  pub fresh-is : (g : Found) → f ≡ g → unfound g ≡ freshTest src w t r
-  unfolding freshTest
-  fresh-is g e = rw (← x, ← y, ← q, e)
 
 -- the range before a row
 module _ (t : List ℕ) (r b : ℕ) where
@@ -117,24 +84,24 @@ module _ (t : List ℕ) (n m : ℕ) where
       rw (e, h, ← k)
 
 -- a table: whether its rows fit, whether the cells past them are zero, its rows, its names
-module _ (src t : List ℕ) (m k n w : ℕ) (e : w ≡ width k) where
+module _ (src t : List ℕ) (m k n w : ℕ) (e : w ≡ width k) (small : n ≤ 4294967295) where
   pub table-short : length t < n * w → false ≡ tableTest src m k n t
   unfolding tableTest
-  table-short h = rw (← e, lt-leb _ _ h)
+  table-short h = rw (le-leb _ _ small, ← e, lt-leb _ _ h)
 
   module _ (l : n * w ≤ length t) (z : Bool) (f : z ≡ zerosFrom t (n * w)) where
     pub table-dirty : not z ≡ true → false ≡ tableTest src m k n t
     unfolding tableTest
-    table-dirty h = rw (← e, le-leb _ _ l, ← f, not-true z h)
+    table-dirty h = rw (le-leb _ _ small, ← e, le-leb _ _ l, ← f, not-true z h)
 
     module _ (g : not z ≡ false) (q : Bool) (o : q ≡ below n (rowTest src m k t)) where
       pub table-row : not q ≡ true → false ≡ tableTest src m k n t
       unfolding tableTest
-      table-row h = rw (← e, le-leb _ _ l, ← f, not-false z g, ← o, not-true q h)
+      table-row h = rw (le-leb _ _ small, ← e, le-leb _ _ l, ← f, not-false z g, ← o, not-true q h)
 
       pub table-names : not q ≡ false → (b : Bool) → (eqb k tokens || eqb k rules) ≡ b → namesTest b src w n t ≡ tableTest src m k n t
       unfolding tableTest
-      table-names h b j = rw (← e, le-leb _ _ l, ← f, not-false z g, ← o, not-false q h, j)
+      table-names h b j = rw (le-leb _ _ small, ← e, le-leb _ _ l, ← f, not-false z g, ← o, not-false q h, j)
 
 -- the tables in their order: one, and those from it on, n behind it
 module _ (src : List ℕ) (c : Counts) (T : Tables) where
@@ -167,16 +134,21 @@ module _ (src : List ℕ) (c : Counts) (T : Tables) where
   from-last k = refl
 
   -- all of it
-  module _ (g : Singles) where
-    pub sound-long : 65536 < length src → false ≡ soundTest src c g T
+  module _ (g : Singles) (X : Indexes) where
+    pub sound-long : 65536 < length src → false ≡ soundTest src c g T X
     unfolding soundTest
     sound-long h = rw (lt-leb _ _ h)
 
-    module _ (s : length src ≤ 65536) (q : Bool) (e : q ≡ tablesTest src c T) where
-      pub sound-table : not q ≡ true → false ≡ soundTest src c g T
+    module _ (s : length src ≤ 65536) (p : Bool) (d : p ≡ indexesTest src c (T .t1) (T .t7) (X .tokens) (X .rules)) where
+      pub sound-index : not p ≡ true → false ≡ soundTest src c g T X
       unfolding soundTest
-      sound-table h = rw (le-leb _ _ s, ← e, not-true q h)
+      sound-index z = rw (le-leb _ _ s, ← d, not-true p z, and-false (tablesTest src c T))
 
-      pub sound-rest : not q ≡ false → (m n : ℕ) (a b : Bool) → a ≡ rangesTest (T .t8) m n → m ≡ countAt c productions → n ≡ countAt c symbols → b ≡ singlesTest src g → (a && b) ≡ soundTest src c g T
-      unfolding soundTest
-      sound-rest h m n a b i j k l = rw (le-leb _ _ s, ← e, not-false q h, i, j, k, l)
+      module _ (z : not p ≡ false) (q : Bool) (e : q ≡ tablesTest src c T) where
+        pub sound-table : not q ≡ true → false ≡ soundTest src c g T X
+        unfolding soundTest
+        sound-table h = rw (le-leb _ _ s, ← e, not-true q h)
+
+        pub sound-rest : not q ≡ false → (m n : ℕ) (a b : Bool) → a ≡ rangesTest (T .t8) m n → m ≡ countAt c productions → n ≡ countAt c symbols → b ≡ singlesTest src g → (a && b) ≡ soundTest src c g T X
+        unfolding soundTest
+        sound-rest h m n a b i j k l = rw (le-leb _ _ s, ← e, not-false q h, ← d, not-false p z, i, j, k, l)

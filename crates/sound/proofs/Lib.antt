@@ -2,3 +2,4 @@ pub mod Laws
 pub mod Tells
 pub mod RowTests
 pub mod Iff
+pub mod Indexes

@@ -14,7 +14,8 @@ use Rattle.tables.proofs.Rows.{row-cell}
 use Rattle.grammar.specs.State.{Passed}
 use Rattle.grammar.specs.Sound.{Given, GivenAction, View, TokenRow, PrecRow, NameRow, EppRow, KindRow, RuleRow, ProductionRow, RepeatRow, each}
 use Rattle.sound.specs.Test.{givenTest, actionTest, tokenTest, precTest, nameTest, eppTest, kindTest, ruleTest, productionTest, repeatTest, rowTest}
-use Rattle.sound.proofs.Tells.{both-iff, le-iff, lt-iff, lies-iff, given-iff, given-action-iff}
+use Rattle.tables.proofs.Tells.{both-iff, le-iff, lt-iff}
+use Rattle.sound.proofs.Tells.{lies-iff, given-iff, given-action-iff}
 
 module _ (src t : List ℕ) (r : ℕ) where
   -- tests of cells, as what they tell of the row

@@ -10,37 +10,11 @@ use borrow.Author.Tests.{leb-true, ltb-true, eqb-true, le-leb, lt-ltb, eq-eqb}
 use lib.Dec.{leb, ltb, eqb}
 use lib.ListN.{length, getD, drop, replicate, length-drop}
 use Rattle.tables.specs.Table.{lies}
+use Rattle.tables.proofs.Tells.{both-iff, either-iff, le-iff, eq-iff}
 use Rattle.tables.specs.Rows.{Clean}
 use Rattle.grammar.specs.State.{Passed}
 use Rattle.grammar.specs.Sound.{Given, GivenAction}
-use Rattle.sound.specs.Test.{zeros, zerosFrom, below, givenTest, actionTest}
-
-pub both-iff : {a b : Bool} {P Q : Type 0} → (a ≡ true) ↔ P → (b ≡ true) ↔ Q → ((a && b) ≡ true) ↔ (P × Q)
-both-iff {a = true} f g = (λ e. (f .0 refl, g .0 e), λ x. g .1 (x .1))
-both-iff {a = false} f g = (λ e. absurd (false≢true e), λ x. f .1 (x .0))
-
-pub either-iff : {a b : Bool} {P Q : Type 0} → (a ≡ true) ↔ P → (b ≡ true) ↔ Q → ((a || b) ≡ true) ↔ (P ⊎ Q)
-either-iff {a = true} f g = (λ e. inl (f .0 refl), λ x. refl)
-either-iff {a = false} f g = (λ e. inr (g .0 e), ⊎-elim (λ x. absurd (false≢true (f .1 x))) (g .1))
-
-pub le-iff : (m n : ℕ) → (leb m n ≡ true) ↔ (m ≤ n)
-le-iff m n = (leb-true m n, le-leb m n)
-
-pub lt-iff : (m n : ℕ) → (ltb m n ≡ true) ↔ (m < n)
-lt-iff m n = (ltb-true m n, lt-ltb m n)
-
-pub eq-iff : (m n : ℕ) → (eqb m n ≡ true) ↔ (m ≡ n)
-eq-iff m n = (eqb-true m n, eq-eqb m n)
-
-pub below-iff : (p : ℕ → Bool) (P : ℕ → Type 0) → ((r : ℕ) → (p r ≡ true) ↔ P r) → (n : ℕ) → (below n p ≡ true) ↔ ((r : ℕ) → r < n → P r)
-unfolding below
-below-iff p P f zero = (λ e r h. absurd (omega arith), λ x. refl)
-below-iff p P f (suc n) =
-    Iff·trans (both-iff (below-iff p P f n) (f n)) (λ x r h. go x r h (decLt r n), λ x. (λ r h. x r (omega arith), x n (omega arith)))
-  where
-    go : ((r : ℕ) → r < n → P r) × P n → (r : ℕ) → r < suc n → Dec (r < n) → P r
-    go x r h (yes k) = x .0 r k
-    go x r h (no k) = let e : r ≡ n = omega arith in rw e (x .1)
+use Rattle.sound.specs.Test.{zeros, zerosFrom, givenTest, actionTest}
 
 -- the tests from i to i + n in a row
 abbrev pub chain : (ℕ → Bool) → ℕ → ℕ → Bool

@@ -1,12 +1,13 @@
 -- Document 01, "Tables are sound when", as a test that computes. That it says yes exactly where they are is a theorem (`sound-iff`).
 use Prim.Native.Nat.{ℕ, zero, suc, _+_, _*_}
+use mathlib.Core.Path.{_≡_}
 use mathlib.Core.List.{List, [], _∷_}
 use mathlib.Core.Bool.{Bool, true, false, _||_, _&&_}
 use lib.Dec.{leb, ltb, eqb}
 use lib.ListN.{length, getD, drop}
-use Rattle.tables.specs.declared.Found.{Found}
-use Rattle.tables.specs.declared.Found.the-variants.{RowAt, NoRow}
-use Rattle.tables.specs.Table.{cell, lies, findName}
+use Rattle.tables.specs.Below.{below}
+use Rattle.tables.specs.Table.{cell, lies}
+use Rattle.index.specs.Index.{Indexed, indexTest, sizeTest, freshName}
 use Rattle.tables.specs.Layout.{tokens, precedences, avoided, epps, rules, productions, symbols, repeats, declared, association, keyName, value, typed, ruleRow, place, symbolsFrom, symbolsTo, prec, action, kindName, width}
 use Rattle.grammar.specs.declared.Counts.{Counts}
 use Rattle.grammar.specs.declared.Part.{Part}
@@ -16,7 +17,7 @@ use Rattle.grammar.specs.declared.Expect.the-variants.{NotExpected, Expected}
 use Rattle.grammar.specs.declared.Param.{Param}
 use Rattle.grammar.specs.declared.Param.the-variants.{NoParam, ParamAt}
 use Rattle.grammar.specs.declared.Singles.{Singles}
-use Rattle.grammar.specs.Sound.{Tables, tab}
+use Rattle.grammar.specs.Sound.{Tables, Indexes, tab}
 
 -- "cells past them are zero"
 unfoldable pub zeros : List ℕ → Bool
@@ -25,11 +26,6 @@ zeros (v ∷ vs) = eqb v 0 && zeros vs
 
 unfoldable pub zerosFrom : List ℕ → ℕ → Bool
 zerosFrom t i = zeros (drop i t)
-
--- a test that holds of every number below n
-unfoldable pub below : ℕ → (ℕ → Bool) → Bool
-below zero p = true
-below (suc n) p = below n p && p n
 
 -- "0 undeclared or absent (its cells zero), else 1": a flag and a place, or two places
 unfoldable pub givenTest : List ℕ → ℕ → ℕ → ℕ → Bool
@@ -85,25 +81,21 @@ abbrev pub rowTest : List ℕ → ℕ → ℕ → List ℕ → ℕ → Bool
 rowTest src n k t =
     getD (tokenTest src t ∷ precTest src t ∷ nameTest src t ∷ nameTest src t ∷ eppTest src t ∷ kindTest src t ∷ ruleTest src t ∷ productionTest src n t ∷ kindTest src t ∷ repeatTest src t ∷ []) k any
 
--- "names in 1 and in 7 are pairwise different": no row before has the name
-abbrev pub unfound : Found → Bool
-unfound (RowAt r) = false
-unfound NoRow = true
-
-unfoldable pub freshTest : List ℕ → ℕ → List ℕ → ℕ → Bool
-freshTest src w t r = unfound (findName src w 0 r t (cell w t r 0) (cell w t r 1))
-
 abbrev pub widthOf : ℕ → ℕ
 widthOf k = width k
 
--- a table with n rows: "counts fit, cells past them are zero", its rows, its names
+-- a table with n rows: "counts fit, cells past them are zero", its rows, its names, which "in 1 and in 7 are pairwise different"
 abbrev pub namesTest : Bool → List ℕ → ℕ → ℕ → List ℕ → Bool
-namesTest true src w n t = below n (freshTest src w t)
+namesTest true src w n t = below n (freshName src w 0 t)
 namesTest false src w n t = true
+
+-- the index of table 1 or 7 holds its n rows; other tables have none
+pub record Beside (src : List ℕ) (k n : ℕ) (t ix : List ℕ) : Type 0 where
+  pub holds : (eqb k tokens || eqb k rules) ≡ true → Indexed src (width k) 0 n t ix
 
 unfoldable pub tableTest : List ℕ → ℕ → ℕ → ℕ → List ℕ → Bool
 tableTest src m k n t =
-    leb (n * width k) (length t) && (zerosFrom t (n * width k) && (below n (rowTest src m k t) && namesTest (eqb k tokens || eqb k rules) src (width k) n t))
+    leb n 4294967295 && (leb (n * width k) (length t) && (zerosFrom t (n * width k) && (below n (rowTest src m k t) && namesTest (eqb k tokens || eqb k rules) src (width k) n t)))
 
 -- "symbol ranges follow one another in production order and fill table 9"
 unfoldable pub before : List ℕ → ℕ → ℕ
@@ -137,6 +129,13 @@ singlesTest src g =
 abbrev pub countAt : Counts → ℕ → ℕ
 countAt c k = getD (c .n) k 0
 
+-- document 02: an index with a right size that is "exactly what entering its table's rows in order gives"
+unfoldable pub indexRight : List ℕ → ℕ → ℕ → List ℕ → List ℕ → Bool
+indexRight src w n t ix = sizeTest (length ix) (length t) w && indexTest src w 0 n t ix
+
+unfoldable pub indexesTest : List ℕ → Counts → List ℕ → List ℕ → List ℕ → List ℕ → Bool
+indexesTest src c t1 t7 i1 i7 = indexRight src (width tokens) (countAt c tokens) t1 i1 && indexRight src (width rules) (countAt c rules) t7 i7
+
 -- all ten tables by themselves
 unfoldable pub tablesTest : List ℕ → Counts → Tables → Bool
 tablesTest src c T =
@@ -146,6 +145,7 @@ tablesTest src c T =
     one k = tableTest src (countAt c rules) k (countAt c k) (tab T k)
 
 -- "the source has at most 65,536 bytes", and all parts
-unfoldable pub soundTest : List ℕ → Counts → Singles → Tables → Bool
-soundTest src c g T =
-    leb (length src) 65536 && (tablesTest src c T && (rangesTest (T .t8) (countAt c productions) (countAt c symbols) && singlesTest src g))
+unfoldable pub soundTest : List ℕ → Counts → Singles → Tables → Indexes → Bool
+soundTest src c g T X =
+    leb (length src) 65536
+    && (tablesTest src c T && (indexesTest src c (T .t1) (T .t7) (X .tokens) (X .rules) && (rangesTest (T .t8) (countAt c productions) (countAt c symbols) && singlesTest src g)))

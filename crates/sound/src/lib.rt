@@ -1,14 +1,17 @@
-// Whether tables, counts and singles are sound: the test behind 44. Each table is read a constant number of times, but for the names of tables 1 and 7, each of
-// which is sought among those before it.
+// Whether tables, counts, singles and indexes are sound: the test behind 44. Each table is read a constant number of times; names of tables 1 and 7 are sought by
+// their indexes, which are tested first.
 use grammar::Counts;
 use grammar::Expect;
 use grammar::Param;
 use grammar::Part;
 use grammar::Singles;
-use tables::Found;
 ghost use mathlib.Core.Path.{_≡_};
+ghost use Prim.Native.Nat.{_<_};
+ghost use Rattle.index.specs.Index.{Indexed, freshName};
+ghost use Rattle.tables.specs.Layout.{tokens, rules, width};
 ghost use Rattle.grammar.specs.Sound.{Tables};
-ghost use Rattle.sound.specs.Test.{zerosFrom, givenTest, actionTest, tokenTest, precTest, nameTest, eppTest, kindTest, ruleTest, productionTest, repeatTest, rowTest, below, freshTest, widthOf, tableTest, rangeTest, rangesTest, partTest, expectTest, paramTest, singlesTest, countAt, tablesTest, soundTest};
+ghost use Rattle.tables.specs.Below.{below};
+ghost use Rattle.sound.specs.Test.{zerosFrom, givenTest, actionTest, tokenTest, precTest, nameTest, eppTest, kindTest, ruleTest, productionTest, repeatTest, rowTest, Beside, widthOf, tableTest, rangeTest, rangesTest, partTest, expectTest, paramTest, singlesTest, countAt, indexRight, indexesTest, tablesTest, soundTest};
 
 // Whether all cells from `from` on are zero.
 pub fn zeros_from(t: &[u32], from: usize) -> bool
@@ -163,30 +166,14 @@ pub fn rows_sound(src: &[u8], k: u8, t: &[u32], n: u32, rules: u32) -> bool
     true
 }
 
-// Whether no row before row `r` has its name.
-pub fn name_fresh(src: &[u8], t: &[u32], w: u32, r: u32) -> bool
-    ensures { λ q. ⌜ q ≡ freshTest (now (src .entry)) w (now (t .entry)) r ⌝ }
-{
-    match tables::find(
-        src,
-        t,
-        w,
-        tables::NAME,
-        r,
-        tables::cell(t, w, r, 0),
-        tables::cell(t, w, r, 1),
-    ) {
-        Found::RowAt(_) => false,
-        Found::NoRow => true,
-    }
-}
-
-pub fn names_differ(src: &[u8], t: &[u32], w: u32, n: u32) -> bool
-    ensures { λ q. ⌜ q ≡ below n (freshTest (now (src .entry)) w (now (t .entry))) ⌝ }
+// Whether no row has the name of one before it, by the index.
+pub fn names_differ(src: &[u8], t: &[u32], w: u32, n: u32, ix: &[u32]) -> bool
+    requires { ⌜ Indexed (now src) w 0 n (now t) (now ix) ⌝ }
+    ensures { λ q. ⌜ q ≡ below n (freshName (now (src .entry)) w 0 (now (t .entry))) ⌝ }
 {
     let mut r = 0;
     while r < n {
-        if !name_fresh(src, t, w, r) {
+        if !index::name_fresh(src, t, w, tables::NAME, n, ix, r) {
             return false;
         }
         r += 1;
@@ -213,8 +200,9 @@ pub fn width_of(k: u8) -> u32
     }
 }
 
-// Table `k + 1` with `n` rows. That the rows fit comes first, so that no count makes it read past the table.
-pub fn table_sound(src: &[u8], k: u8, t: &[u32], n: u32, rules: u32) -> bool
+// Table `k + 1` with `n` rows, and its index if it has one. That the rows fit comes first, so that no count makes it read past the table.
+pub fn table_sound(src: &[u8], k: u8, t: &[u32], n: u32, rules: u32, ix: &[u32]) -> bool
+    requires { ⌜ Beside (now src) k n (now t) (now ix) ⌝ }
     ensures { λ q. ⌜ q ≡ tableTest (now (src .entry)) rules k n (now (t .entry)) ⌝ }
 {
     let w = width_of(k);
@@ -229,7 +217,7 @@ pub fn table_sound(src: &[u8], k: u8, t: &[u32], n: u32, rules: u32) -> bool
         return false;
     }
     if (k == tables::TOKENS) | (k == tables::RULES) {
-        return names_differ(src, t, w, n);
+        return names_differ(src, t, w, n, ix);
     }
     true
 }
@@ -314,7 +302,28 @@ pub fn rows_of(c: Counts, k: u8) -> u32
     if i < 10 { c.n[i] } else { 0 }
 }
 
-// All ten tables by themselves.
+// An index of table `t` with `n` rows: its size is right, and it is what entering the rows in order gives.
+pub fn index_right(src: &[u8], t: &[u32], w: u32, n: u32, ix: &[u32]) -> bool
+    requires { ⌜ 0 < w ⌝ }
+    ensures { λ q. ⌜ q ≡ indexRight (now (src .entry)) w n (now (t .entry)) (now (ix .entry)) ⌝ }
+{
+    if !index::size_sound(ix.len(), t.len(), w) {
+        return false;
+    }
+    index::index_sound(src, t, w, tables::NAME, n, ix)
+}
+
+// Both indexes.
+pub fn indexes_sound(src: &[u8], c: Counts, t1: &[u32], t7: &[u32], i1: &[u32], i7: &[u32]) -> bool
+    ensures { λ q. ⌜ q ≡ indexesTest (now (src .entry)) c (now (t1 .entry)) (now (t7 .entry)) (now (i1 .entry)) (now (i7 .entry)) ⌝ }
+{
+    if !index_right(src, t1, tables::TOKEN_WIDTH, rows_of(c, tables::TOKENS), i1) {
+        return false;
+    }
+    index_right(src, t7, tables::RULE_WIDTH, rows_of(c, tables::RULES), i7)
+}
+
+// All ten tables by themselves. Those that have no index are lent one that is not looked at.
 pub fn tables_sound(
     src: &[u8],
     c: Counts,
@@ -328,11 +337,21 @@ pub fn tables_sound(
     t8: &[u32],
     t9: &[u32],
     t10: &[u32],
+    i1: &[u32],
+    i7: &[u32],
 ) -> bool
+    requires { ⌜ Indexed (now src) (width tokens) 0 (countAt c tokens) (now t1) (now i1) × Indexed (now src) (width rules) 0 (countAt c rules) (now t7) (now i7) ⌝ }
     ensures { λ q. ⌜ q ≡ tablesTest (now (src .entry)) c (record { t1 = now (t1 .entry); t2 = now (t2 .entry); t3 = now (t3 .entry); t4 = now (t4 .entry); t5 = now (t5 .entry); t6 = now (t6 .entry); t7 = now (t7 .entry); t8 = now (t8 .entry); t9 = now (t9 .entry); t10 = now (t10 .entry) }) ⌝ }
 {
     let rules = rows_of(c, tables::RULES);
-    if !table_sound(src, tables::TOKENS, t1, rows_of(c, tables::TOKENS), rules) {
+    if !table_sound(
+        src,
+        tables::TOKENS,
+        t1,
+        rows_of(c, tables::TOKENS),
+        rules,
+        i1,
+    ) {
         return false;
     }
     if !table_sound(
@@ -341,10 +360,18 @@ pub fn tables_sound(
         t2,
         rows_of(c, tables::PRECEDENCES),
         rules,
+        i1,
     ) {
         return false;
     }
-    if !table_sound(src, tables::AVOIDED, t3, rows_of(c, tables::AVOIDED), rules) {
+    if !table_sound(
+        src,
+        tables::AVOIDED,
+        t3,
+        rows_of(c, tables::AVOIDED),
+        rules,
+        i1,
+    ) {
         return false;
     }
     if !table_sound(
@@ -353,16 +380,24 @@ pub fn tables_sound(
         t4,
         rows_of(c, tables::IMPLICIT),
         rules,
+        i1,
     ) {
         return false;
     }
-    if !table_sound(src, tables::EPPS, t5, rows_of(c, tables::EPPS), rules) {
+    if !table_sound(src, tables::EPPS, t5, rows_of(c, tables::EPPS), rules, i1) {
         return false;
     }
-    if !table_sound(src, tables::UNUSED, t6, rows_of(c, tables::UNUSED), rules) {
+    if !table_sound(
+        src,
+        tables::UNUSED,
+        t6,
+        rows_of(c, tables::UNUSED),
+        rules,
+        i1,
+    ) {
         return false;
     }
-    if !table_sound(src, tables::RULES, t7, rules, rules) {
+    if !table_sound(src, tables::RULES, t7, rules, rules, i7) {
         return false;
     }
     if !table_sound(
@@ -371,10 +406,18 @@ pub fn tables_sound(
         t8,
         rows_of(c, tables::PRODUCTIONS),
         rules,
+        i1,
     ) {
         return false;
     }
-    if !table_sound(src, tables::SYMBOLS, t9, rows_of(c, tables::SYMBOLS), rules) {
+    if !table_sound(
+        src,
+        tables::SYMBOLS,
+        t9,
+        rows_of(c, tables::SYMBOLS),
+        rules,
+        i1,
+    ) {
         return false;
     }
     table_sound(
@@ -383,6 +426,7 @@ pub fn tables_sound(
         t10,
         rows_of(c, tables::REPEATS),
         rules,
+        i1,
     )
 }
 
@@ -401,13 +445,18 @@ pub fn sound(
     t8: &[u32],
     t9: &[u32],
     t10: &[u32],
+    i1: &[u32],
+    i7: &[u32],
 ) -> bool
-    ensures { λ q. ⌜ q ≡ soundTest (now (src .entry)) c g (record { t1 = now (t1 .entry); t2 = now (t2 .entry); t3 = now (t3 .entry); t4 = now (t4 .entry); t5 = now (t5 .entry); t6 = now (t6 .entry); t7 = now (t7 .entry); t8 = now (t8 .entry); t9 = now (t9 .entry); t10 = now (t10 .entry) }) ⌝ }
+    ensures { λ q. ⌜ q ≡ soundTest (now (src .entry)) c g (record { t1 = now (t1 .entry); t2 = now (t2 .entry); t3 = now (t3 .entry); t4 = now (t4 .entry); t5 = now (t5 .entry); t6 = now (t6 .entry); t7 = now (t7 .entry); t8 = now (t8 .entry); t9 = now (t9 .entry); t10 = now (t10 .entry) }) (record { tokens = now (i1 .entry); rules = now (i7 .entry) }) ⌝ }
 {
     if 65536 < src.len() {
         return false;
     }
-    if !tables_sound(src, c, t1, t2, t3, t4, t5, t6, t7, t8, t9, t10) {
+    if !indexes_sound(src, c, t1, t7, i1, i7) {
+        return false;
+    }
+    if !tables_sound(src, c, t1, t2, t3, t4, t5, t6, t7, t8, t9, t10, i1, i7) {
         return false;
     }
     ranges_sound(

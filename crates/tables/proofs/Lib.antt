@@ -1,3 +1,5 @@
+pub mod Below
+pub mod Tells
 pub mod Laws
 pub mod Rows
 pub mod Cases

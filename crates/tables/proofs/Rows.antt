@@ -187,17 +187,19 @@ module _ {P : List ℕ → Type 0} {Q : List ℕ → List ℕ → Type 0} where
   rows-zeroed w t =
       record {
         fits = rw zero-mul (omega arith);
+        low = omega arith;
         clean = clean-zeroed w t;
         each = λ r h. absurd (omega arith);
         pairs = λ q r h k. absurd (omega arith);
       }
 
   -- a row is added that is good by itself and beside each earlier one
-  pub rows-add : (w n : ℕ) (row t : List ℕ) → length row ≡ w → n * w + w ≤ length t → Rows P Q w n t → P row → ((r : ℕ) → r < n → Q (rowAt w t r) row) → Rows P Q w (n + 1) (put t (n * w) row)
-  rows-add w n row t wide room R p q =
+  pub rows-add : (w n : ℕ) (row t : List ℕ) → length row ≡ w → n * w + w ≤ length t → n < 4294967295 → Rows P Q w n t → P row → ((r : ℕ) → r < n → Q (rowAt w t r) row) → Rows P Q w (n + 1) (put t (n * w) row)
+  rows-add w n row t wide room small R p q =
       rw (add-one n)
       (record {
         fits = rw (put-length, suc-mul) (omega arith);
+        low = omega arith;
         clean = clean-add w n row t wide room (R .clean);
         each = λ r h. at r (decLt r n) h;
         pairs = λ i r l h. two i r (decLt r n) l h;
@@ -226,6 +228,7 @@ module _ {P : List ℕ → Type 0} {Q : List ℕ → List ℕ → Type 0} where
   rows-set w n r k v t b c R p q₁ q₂ =
       record {
         fits = rw length-set (R .fits);
+        low = R .low;
         clean = record { zeros = rw (drop-set-lt (n * w) t (r * w + k) v (omega (arith, row-below w r n b)), length-set) (R .clean .zeros) };
         each = λ i h. at i (ℕ-discrete i r) h;
         pairs = λ i j l h. two i j (ℕ-discrete i r) (ℕ-discrete j r) l h;
@@ -246,7 +249,7 @@ module _ {P : List ℕ → Type 0} {Q : List ℕ → List ℕ → Type 0} where
 
   -- what holds of rows for a reason that gives another
   pub rows-map : {P′ : List ℕ → Type 0} {w n : ℕ} {t : List ℕ} → ((x : List ℕ) → P x → P′ x) → Rows P Q w n t → Rows P′ Q w n t
-  rows-map f R = record { fits = R .fits; clean = R .clean; each = λ r h. f _ (R .each r h); pairs = R .pairs }
+  rows-map f R = record { fits = R .fits; low = R .low; clean = R .clean; each = λ r h. f _ (R .each r h); pairs = R .pairs }
 
   pub rows-as : {w n n′ : ℕ} {t t′ : List ℕ} → n ≡ n′ → t ≡ t′ → Rows P Q w n t → Rows P Q w n′ t′
   rows-as p q R = rw (← p, ← q) R

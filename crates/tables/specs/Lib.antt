@@ -1,3 +1,4 @@
+pub mod Below
 pub mod Layout
 pub mod Table
 pub mod Rows

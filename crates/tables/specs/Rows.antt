@@ -20,6 +20,8 @@ rowsOf w (suc n) t = rowsOf w n t ++ (rowAt w t n ∷ [])
 -- n rows of width w: P holds of each, Q of each earlier and later one, and the cells past them are zero
 pub record Rows (P : List ℕ → Type 0) (Q : List ℕ → List ℕ → Type 0) (w n : ℕ) (t : List ℕ) : Type 0 where
   pub fits : n * w ≤ length t
+  -- a count is a 32-bit number
+  pub low : n ≤ 4294967295
   pub clean : Clean w n t
   pub each : (r : ℕ) → r < n → P (rowAt w t r)
   pub pairs : (q r : ℕ) → q < r → r < n → Q (rowAt w t q) (rowAt w t r)

@@ -4,7 +4,7 @@ ghost use mathlib.Core.Path.{_≡_};
 ghost use lib.ListN.{getD};
 ghost use Prim.Native.Nat.{_≤_};
 ghost use Rattle.tables.specs.Layout.{rowPlace};
-ghost use Rattle.tables.specs.Table.{Added, addRow, zeroed, cell, setCell, lies, samePart, findName, Inserted, enterToken};
+ghost use Rattle.tables.specs.Table.{Added, addRow, zeroed, cell, setCell, lies, samePart, findName};
 
 // The tables by index: table 1 is at 0.
 pub const TOKENS: u8 = 0;
@@ -223,27 +223,4 @@ pub fn find(src: &[u8], t: &[u32], w: u32, k: u8, n: u32, from: u32, to: u32) ->
         r += 1;
     }
     Found::NoRow
-}
-
-// The token is in table 1, and marked as declared if it is.
-pub fn enter_token(src: &[u8], t: &mut [u32], n: u32, from: u32, to: u32, declared: bool) -> Entered
-    ensures { λ r. ⌜ _≡_ {A = Inserted} (record { entered = r; cells = now (t .exit) }) (enterToken (now (src .entry)) n from to declared (now (t .entry))) ⌝ }
-{
-    match find(src, t, TOKEN_WIDTH, NAME, n, from, to) {
-        Found::RowAt(r) => {
-            if declared {
-                set_cell(t, TOKEN_WIDTH, r, DECLARED, 1);
-            }
-            Entered::Rows(n)
-        }
-        Found::NoRow => {
-            let mark = if declared { 1 } else { 0 };
-            let row = [from, to, mark];
-            if add_row(t, n, &row) {
-                Entered::Rows(n + 1)
-            } else {
-                Entered::Full
-            }
-        }
-    }
 }

@@ -6,9 +6,12 @@ use mathlib.Core.Bool.{Bool, true, false}
 use native.Mathlib.Omega.{arith}
 use lib.ListN.{length, replicate}
 use Rattle.tables.specs.Table.{zeroed}
+use Rattle.tables.specs.Layout.{tokens, rules, width}
 use Rattle.grammar.specs.declared.Counts.{Counts}
 use Rattle.grammar.specs.declared.Singles.{Singles}
-use Rattle.grammar.specs.Sound.{Tables}
+use Rattle.grammar.specs.Sound.{Tables, Indexes}
+use Rattle.index.specs.Index.{Indexed}
+use Rattle.sound.specs.Test.{countAt}
 use Rattle.sound.proofs.Iff.{sound-iff}
 use Rattle.validation.specs.declared.Flaw.{Flaw}
 use Rattle.validation.specs.declared.Validity.{Validity}
@@ -142,7 +145,7 @@ module _ (g : Grammar) (x : Excuses) (ws₀ out₀ : List ℕ) where
   listed-room NoWords ws out h k p = absurd (omega (arith, p .0))
   listed-room NoRoom ws out h k p = absurd (omega (arith, p .1 .room, picks-bound (p .1 .lists .rules-are), picks-bound (p .1 .lists .tokens-are)))
 
-module _ (src : List ℕ) (c : Counts) (g : Singles) (T : Tables) where
+module _ (src : List ℕ) (c : Counts) (g : Singles) (T : Tables) (X : Indexes) where
   abbrev grammar : Grammar
   grammar = grammarOf src c (g .start) (T .t1) (T .t7) (T .t8) (T .t9)
 
@@ -150,25 +153,31 @@ module _ (src : List ℕ) (c : Counts) (g : Singles) (T : Tables) where
   excuses = excusesOf src c (T .t4) (T .t6)
 
   -- validation first
-  pub fair-valid : validity src c g T ≡ Valid → Fair grammar
-  fair-valid v = fair-sound src c g T (sound-iff src c g T .0 (validity-first src c g T .0 .0 v .0))
+  pub fair-valid : validity src c g T X ≡ Valid → Fair grammar
+  fair-valid v = fair-sound src c g T X (sound-iff src c g T X .0 (validity-first src c g T X .0 .0 v .0))
 
-  pub reported-valid : (l : Listing) (ws₀ ws out₀ out : List ℕ) → validity src c g T ≡ Valid → ValidReport grammar excuses l ws₀ ws out₀ out → Reported src c g T l ws₀ ws out₀ out
+  -- the indexes that tokens and rules are looked up by
+  pub names-valid : validity src c g T X ≡ Valid → Indexed src (width tokens) 0 (countAt c tokens) (T .t1) (X .tokens) × Indexed src (width rules) 0 (countAt c rules) (T .t7) (X .rules)
+  names-valid v =
+      let s = sound-iff src c g T X .0 (validity-first src c g T X .0 .0 v .0) .indexes in
+      (s .tokens, s .rules)
+
+  pub reported-valid : (l : Listing) (ws₀ ws out₀ out : List ℕ) → validity src c g T X ≡ Valid → ValidReport grammar excuses l ws₀ ws out₀ out → Reported src c g T X l ws₀ ws out₀ out
   reported-valid l ws₀ ws out₀ out v p = rw v p
 
-  pub reported-unsound : (ws₀ ws out₀ out : List ℕ) → validity src c g T ≡ UnsoundTables → ws ≡ zeroed ws₀ → out ≡ zeroed out₀ → Reported src c g T OfUnsound ws₀ ws out₀ out
+  pub reported-unsound : (ws₀ ws out₀ out : List ℕ) → validity src c g T X ≡ UnsoundTables → ws ≡ zeroed ws₀ → out ≡ zeroed out₀ → Reported src c g T X OfUnsound ws₀ ws out₀ out
   reported-unsound ws₀ ws out₀ out v p q = rw v (refl, record { work = p; cells = q })
 
-  pub reported-flaw : (f : Flaw) (ws₀ ws out₀ out : List ℕ) → validity src c g T ≡ Invalid f → ws ≡ zeroed ws₀ → out ≡ zeroed out₀ → Reported src c g T (OfInvalid f) ws₀ ws out₀ out
+  pub reported-flaw : (f : Flaw) (ws₀ ws out₀ out : List ℕ) → validity src c g T X ≡ Invalid f → ws ≡ zeroed ws₀ → out ≡ zeroed out₀ → Reported src c g T X (OfInvalid f) ws₀ ws out₀ out
   reported-flaw f ws₀ ws out₀ out v p q = rw v (refl, record { work = p; cells = q })
 
   -- the contract allows one outcome only
-  pub reported-one : (ws₀ out₀ : List ℕ) (a b : Listing) (ws vs out out' : List ℕ) → Reported src c g T a ws₀ ws out₀ out → Reported src c g T b ws₀ vs out₀ out' → _≡_ {A = Outcome} (record { answer = a; work = ws; cells = out }) (record { answer = b; work = vs; cells = out' })
-  reported-one ws₀ out₀ a b ws vs out out' = told-one grammar excuses ws₀ out₀ (validity src c g T) a b ws vs out out'
+  pub reported-one : (ws₀ out₀ : List ℕ) (a b : Listing) (ws vs out out' : List ℕ) → Reported src c g T X a ws₀ ws out₀ out → Reported src c g T X b ws₀ vs out₀ out' → _≡_ {A = Outcome} (record { answer = a; work = ws; cells = out }) (record { answer = b; work = vs; cells = out' })
+  reported-one ws₀ out₀ a b ws vs out out' = told-one grammar excuses ws₀ out₀ (validity src c g T X) a b ws vs out out'
 
-  pub reported-rows : (n : ℕ) (ws₀ ws out₀ out : List ℕ) → Reported src c g T (Unused n) ws₀ ws out₀ out → Accepted grammar excuses n ws₀ ws out₀ out
-  reported-rows n ws₀ ws out₀ out = told-rows grammar excuses ws₀ out₀ (validity src c g T) n ws out
+  pub reported-rows : (n : ℕ) (ws₀ ws out₀ out : List ℕ) → Reported src c g T X (Unused n) ws₀ ws out₀ out → Accepted grammar excuses n ws₀ ws out₀ out
+  reported-rows n ws₀ ws out₀ out = told-rows grammar excuses ws₀ out₀ (validity src c g T X) n ws out
 
   -- a valid reading, words and room enough for every row: the report is given
-  pub report-room : (l : Listing) (ws₀ ws out₀ out : List ℕ) → validity src c g T ≡ Valid → need grammar ≤ length ws₀ → (grammar .rules .sort .count + grammar .tokens .sort .count) * 2 ≤ length out₀ → Reported src c g T l ws₀ ws out₀ out → (n : ℕ) × (l ≡ Unused n)
+  pub report-room : (l : Listing) (ws₀ ws out₀ out : List ℕ) → validity src c g T X ≡ Valid → need grammar ≤ length ws₀ → (grammar .rules .sort .count + grammar .tokens .sort .count) * 2 ≤ length out₀ → Reported src c g T X l ws₀ ws out₀ out → (n : ℕ) × (l ≡ Unused n)
   report-room l ws₀ ws out₀ out v h k p = listed-room grammar excuses ws₀ out₀ l ws out h k (rw v at p)

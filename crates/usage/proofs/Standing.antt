@@ -10,7 +10,7 @@ use lib.Seq.{getD-append-add}
 use Rattle.tables.specs.Table.{cell}
 use Rattle.grammar.specs.declared.Counts.{Counts}
 use Rattle.grammar.specs.declared.Singles.{Singles}
-use Rattle.grammar.specs.Sound.{Tables}
+use Rattle.grammar.specs.Sound.{Tables, Indexes}
 use Rattle.validation.specs.declared.Validity.the-variants.{Valid}
 use Rattle.validation.specs.Faults.{validity}
 use Rattle.reach.specs.Reach.{Grammar, grammarOf, need}
@@ -211,16 +211,16 @@ unused-count a b = omega (arith, no-more a b, no-more b a)
 
 -- ---- the report of a reading
 
-module _ (src : List ℕ) (c : Counts) (g : Singles) (T : Tables) where
+module _ (src : List ℕ) (c : Counts) (g : Singles) (T : Tables) (X : Indexes) where
   abbrev grammar : Grammar
   grammar = grammarOf src c (g .start) (T .t1) (T .t7) (T .t8) (T .t9)
 
   abbrev excuses : Excuses
   excuses = excusesOf src c (T .t4) (T .t6)
 
-  module _ (n : ℕ) (ws₀ ws out₀ out : List ℕ) (p : Reported src c g T (Unused n) ws₀ ws out₀ out) where
+  module _ (n : ℕ) (ws₀ ws out₀ out : List ℕ) (p : Reported src c g T X (Unused n) ws₀ ws out₀ out) where
     pub report-rows : UnusedRows grammar excuses n out
-    report-rows = filled-rows grammar excuses (reported-rows src c g T n ws₀ ws out₀ out p .filled)
+    report-rows = filled-rows grammar excuses (reported-rows src c g T X n ws₀ ws out₀ out p .filled)
 
     -- a row stands in the report exactly where it is unused
     pub unused-listed : (kd r : ℕ) → StandsIn out n kd r ↔ UnusedRow grammar excuses kd r
@@ -231,7 +231,7 @@ module _ (src : List ℕ) (c : Counts) (g : Singles) (T : Tables) where
     report-rises = report-rows .rises
 
   -- of a valid reading, with words enough
-  module _ (l : Listing) (ws₀ ws out₀ out : List ℕ) (v : validity src c g T ≡ Valid) (words : need grammar ≤ length ws₀) (p : Reported src c g T l ws₀ ws out₀ out) where
+  module _ (l : Listing) (ws₀ ws out₀ out : List ℕ) (v : validity src c g T X ≡ Valid) (words : need grammar ≤ length ws₀) (p : Reported src c g T X l ws₀ ws out₀ out) where
     -- the report is given, or there are too many unused rows
     pub listed-or-many : ((n : ℕ) × (l ≡ Unused n)) ⊎ ((l ≡ NoRoom) × TooMany grammar excuses out₀)
     listed-or-many = go l (rw v at p)
@@ -261,7 +261,7 @@ module _ (src : List ℕ) (c : Counts) (g : Singles) (T : Tables) where
         full : TooMany grammar excuses out₀ → l ≡ NoRoom
         full m = ⊎-elim (λ y. absurd (never (y .0) (rw (y .1) at p))) (λ y. y .0) listed-or-many
           where
-            never : (n : ℕ) → Reported src c g T (Unused n) ws₀ ws out₀ out → ⊥
+            never : (n : ℕ) → Reported src c g T X (Unused n) ws₀ ws out₀ out → ⊥
             never n q =
-                let f = reported-rows src c g T n ws₀ ws out₀ out q .filled in
+                let f = reported-rows src c g T X n ws₀ ws out₀ out q .filled in
                 omega (arith, m .room, f .count-is, f .room, unused-count (m .rows) (report-rows n ws₀ ws out₀ out q))

@@ -9,7 +9,7 @@ use Rattle.tables.specs.Table.{cell, hasName, zeroed}
 use Rattle.tables.specs.Layout.{implicit, unused, kindName, width}
 use Rattle.grammar.specs.declared.Counts.{Counts}
 use Rattle.grammar.specs.declared.Singles.{Singles}
-use Rattle.grammar.specs.Sound.{Tables}
+use Rattle.grammar.specs.Sound.{Tables, Indexes}
 use Rattle.sound.specs.Test.{countAt}
 use Rattle.validation.specs.declared.Flaw.{Flaw}
 use Rattle.validation.specs.declared.Validity.{Validity}
@@ -141,9 +141,9 @@ Told Valid g x l ws₀ ws out₀ out = ValidReport g x l ws₀ ws out₀ out
 Told UnsoundTables g x l ws₀ ws out₀ out = (l ≡ OfUnsound) × Zeroed ws₀ ws out₀ out
 Told (Invalid f) g x l ws₀ ws out₀ out = (l ≡ OfInvalid f) × Zeroed ws₀ ws out₀ out
 
-abbrev pub Reported : List ℕ → Counts → Singles → Tables → Listing → List ℕ → List ℕ → List ℕ → List ℕ → Type 0
-Reported src c g T l ws₀ ws out₀ out =
-    Told (validity src c g T) (grammarOf src c (g .start) (T .t1) (T .t7) (T .t8) (T .t9)) (excusesOf src c (T .t4) (T .t6)) l ws₀ ws out₀ out
+abbrev pub Reported : List ℕ → Counts → Singles → Tables → Indexes → Listing → List ℕ → List ℕ → List ℕ → List ℕ → Type 0
+Reported src c g T X l ws₀ ws out₀ out =
+    Told (validity src c g T X) (grammarOf src c (g .start) (T .t1) (T .t7) (T .t8) (T .t9)) (excusesOf src c (T .t4) (T .t6)) l ws₀ ws out₀ out
 
 -- ---- what the steps promise
 

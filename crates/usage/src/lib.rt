@@ -9,7 +9,10 @@ use validation::Validity;
 ghost use mathlib.Core.Path.{_≡_};
 ghost use Prim.Native.Nat.{ℕ, _+_, _*_, _^_, _<_, _≤_};
 ghost use lib.ListN.{length};
+ghost use Rattle.tables.specs.Layout.{tokens, rules, width};
+ghost use Rattle.index.specs.Index.{Indexed};
 ghost use Rattle.grammar.specs.Sound.{Tables};
+ghost use Rattle.sound.specs.Test.{countAt};
 ghost use Rattle.reach.specs.Reach.{named, ruleSort, tokenSort, grammarOf, Fair, need};
 ghost use Rattle.usage.specs.Report.{Says, Expects, Expected, Implicit, Excused, excusesOf, Free, Counted, Wrote, Room, Written, ByBits, ValidReport, Reported};
 
@@ -209,11 +212,13 @@ fn list_used(
     t7: &[u32],
     t8: &[u32],
     t9: &[u32],
+    i1: &[u32],
+    i7: &[u32],
 ) -> Listing
-    requires { ⌜ Fair (grammarOf (now src) c start (now t1) (now t7) (now t8) (now t9)) ⌝ }
+    requires { ⌜ Fair (grammarOf (now src) c start (now t1) (now t7) (now t8) (now t9)) × Indexed (now src) (width tokens) 0 (countAt c tokens) (now t1) (now i1) × Indexed (now src) (width rules) 0 (countAt c rules) (now t7) (now i7) ⌝ }
     ensures { λ r. ⌜ ValidReport (grammarOf (now (src .entry)) c start (now (t1 .entry)) (now (t7 .entry)) (now (t8 .entry)) (now (t9 .entry))) (excusesOf (now (src .entry)) c (now (t4 .entry)) (now (t6 .entry))) r (now (work .entry)) (now (work .exit)) (now (out .entry)) (now (out .exit)) ⌝ }
 {
-    if !reach::mark_used(work, src, c, start, t1, t7, t8, t9) {
+    if !reach::mark_used(work, src, c, start, t1, t7, t8, t9, i1, i7) {
         tables::zero(out);
         return Listing::NoWords;
     }
@@ -245,15 +250,17 @@ pub fn report(
     t8: &[u32],
     t9: &[u32],
     t10: &[u32],
+    i1: &[u32],
+    i7: &[u32],
     work: &mut [u32],
     out: &mut [u32],
 ) -> Listing
-    ensures { λ r. ⌜ Reported (now (src .entry)) c g (record { t1 = now (t1 .entry); t2 = now (t2 .entry); t3 = now (t3 .entry); t4 = now (t4 .entry); t5 = now (t5 .entry); t6 = now (t6 .entry); t7 = now (t7 .entry); t8 = now (t8 .entry); t9 = now (t9 .entry); t10 = now (t10 .entry) }) r (now (work .entry)) (now (work .exit)) (now (out .entry)) (now (out .exit)) ⌝ }
+    ensures { λ r. ⌜ Reported (now (src .entry)) c g (record { t1 = now (t1 .entry); t2 = now (t2 .entry); t3 = now (t3 .entry); t4 = now (t4 .entry); t5 = now (t5 .entry); t6 = now (t6 .entry); t7 = now (t7 .entry); t8 = now (t8 .entry); t9 = now (t9 .entry); t10 = now (t10 .entry) }) (record { tokens = now (i1 .entry); rules = now (i7 .entry) }) r (now (work .entry)) (now (work .exit)) (now (out .entry)) (now (out .exit)) ⌝ }
 {
-    match validation::validate(src, c, g, t1, t2, t3, t4, t5, t6, t7, t8, t9, t10) {
+    match validation::validate(src, c, g, t1, t2, t3, t4, t5, t6, t7, t8, t9, t10, i1, i7) {
         Validity::Valid => {
             let start = g.start;
-            list_used(work, out, src, c, start, t1, t4, t6, t7, t8, t9)
+            list_used(work, out, src, c, start, t1, t4, t6, t7, t8, t9, i1, i7)
         }
         Validity::UnsoundTables => {
             tables::zero(work);

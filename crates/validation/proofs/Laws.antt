@@ -1,6 +1,6 @@
 -- What the functions' proofs cite: what is left of a definition behind each test, and the tests put together. Assumes nothing.
 use Prim.Native.Nat.{ℕ, _+_, _-_, _≤_, _<_}
-use mathlib.Core.Path.{_≡_, refl, ap}
+use mathlib.Core.Path.{_≡_, refl, sym, ap, _∙_}
 use mathlib.Core.List.{List, [], _∷_, _++_, append-assoc}
 use mathlib.Core.Bool.{Bool, true, false, _||_, not}
 use native.Mathlib.Omega.{arith}
@@ -10,7 +10,7 @@ use Rattle.tables.specs.Table.{cell, firstRow, findName, zeroed}
 use Rattle.tables.specs.Layout.{tokens, precedences, implicit, epps, unused, rules, productions, keyName, ruleRow, width}
 use Rattle.tables.specs.declared.Found.{Found}
 use Rattle.tables.proofs.Cases.{first-cases}
-use Rattle.grammar.specs.Sound.{Tables}
+use Rattle.grammar.specs.Sound.{Tables, Indexes}
 use Rattle.grammar.specs.declared.Counts.{Counts}
 use Rattle.grammar.specs.declared.Singles.{Singles}
 use Rattle.grammar.specs.declared.Part.{Part}
@@ -20,8 +20,9 @@ use Rattle.productions.specs.declared.Production.{Production}
 use Rattle.productions.specs.declared.Prec.{Prec}
 use Rattle.productions.specs.declared.Prec.the-variants.{PrecAt}
 use Rattle.sound.specs.Test.{countAt, soundTest}
+use Rattle.sound.proofs.Iff.{sound-iff}
 use Rattle.validation.specs.Faults.{first, unless, isRow, known, startFaults, precGiven, precFaults, nameFaults, kindsFaults, productionFaults, ofRule, rulesFaults, eppFaults, eppsFaults, faults, validity}
-use Rattle.validation.specs.Walk.{failing, isOfRule, rowOr, nextOfRule, AllFaults, allFaults, faultListing}
+use Rattle.validation.specs.Walk.{NamesIndexed, failing, isOfRule, rowOr, nextOfRule, AllFaults, allFaults, faultListing}
 use Rattle.validation.specs.declared.Test.the-variants.{Failed}
 use Rattle.validation.specs.declared.Flaw.{Flaw}
 use Rattle.validation.specs.declared.Flaw.the-variants.{NoStartRule, InvalidStartRule, UnknownRuleRef, UnknownTokenRef, UnknownEppKey}
@@ -122,20 +123,26 @@ module _ (src : List ℕ) (c : Counts) (g : Singles) where
   unfolding faults
   faults-are t1 t2 t4 t5 t6 t7 t8 t9 = append-assoc (startFaults src (g .start) t7 (countAt c rules)) _ _
 
-  module _ (T : Tables) (q : Bool) (e : q ≡ soundTest src c g T) where
-    pub unsound : not q ≡ true → UnsoundTables ≡ validity src c g T
+  module _ (T : Tables) (X : Indexes) (q : Bool) (e : q ≡ soundTest src c g T X) where
+    -- sound tables have the indexes that names are looked up by
+    pub sound-names : not q ≡ false → NamesIndexed src c (T .t1) (T .t7) (X .tokens) (X .rules)
+    sound-names h =
+        let s = sound-iff src c g T X .0 (sym e ∙ not-false q h) .indexes in
+        record { tokens = s .tokens; rules = s .rules }
+
+    pub unsound : not q ≡ true → UnsoundTables ≡ validity src c g T X
     unfolding validity
     unsound h = rw (validity, ← e, not-true q h)
 
-    pub sound : not q ≡ false → first (faults src c g (T .t1) (T .t2) (T .t4) (T .t5) (T .t6) (T .t7) (T .t8) (T .t9)) ≡ validity src c g T
+    pub sound : not q ≡ false → first (faults src c g (T .t1) (T .t2) (T .t4) (T .t5) (T .t6) (T .t7) (T .t8) (T .t9)) ≡ validity src c g T X
     unfolding validity
     sound h = rw (validity, ← e, not-false q h)
 
     -- the list of all faults
-    pub listing-unsound : (t u : List ℕ) → u ≡ zeroed t → not q ≡ true → _≡_ {A = AllFaults} (record { answer = FaultsUnsound; cells = u }) (faultListing src c g T t)
+    pub listing-unsound : (t u : List ℕ) → u ≡ zeroed t → not q ≡ true → _≡_ {A = AllFaults} (record { answer = FaultsUnsound; cells = u }) (faultListing src c g T X t)
     unfolding faultListing
     listing-unsound t u z h = rw (faultListing, ← e, not-true q h, z)
 
-    pub listing-sound : (t : List ℕ) → not q ≡ false → allFaults (faults src c g (T .t1) (T .t2) (T .t4) (T .t5) (T .t6) (T .t7) (T .t8) (T .t9)) t ≡ faultListing src c g T t
+    pub listing-sound : (t : List ℕ) → not q ≡ false → allFaults (faults src c g (T .t1) (T .t2) (T .t4) (T .t5) (T .t6) (T .t7) (T .t8) (T .t9)) t ≡ faultListing src c g T X t
     unfolding faultListing
     listing-sound t h = rw (faultListing, ← e, not-false q h)

@@ -5,7 +5,7 @@ use mathlib.Core.List.{List, [], _∷_}
 use mathlib.Core.Bool.{Bool, true, false, false≢true}
 use mathlib.Core.Logic.{_↔_}
 use native.Mathlib.Omega.{arith}
-use Rattle.grammar.specs.Sound.{Tables}
+use Rattle.grammar.specs.Sound.{Tables, Indexes}
 use Rattle.grammar.specs.declared.Counts.{Counts}
 use Rattle.grammar.specs.declared.Singles.{Singles}
 use Rattle.sound.specs.Test.{soundTest}
@@ -50,21 +50,21 @@ flaw-iff : (q : Bool) (fs : List Flaw) (x : Flaw) → (outcome q fs ≡ Invalid 
 flaw-iff true fs x = (λ e. (refl, first-flaw fs x e .0, first-flaw fs x e .1), λ y. ap first (y .2))
 flaw-iff false fs x = (λ e. absurd (unsound-flaw x e), λ y. absurd (false≢true (y .0)))
 
-module _ (src : List ℕ) (c : Counts) (g : Singles) (T : Tables) where
+module _ (src : List ℕ) (c : Counts) (g : Singles) (T : Tables) (X : Indexes) where
   abbrev all : List Flaw
   all = faults src c g (T .t1) (T .t2) (T .t4) (T .t5) (T .t6) (T .t7) (T .t8) (T .t9)
 
   -- valid exactly where the tables are sound and no test fails; and the contract of `validate` allows one outcome only
-  pub validity-first : ((validity src c g T ≡ Valid) ↔ ((soundTest src c g T ≡ true) × (all ≡ []))) × ((v w : Validity) → v ≡ validity src c g T → w ≡ validity src c g T → v ≡ w)
+  pub validity-first : ((validity src c g T X ≡ Valid) ↔ ((soundTest src c g T X ≡ true) × (all ≡ []))) × ((v w : Validity) → v ≡ validity src c g T X → w ≡ validity src c g T X → v ≡ w)
   unfolding validity
-  validity-first = (valid-iff (soundTest src c g T) all, λ v w e f. e ∙ sym f)
+  validity-first = (valid-iff (soundTest src c g T X) all, λ v w e f. e ∙ sym f)
 
   -- 44 exactly where they are not sound
-  pub validity-unsound : (validity src c g T ≡ UnsoundTables) ↔ (soundTest src c g T ≡ false)
+  pub validity-unsound : (validity src c g T X ≡ UnsoundTables) ↔ (soundTest src c g T X ≡ false)
   unfolding validity
-  validity-unsound = unsound-iff (soundTest src c g T) all
+  validity-unsound = unsound-iff (soundTest src c g T X) all
 
   -- a flaw exactly where they are sound and it is the first of all
-  pub validity-flaw : (x : Flaw) → (validity src c g T ≡ Invalid x) ↔ ((soundTest src c g T ≡ true) × (rest : List Flaw) × (all ≡ x ∷ rest))
+  pub validity-flaw : (x : Flaw) → (validity src c g T X ≡ Invalid x) ↔ ((soundTest src c g T X ≡ true) × (rest : List Flaw) × (all ≡ x ∷ rest))
   unfolding validity
-  validity-flaw x = flaw-iff (soundTest src c g T) all x
+  validity-flaw x = flaw-iff (soundTest src c g T X) all x

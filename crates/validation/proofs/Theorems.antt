@@ -17,7 +17,7 @@ use Rattle.grammar.specs.declared.Counts.{Counts}
 use Rattle.grammar.specs.declared.Part.{Part}
 use Rattle.grammar.specs.declared.Part.the-variants.{Absent, At}
 use Rattle.grammar.specs.declared.Singles.{Singles}
-use Rattle.grammar.specs.Sound.{Tables}
+use Rattle.grammar.specs.Sound.{Tables, Indexes}
 use Rattle.productions.specs.declared.Prec.{Prec}
 use Rattle.productions.specs.declared.Prec.the-variants.{NoPrec, PrecAt}
 use Rattle.productions.specs.Cells.{cellOf, productionAt}
@@ -191,15 +191,15 @@ first-of true (f ∷ fs) t n e h = (f, refl, some (leb (length (f ∷ fs) * faul
     some false e = let z : _≡_ {A = ℕ} 0 1 = cc in absurd (omega arith)
 first-of false fs t n e h = let z : _≡_ {A = ℕ} 0 1 = cc in absurd (omega arith)
 
-module _ (src : List ℕ) (c : Counts) (g : Singles) (T : Tables) where
+module _ (src : List ℕ) (c : Counts) (g : Singles) (T : Tables) (X : Indexes) where
   abbrev all : List Flaw
   all = faults src c g (T .t1) (T .t2) (T .t4) (T .t5) (T .t6) (T .t7) (T .t8) (T .t9)
 
   -- sound tables have no more faults than tests
-  faults-most : soundTest src c g T ≡ true → length all ≤ testsOf c
+  faults-most : soundTest src c g T X ≡ true → length all ≤ testsOf c
   unfolding faults eppsFaults kindsFaults
   faults-most s =
-      let x = sound-iff src c g T .0 s .ranges in
+      let x = sound-iff src c g T X .0 s .ranges in
       let rs = rulesFaults src (T .t1) (countAt c tokens) (T .t2) (countAt c precedences) (T .t7) (countAt c rules) (T .t8) (T .t9) (countAt c productions) in
       let es = eppsFaults src (T .t1) (countAt c tokens) (T .t4) (countAt c implicit) (T .t5) (countAt c epps) in
       let us = kindsFaults src (T .t6) (T .t1) (countAt c tokens) (T .t7) (countAt c rules) 0 (countAt c unused) in
@@ -216,20 +216,20 @@ module _ (src : List ℕ) (c : Counts) (g : Singles) (T : Tables) where
 
   module _ (t : List ℕ) where
     -- "The list is empty exactly when validation accepts."
-    pub faults-none : (faultListing src c g T t .answer ≡ Faulted 0) ↔ (validity src c g T ≡ Valid)
+    pub faults-none : (faultListing src c g T X t .answer ≡ Faulted 0) ↔ (validity src c g T X ≡ Valid)
     unfolding faultListing validity
-    faults-none = none-iff (soundTest src c g T) all t
+    faults-none = none-iff (soundTest src c g T X) all t
 
     -- "Its first entry has validation's number."
-    pub faults-first : (n : ℕ) → faultListing src c g T t .answer ≡ Faulted n → 0 < n → (f : Flaw) × (validity src c g T ≡ Invalid f) × (cell faultWidth (faultListing src c g T t .cells) 0 0 ≡ getD (flawNumbers f) 0 0)
+    pub faults-first : (n : ℕ) → faultListing src c g T X t .answer ≡ Faulted n → 0 < n → (f : Flaw) × (validity src c g T X ≡ Invalid f) × (cell faultWidth (faultListing src c g T X t .cells) 0 0 ≡ getD (flawNumbers f) 0 0)
     unfolding faultListing validity
-    faults-first = first-of (soundTest src c g T) all t
+    faults-first = first-of (soundTest src c g T X) all t
 
     -- a row for each test is room enough
-    pub faults-room : soundTest src c g T ≡ true → testsOf c * faultWidth ≤ length t → faultListing src c g T t ≡ allFaultsIf true all t
+    pub faults-room : soundTest src c g T X ≡ true → testsOf c * faultWidth ≤ length t → faultListing src c g T X t ≡ allFaultsIf true all t
     unfolding faultListing
     faults-room s h = rw (faultListing, s, le-leb (length all * faultWidth) (length t) (omega (arith, faults-most s)))
 
     -- any two outcomes that the contract allows are the same
-    pub faults-one : (o p : AllFaults) → o ≡ faultListing src c g T t → p ≡ faultListing src c g T t → o ≡ p
+    pub faults-one : (o p : AllFaults) → o ≡ faultListing src c g T X t → p ≡ faultListing src c g T X t → o ≡ p
     faults-one o p e f = e ∙ sym f

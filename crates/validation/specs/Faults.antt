@@ -12,7 +12,7 @@ use Rattle.grammar.specs.declared.Counts.{Counts}
 use Rattle.grammar.specs.declared.Part.{Part}
 use Rattle.grammar.specs.declared.Part.the-variants.{Absent, At}
 use Rattle.grammar.specs.declared.Singles.{Singles}
-use Rattle.grammar.specs.Sound.{Tables}
+use Rattle.grammar.specs.Sound.{Tables, Indexes}
 use Rattle.productions.specs.declared.Prec.{Prec}
 use Rattle.productions.specs.declared.Prec.the-variants.{NoPrec, PrecAt}
 use Rattle.productions.specs.Cells.{cellOf, productionAt}
@@ -148,9 +148,9 @@ faults src c g t1 t2 t4 t5 t6 t7 t8 t9 =
     ++ (eppsFaults src t1 (countAt c tokens) t4 (countAt c implicit) t5 (countAt c epps) ++ kindsFaults src t6 t1 (countAt c tokens) t7 (countAt c rules) 0 (countAt c unused)))
 
 -- "44 unsound tables" first, then the first fault
-unfoldable pub validity : List ℕ → Counts → Singles → Tables → Validity
-validity src c g T =
-    elim (soundTest src c g T) [
+unfoldable pub validity : List ℕ → Counts → Singles → Tables → Indexes → Validity
+validity src c g T X =
+    elim (soundTest src c g T X) [
       | true ↦ first (faults src c g (T .t1) (T .t2) (T .t4) (T .t5) (T .t6) (T .t7) (T .t8) (T .t9))
       | false ↦ UnsoundTables
     ]

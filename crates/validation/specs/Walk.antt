@@ -8,11 +8,12 @@ use lib.ListN.{length, replicate}
 use Rattle.tables.specs.Table.{put, zeroed, firstRow}
 use Rattle.tables.specs.declared.Found.{Found}
 use Rattle.tables.specs.declared.Found.the-variants.{RowAt, NoRow}
-use Rattle.tables.specs.Layout.{productions, symbols, epps, unused, faultWidth, ruleRow}
+use Rattle.tables.specs.Layout.{tokens, rules, productions, symbols, epps, unused, width, faultWidth, ruleRow}
+use Rattle.index.specs.Index.{Indexed}
 use Rattle.productions.specs.Cells.{cellOf}
 use Rattle.grammar.specs.declared.Counts.{Counts}
 use Rattle.grammar.specs.declared.Singles.{Singles}
-use Rattle.grammar.specs.Sound.{Tables}
+use Rattle.grammar.specs.Sound.{Tables, Indexes}
 use Rattle.sound.specs.Test.{countAt, soundTest}
 use Rattle.validation.specs.Faults.{faultCells, faults}
 use Rattle.validation.specs.declared.Flaw.{Flaw}
@@ -23,12 +24,26 @@ use Rattle.validation.specs.declared.Walk.the-variants.{NextRow, Unwritt
 use Rattle.validation.specs.declared.FaultListing.{FaultListing}
 use Rattle.validation.specs.declared.FaultListing.the-variants.{Faulted, FaultsUnsound, FaultsNoRoom}
 
+-- ---- the indexes that names are looked up by
+
+-- that of n tokens, and that of n rules
+abbrev pub TokenNames : List ℕ → ℕ → List ℕ → List ℕ → Type 0
+TokenNames src n t1 i1 = Indexed src (width tokens) 0 n t1 i1
+
+abbrev pub RuleNames : List ℕ → ℕ → List ℕ → List ℕ → Type 0
+RuleNames src n t7 i7 = Indexed src (width rules) 0 n t7 i7
+
+-- those of all tokens and rules
+pub record NamesIndexed (src : List ℕ) (c : Counts) (t1 t7 i1 i7 : List ℕ) : Type 0 where
+  pub tokens : Indexed src (width tokens) 0 (countAt c tokens) t1 i1
+  pub rules : Indexed src (width rules) 0 (countAt c rules) t7 i7
+
+-- ---- the walk: how far it came, and table 14
+
 -- the faults of one test
 abbrev pub failing : Test → List Flaw
 failing Met = []
 failing (Failed f) = f ∷ []
-
--- ---- the walk: how far it came, and table 14
 
 pub record Walked : Type 0 where
   pub answer : Walk
@@ -76,9 +91,9 @@ abbrev pub allFaults : List Flaw → List ℕ → AllFaults
 allFaults fs t = allFaultsIf (leb (length fs * faultWidth) (length t)) fs t
 
 -- "44 first"
-unfoldable pub faultListing : List ℕ → Counts → Singles → Tables → List ℕ → AllFaults
-faultListing src c g T t =
-    elim (soundTest src c g T) [
+unfoldable pub faultListing : List ℕ → Counts → Singles → Tables → Indexes → List ℕ → AllFaults
+faultListing src c g T X t =
+    elim (soundTest src c g T X) [
       | true ↦ allFaults (faults src c g (T .t1) (T .t2) (T .t4) (T .t5) (T .t6) (T .t7) (T .t8) (T .t9)) t
       | false ↦ record { answer = FaultsUnsound; cells = zeroed t }
     ]

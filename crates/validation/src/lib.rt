@@ -7,10 +7,11 @@ use tables::Found;
 ghost use mathlib.Core.Path.{_≡_};
 ghost use mathlib.Core.List.{_++_};
 ghost use Rattle.tables.specs.Layout.{tokens, precedences, implicit, epps, unused, rules, productions};
+ghost use Rattle.index.specs.Index.{Indexed};
 ghost use Rattle.sound.specs.Test.{countAt};
 ghost use Rattle.grammar.specs.Sound.{Tables};
 ghost use Rattle.validation.specs.Faults.{faultCells, known, first, startFaults, precFaults, nameFaults, kindFaults, kindsFaults, productionFaults, ruleFaults, rulesFaults, eppFaults, eppsFaults, faults, validity};
-ghost use Rattle.validation.specs.Walk.{failing, Walked, noted, nextOfRule, AllFaults, faultListing};
+ghost use Rattle.validation.specs.Walk.{TokenNames, RuleNames, NamesIndexed, failing, Walked, noted, nextOfRule, AllFaults, faultListing};
 
 // What a reading lacks, by the place of the name.
 pub enum Flaw {
@@ -63,13 +64,25 @@ pub fn is_known(src: &[u8], t: &[u32], w: u32, n: u32, a: u32, b: u32) -> bool
     }
 }
 
-pub fn start_fault(src: &[u8], start: Part, t7: &[u32], rules: u32) -> Test
+// The same by the index of the table.
+pub fn is_indexed(src: &[u8], t: &[u32], w: u32, n: u32, ix: &[u32], a: u32, b: u32) -> bool
+    requires { ⌜ Indexed (now src) w 0 n (now t) (now ix) ⌝ }
+    ensures { λ r. ⌜ r ≡ known (now (src .entry)) (now (t .entry)) w n a b ⌝ }
+{
+    match index::find(src, t, w, tables::NAME, n, ix, a, b) {
+        Found::RowAt(_) => true,
+        Found::NoRow => false,
+    }
+}
+
+pub fn start_fault(src: &[u8], start: Part, t7: &[u32], rules: u32, i7: &[u32]) -> Test
+    requires { ⌜ RuleNames (now src) rules (now t7) (now i7) ⌝ }
     ensures { λ r. ⌜ failing r ≡ startFaults (now (src .entry)) start (now (t7 .entry)) rules ⌝ }
 {
     match start {
         Part::Absent => Test::Failed(Flaw::NoStartRule),
         Part::At(a, b) => {
-            if is_known(src, t7, tables::RULE_WIDTH, rules, a, b) {
+            if is_indexed(src, t7, tables::RULE_WIDTH, rules, i7, a, b) {
                 Test::Met
             } else {
                 Test::Failed(Flaw::InvalidStartRule(a, b))
@@ -86,13 +99,15 @@ pub fn prec_fault(
     tokens: u32,
     t2: &[u32],
     precedences: u32,
+    i1: &[u32],
 ) -> Test
+    requires { ⌜ TokenNames (now src) tokens (now t1) (now i1) ⌝ }
     ensures { λ r. ⌜ failing r ≡ precFaults (now (src .entry)) p (now (t1 .entry)) tokens (now (t2 .entry)) precedences ⌝ }
 {
     match p {
         Prec::NoPrec => Test::Met,
         Prec::PrecAt(a, b) => {
-            if !is_known(src, t1, tables::TOKEN_WIDTH, tokens, a, b) {
+            if !is_indexed(src, t1, tables::TOKEN_WIDTH, tokens, i1, a, b) {
                 return Test::Failed(Flaw::UnknownPrecToken(a, b));
             }
             if is_known(src, t2, tables::PRECEDENCE_WIDTH, precedences, a, b) {
@@ -114,16 +129,19 @@ pub fn name_fault(
     tokens: u32,
     t7: &[u32],
     rules: u32,
+    i1: &[u32],
+    i7: &[u32],
 ) -> Test
+    requires { ⌜ TokenNames (now src) tokens (now t1) (now i1) × RuleNames (now src) rules (now t7) (now i7) ⌝ }
     ensures { λ r. ⌜ failing r ≡ nameFaults (now (src .entry)) kind a b (now (t1 .entry)) tokens (now (t7 .entry)) rules ⌝ }
 {
     if kind == 1 {
-        if is_known(src, t7, tables::RULE_WIDTH, rules, a, b) {
+        if is_indexed(src, t7, tables::RULE_WIDTH, rules, i7, a, b) {
             return Test::Met;
         }
         return Test::Failed(Flaw::UnknownRuleRef(a, b));
     }
-    if is_known(src, t1, tables::TOKEN_WIDTH, tokens, a, b) {
+    if is_indexed(src, t1, tables::TOKEN_WIDTH, tokens, i1, a, b) {
         return Test::Met;
     }
     Test::Failed(Flaw::UnknownTokenRef(a, b))
@@ -138,7 +156,10 @@ pub fn kind_fault(
     tokens: u32,
     t7: &[u32],
     rules: u32,
+    i1: &[u32],
+    i7: &[u32],
 ) -> Test
+    requires { ⌜ TokenNames (now src) tokens (now t1) (now i1) × RuleNames (now src) rules (now t7) (now i7) ⌝ }
     ensures { λ q. ⌜ failing q ≡ kindFaults (now (src .entry)) (now (t .entry)) (now (t1 .entry)) tokens (now (t7 .entry)) rules r ⌝ }
 {
     let w = tables::SYMBOL_WIDTH;
@@ -151,6 +172,8 @@ pub fn kind_fault(
         tokens,
         t7,
         rules,
+        i1,
+        i7,
     )
 }
 
@@ -163,13 +186,15 @@ pub fn epp_fault(
     implicit: u32,
     t5: &[u32],
     r: u32,
+    i1: &[u32],
 ) -> Test
+    requires { ⌜ TokenNames (now src) tokens (now t1) (now i1) ⌝ }
     ensures { λ q. ⌜ failing q ≡ eppFaults (now (src .entry)) (now (t1 .entry)) tokens (now (t4 .entry)) implicit (now (t5 .entry)) r ⌝ }
 {
     let w = tables::EPP_WIDTH;
     let a = tables::cell(t5, w, r, 2);
     let b = tables::cell(t5, w, r, 3);
-    if is_known(src, t1, tables::TOKEN_WIDTH, tokens, a, b) {
+    if is_indexed(src, t1, tables::TOKEN_WIDTH, tokens, i1, a, b) {
         return Test::Met;
     }
     if is_known(src, t4, tables::NAME_WIDTH, implicit, a, b) {
@@ -224,15 +249,18 @@ pub fn note_kinds(
     tokens: u32,
     t7: &[u32],
     rules: u32,
+    i1: &[u32],
+    i7: &[u32],
     at: usize,
     t14: &mut [u32],
 ) -> Walk
+    requires { ⌜ TokenNames (now src) tokens (now t1) (now i1) × RuleNames (now src) rules (now t7) (now i7) ⌝ }
     ensures { λ q. ⌜ _≡_ {A = Walked} (record { answer = q; cells = now (t14 .exit) }) (noted (kindsFaults (now (src .entry)) (now (t .entry)) (now (t1 .entry)) tokens (now (t7 .entry)) rules from to) at (now (t14 .entry))) ⌝ }
 {
     let mut next = at;
     let mut r = from;
     while r < to {
-        let v = kind_fault(src, t, r, t1, tokens, t7, rules);
+        let v = kind_fault(src, t, r, t1, tokens, t7, rules, i1, i7);
         match note(v, next, t14) {
             Walk::NextRow(n) => {
                 next = n;
@@ -258,16 +286,32 @@ pub fn note_production(
     t8: &[u32],
     t9: &[u32],
     r: u32,
+    i1: &[u32],
+    i7: &[u32],
     at: usize,
     t14: &mut [u32],
 ) -> Walk
+    requires { ⌜ TokenNames (now src) tokens (now t1) (now i1) × RuleNames (now src) rules (now t7) (now i7) ⌝ }
     ensures { λ q. ⌜ _≡_ {A = Walked} (record { answer = q; cells = now (t14 .exit) }) (noted (productionFaults (now (src .entry)) (now (t1 .entry)) tokens (now (t2 .entry)) precedences (now (t7 .entry)) rules (now (t8 .entry)) (now (t9 .entry)) r) at (now (t14 .entry))) ⌝ }
 {
     let p = productions::load_production(t8, r);
     let q = p.prec;
-    let v = prec_fault(src, q, t1, tokens, t2, precedences);
+    let v = prec_fault(src, q, t1, tokens, t2, precedences, i1);
     match note(v, at, t14) {
-        Walk::NextRow(n) => note_kinds(src, t9, p.first, p.last, t1, tokens, t7, rules, n, t14),
+        Walk::NextRow(n) => note_kinds(
+            src,
+            t9,
+            p.first,
+            p.last,
+            t1,
+            tokens,
+            t7,
+            rules,
+            i1,
+            i7,
+            n,
+            t14,
+        ),
         Walk::Unwritten(f) => Walk::Unwritten(f),
     }
 }
@@ -299,9 +343,12 @@ pub fn note_rule(
     t9: &[u32],
     n: u32,
     k: u32,
+    i1: &[u32],
+    i7: &[u32],
     at: usize,
     t14: &mut [u32],
 ) -> Walk
+    requires { ⌜ TokenNames (now src) tokens (now t1) (now i1) × RuleNames (now src) rules (now t7) (now i7) ⌝ }
     ensures { λ q. ⌜ _≡_ {A = Walked} (record { answer = q; cells = now (t14 .exit) }) (noted (ruleFaults (now (src .entry)) (now (t1 .entry)) tokens (now (t2 .entry)) precedences (now (t7 .entry)) rules (now (t8 .entry)) (now (t9 .entry)) n k) at (now (t14 .entry))) ⌝ }
 {
     let mut next = at;
@@ -318,6 +365,8 @@ pub fn note_rule(
             t8,
             t9,
             r,
+            i1,
+            i7,
             next,
             t14,
         ) {
@@ -345,9 +394,12 @@ pub fn note_rules(
     t8: &[u32],
     t9: &[u32],
     n: u32,
+    i1: &[u32],
+    i7: &[u32],
     at: usize,
     t14: &mut [u32],
 ) -> Walk
+    requires { ⌜ TokenNames (now src) tokens (now t1) (now i1) × RuleNames (now src) rules (now t7) (now i7) ⌝ }
     ensures { λ q. ⌜ _≡_ {A = Walked} (record { answer = q; cells = now (t14 .exit) }) (noted (rulesFaults (now (src .entry)) (now (t1 .entry)) tokens (now (t2 .entry)) precedences (now (t7 .entry)) rules (now (t8 .entry)) (now (t9 .entry)) n) at (now (t14 .entry))) ⌝ }
 {
     let mut next = at;
@@ -365,6 +417,8 @@ pub fn note_rules(
             t9,
             n,
             k,
+            i1,
+            i7,
             next,
             t14,
         ) {
@@ -388,15 +442,17 @@ pub fn note_epps(
     implicit: u32,
     t5: &[u32],
     n: u32,
+    i1: &[u32],
     at: usize,
     t14: &mut [u32],
 ) -> Walk
+    requires { ⌜ TokenNames (now src) tokens (now t1) (now i1) ⌝ }
     ensures { λ q. ⌜ _≡_ {A = Walked} (record { answer = q; cells = now (t14 .exit) }) (noted (eppsFaults (now (src .entry)) (now (t1 .entry)) tokens (now (t4 .entry)) implicit (now (t5 .entry)) n) at (now (t14 .entry))) ⌝ }
 {
     let mut next = at;
     let mut r = 0;
     while r < n {
-        let v = epp_fault(src, t1, tokens, t4, implicit, t5, r);
+        let v = epp_fault(src, t1, tokens, t4, implicit, t5, r, i1);
         match note(v, next, t14) {
             Walk::NextRow(m) => {
                 next = m;
@@ -420,15 +476,18 @@ pub fn note_start_rules(
     t7: &[u32],
     t8: &[u32],
     t9: &[u32],
+    i1: &[u32],
+    i7: &[u32],
     t14: &mut [u32],
 ) -> Walk
+    requires { ⌜ NamesIndexed (now src) c (now t1) (now t7) (now i1) (now i7) ⌝ }
     ensures { λ q. ⌜ _≡_ {A = Walked} (record { answer = q; cells = now (t14 .exit) }) (noted (startFaults (now (src .entry)) start (now (t7 .entry)) (countAt c rules) ++ rulesFaults (now (src .entry)) (now (t1 .entry)) (countAt c tokens) (now (t2 .entry)) (countAt c precedences) (now (t7 .entry)) (countAt c rules) (now (t8 .entry)) (now (t9 .entry)) (countAt c productions)) 0 (now (t14 .entry))) ⌝ }
 {
     let tokens = sound::rows_of(c, tables::TOKENS);
     let precedences = sound::rows_of(c, tables::PRECEDENCES);
     let rules = sound::rows_of(c, tables::RULES);
     let n = sound::rows_of(c, tables::PRODUCTIONS);
-    let v = start_fault(src, start, t7, rules);
+    let v = start_fault(src, start, t7, rules, i7);
     match note(v, 0, t14) {
         Walk::NextRow(at) => note_rules(
             src,
@@ -441,6 +500,8 @@ pub fn note_start_rules(
             t8,
             t9,
             n,
+            i1,
+            i7,
             at,
             t14,
         ),
@@ -457,9 +518,12 @@ pub fn note_epps_unused(
     t5: &[u32],
     t6: &[u32],
     t7: &[u32],
+    i1: &[u32],
+    i7: &[u32],
     at: usize,
     t14: &mut [u32],
 ) -> Walk
+    requires { ⌜ NamesIndexed (now src) c (now t1) (now t7) (now i1) (now i7) ⌝ }
     ensures { λ q. ⌜ _≡_ {A = Walked} (record { answer = q; cells = now (t14 .exit) }) (noted (eppsFaults (now (src .entry)) (now (t1 .entry)) (countAt c tokens) (now (t4 .entry)) (countAt c implicit) (now (t5 .entry)) (countAt c epps) ++ kindsFaults (now (src .entry)) (now (t6 .entry)) (now (t1 .entry)) (countAt c tokens) (now (t7 .entry)) (countAt c rules) 0 (countAt c unused)) at (now (t14 .entry))) ⌝ }
 {
     let tokens = sound::rows_of(c, tables::TOKENS);
@@ -467,8 +531,8 @@ pub fn note_epps_unused(
     let epps = sound::rows_of(c, tables::EPPS);
     let unused = sound::rows_of(c, tables::UNUSED);
     let rules = sound::rows_of(c, tables::RULES);
-    match note_epps(src, t1, tokens, t4, implicit, t5, epps, at, t14) {
-        Walk::NextRow(n) => note_kinds(src, t6, 0, unused, t1, tokens, t7, rules, n, t14),
+    match note_epps(src, t1, tokens, t4, implicit, t5, epps, i1, at, t14) {
+        Walk::NextRow(n) => note_kinds(src, t6, 0, unused, t1, tokens, t7, rules, i1, i7, n, t14),
         Walk::Unwritten(f) => Walk::Unwritten(f),
     }
 }
@@ -486,13 +550,16 @@ pub fn note_faults(
     t7: &[u32],
     t8: &[u32],
     t9: &[u32],
+    i1: &[u32],
+    i7: &[u32],
     t14: &mut [u32],
 ) -> Walk
+    requires { ⌜ NamesIndexed (now src) c (now t1) (now t7) (now i1) (now i7) ⌝ }
     ensures { λ q. ⌜ _≡_ {A = Walked} (record { answer = q; cells = now (t14 .exit) }) (noted (faults (now (src .entry)) c g (now (t1 .entry)) (now (t2 .entry)) (now (t4 .entry)) (now (t5 .entry)) (now (t6 .entry)) (now (t7 .entry)) (now (t8 .entry)) (now (t9 .entry))) 0 (now (t14 .entry))) ⌝ }
 {
     let start = g.start;
-    match note_start_rules(src, c, start, t1, t2, t7, t8, t9, t14) {
-        Walk::NextRow(at) => note_epps_unused(src, c, t1, t4, t5, t6, t7, at, t14),
+    match note_start_rules(src, c, start, t1, t2, t7, t8, t9, i1, i7, t14) {
+        Walk::NextRow(at) => note_epps_unused(src, c, t1, t4, t5, t6, t7, i1, i7, at, t14),
         Walk::Unwritten(f) => Walk::Unwritten(f),
     }
 }
@@ -510,11 +577,14 @@ pub fn find_fault(
     t7: &[u32],
     t8: &[u32],
     t9: &[u32],
+    i1: &[u32],
+    i7: &[u32],
 ) -> Validity
+    requires { ⌜ NamesIndexed (now src) c (now t1) (now t7) (now i1) (now i7) ⌝ }
     ensures { λ q. ⌜ q ≡ first (faults (now (src .entry)) c g (now (t1 .entry)) (now (t2 .entry)) (now (t4 .entry)) (now (t5 .entry)) (now (t6 .entry)) (now (t7 .entry)) (now (t8 .entry)) (now (t9 .entry))) ⌝ }
 {
     let mut none = [0u32; 1];
-    match note_faults(src, c, g, t1, t2, t4, t5, t6, t7, t8, t9, &mut none) {
+    match note_faults(src, c, g, t1, t2, t4, t5, t6, t7, t8, t9, i1, i7, &mut none) {
         Walk::NextRow(_) => Validity::Valid,
         Walk::Unwritten(f) => Validity::Invalid(f),
     }
@@ -535,13 +605,15 @@ pub fn validate(
     t8: &[u32],
     t9: &[u32],
     t10: &[u32],
+    i1: &[u32],
+    i7: &[u32],
 ) -> Validity
-    ensures { λ q. ⌜ q ≡ validity (now (src .entry)) c g (record { t1 = now (t1 .entry); t2 = now (t2 .entry); t3 = now (t3 .entry); t4 = now (t4 .entry); t5 = now (t5 .entry); t6 = now (t6 .entry); t7 = now (t7 .entry); t8 = now (t8 .entry); t9 = now (t9 .entry); t10 = now (t10 .entry) }) ⌝ }
+    ensures { λ q. ⌜ q ≡ validity (now (src .entry)) c g (record { t1 = now (t1 .entry); t2 = now (t2 .entry); t3 = now (t3 .entry); t4 = now (t4 .entry); t5 = now (t5 .entry); t6 = now (t6 .entry); t7 = now (t7 .entry); t8 = now (t8 .entry); t9 = now (t9 .entry); t10 = now (t10 .entry) }) (record { tokens = now (i1 .entry); rules = now (i7 .entry) }) ⌝ }
 {
-    if !sound::sound(src, c, g, t1, t2, t3, t4, t5, t6, t7, t8, t9, t10) {
+    if !sound::sound(src, c, g, t1, t2, t3, t4, t5, t6, t7, t8, t9, t10, i1, i7) {
         return Validity::UnsoundTables;
     }
-    find_fault(src, c, g, t1, t2, t4, t5, t6, t7, t8, t9)
+    find_fault(src, c, g, t1, t2, t4, t5, t6, t7, t8, t9, i1, i7)
 }
 
 // All faults, as rows of table 14; 44 comes first, and a refusal leaves zeros.
@@ -559,15 +631,17 @@ pub fn faults(
     t8: &[u32],
     t9: &[u32],
     t10: &[u32],
+    i1: &[u32],
+    i7: &[u32],
     t14: &mut [u32],
 ) -> FaultListing
-    ensures { λ q. ⌜ _≡_ {A = AllFaults} (record { answer = q; cells = now (t14 .exit) }) (faultListing (now (src .entry)) c g (record { t1 = now (t1 .entry); t2 = now (t2 .entry); t3 = now (t3 .entry); t4 = now (t4 .entry); t5 = now (t5 .entry); t6 = now (t6 .entry); t7 = now (t7 .entry); t8 = now (t8 .entry); t9 = now (t9 .entry); t10 = now (t10 .entry) }) (now (t14 .entry))) ⌝ }
+    ensures { λ q. ⌜ _≡_ {A = AllFaults} (record { answer = q; cells = now (t14 .exit) }) (faultListing (now (src .entry)) c g (record { t1 = now (t1 .entry); t2 = now (t2 .entry); t3 = now (t3 .entry); t4 = now (t4 .entry); t5 = now (t5 .entry); t6 = now (t6 .entry); t7 = now (t7 .entry); t8 = now (t8 .entry); t9 = now (t9 .entry); t10 = now (t10 .entry) }) (record { tokens = now (i1 .entry); rules = now (i7 .entry) }) (now (t14 .entry))) ⌝ }
 {
     tables::zero(t14);
-    if !sound::sound(src, c, g, t1, t2, t3, t4, t5, t6, t7, t8, t9, t10) {
+    if !sound::sound(src, c, g, t1, t2, t3, t4, t5, t6, t7, t8, t9, t10, i1, i7) {
         return FaultListing::FaultsUnsound;
     }
-    match note_faults(src, c, g, t1, t2, t4, t5, t6, t7, t8, t9, t14) {
+    match note_faults(src, c, g, t1, t2, t4, t5, t6, t7, t8, t9, i1, i7, t14) {
         Walk::NextRow(n) => FaultListing::Faulted(n),
         Walk::Unwritten(_) => {
             tables::zero(t14);

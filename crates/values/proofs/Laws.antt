@@ -19,7 +19,7 @@ use Rattle.tables.proofs.Rows.{put-zeros}
 use Rattle.tables.proofs.Laws.{put-length}
 use Rattle.grammar.specs.declared.Counts.{Counts}
 use Rattle.grammar.specs.declared.Singles.{Singles}
-use Rattle.grammar.specs.Sound.{Tables}
+use Rattle.grammar.specs.Sound.{Tables, Indexes}
 use Rattle.sound.specs.Test.{countAt, soundTest}
 use Rattle.values.specs.declared.Text.{Text}
 use Rattle.values.specs.declared.Text.the-variants.{TextAt, NoText}
@@ -107,16 +107,16 @@ module _ (src : List ℕ) (t : Text) (out zeros : List ℕ) (z : zeros ≡ zeroe
         rw (e, lt-leb _ _ l, m, room)
 
 -- the value of a row
-module _ (src : List ℕ) (c : Counts) (g : Singles) (T : Tables) (row : ℕ) (out : List ℕ) (b : Bool) (q : b ≡ soundTest src c g T) where
-  pub value-unsound : not b ≡ true → (zeros : List ℕ) → zeros ≡ zeroed out → record { answer = OfUnsoundTables; out = zeros } ≡ eppValue src c g T row out
+module _ (src : List ℕ) (c : Counts) (g : Singles) (T : Tables) (X : Indexes) (row : ℕ) (out : List ℕ) (b : Bool) (q : b ≡ soundTest src c g T X) where
+  pub value-unsound : not b ≡ true → (zeros : List ℕ) → zeros ≡ zeroed out → record { answer = OfUnsoundTables; out = zeros } ≡ eppValue src c g T X row out
   unfolding eppValue
   value-unsound h zeros z = rw (eppValue, ← q, not-true b h, z)
 
   module _ (h : not b ≡ false) (n : ℕ) (k : n ≡ countAt c epps) where
-    pub value-past : n ≤ row → (zeros : List ℕ) → zeros ≡ zeroed out → record { answer = PastCount; out = zeros } ≡ eppValue src c g T row out
+    pub value-past : n ≤ row → (zeros : List ℕ) → zeros ≡ zeroed out → record { answer = PastCount; out = zeros } ≡ eppValue src c g T X row out
     unfolding eppValue
     value-past l zeros z = rw (eppValue, ← q, not-false b h, ← k, le-ltb row n l, z)
 
-    pub value-text : row < n → (t : Text) → t ≡ textAt src (T .t5) row → (o : Valued) → o ≡ textValue t src out → o ≡ eppValue src c g T row out
+    pub value-text : row < n → (t : Text) → t ≡ textAt src (T .t5) row → (o : Valued) → o ≡ textValue t src out → o ≡ eppValue src c g T X row out
     unfolding eppValue
     value-text l t e o f = f ∙ rw (eppValue, ← q, not-false b h, ← k, lt-ltb row n l, e)

@@ -19,7 +19,7 @@ use Rattle.tables.specs.Table.{cell, zeroed}
 use Rattle.tables.specs.Layout.{epps, value, width}
 use Rattle.grammar.specs.declared.Counts.{Counts}
 use Rattle.grammar.specs.declared.Singles.{Singles}
-use Rattle.grammar.specs.Sound.{Tables}
+use Rattle.grammar.specs.Sound.{Tables, Indexes}
 use Rattle.sound.specs.Test.{countAt, soundTest}
 use Rattle.values.specs.declared.Text.{Text}
 use Rattle.values.specs.declared.Text.the-variants.{TextAt, NoText}
@@ -176,7 +176,7 @@ module _ (src : List ℕ) (from to : ℕ) where
   text-string a b (BadEscape k) e = absurd (clash (cc))
   text-string a b (NotClosed k) e = absurd (clash (cc))
 
-module _ (src : List ℕ) (c : Counts) (g : Singles) (T : Tables) (row : ℕ) (out : List ℕ) where
+module _ (src : List ℕ) (c : Counts) (g : Singles) (T : Tables) (X : Indexes) (row : ℕ) (out : List ℕ) where
   abbrev start : ℕ
   start = cell (width epps) (T .t5) row value
 
@@ -184,10 +184,10 @@ module _ (src : List ℕ) (c : Counts) (g : Singles) (T : Tables) (row : ℕ) (o
   end = cell (width epps) (T .t5) row (value + 1)
 
   -- The value that is written is the quoted text without its escapes, with zeros behind it.
-  pub value-is : (n : ℕ) → eppValue src c g T row out .answer ≡ Written n → ValueIs src (T .t5) row out n (eppValue src c g T row out .out)
+  pub value-is : (n : ℕ) → eppValue src c g T X row out .answer ≡ Written n → ValueIs src (T .t5) row out n (eppValue src c g T X row out .out)
   unfolding eppValue textAt
   value-is n =
-      on-test Is (soundTest src c g T) _ _
+      on-test Is (soundTest src c g T X) _ _
       (λ s. on-test Is (ltb row (countAt c epps)) _ _ (λ l. text (textAt src (T .t5) row) refl) (λ l e. absurd (clash (cc))))
       (λ s e. absurd (clash (cc)))
     where
@@ -206,10 +206,10 @@ module _ (src : List ℕ) (c : Counts) (g : Singles) (T : Tables) (row : ℕ) (o
       text NoText e k = absurd (clash (cc))
 
   -- after any other answer the text out is all zeros
-  pub value-refused : ((n : ℕ) → eppValue src c g T row out .answer ≡ Written n → ⊥) → eppValue src c g T row out .out ≡ zeroed out
+  pub value-refused : ((n : ℕ) → eppValue src c g T X row out .answer ≡ Written n → ⊥) → eppValue src c g T X row out .out ≡ zeroed out
   unfolding eppValue
   value-refused =
-      on-test Is (soundTest src c g T) _ _
+      on-test Is (soundTest src c g T X) _ _
       (λ s. on-test Is (ltb row (countAt c epps)) _ _ (λ l. text (textAt src (T .t5) row)) (λ l e. refl))
       (λ s e. refl)
     where
@@ -225,22 +225,22 @@ module _ (src : List ℕ) (c : Counts) (g : Singles) (T : Tables) (row : ℕ) (o
       text NoText f = refl
 
   -- Any two outcomes that the contract allows are equal.
-  pub valued-one : (o p : Valued) → Allowed src c g T row out o → Allowed src c g T row out p → o ≡ p
+  pub valued-one : (o p : Valued) → Allowed src c g T X row out o → Allowed src c g T X row out p → o ≡ p
   valued-one o p e h = e ∙ sym h
 
-  module _ (s : soundTest src c g T ≡ true) (l : row < countAt c epps) where
-    at-string : stringAt src start ≡ Closed end → eppValue src c g T row out ≡ textValue (TextAt (start + 1) (end - 1)) src out
+  module _ (s : soundTest src c g T X ≡ true) (l : row < countAt c epps) where
+    at-string : stringAt src start ≡ Closed end → eppValue src c g T X row out ≡ textValue (TextAt (start + 1) (end - 1)) src out
     at-string e =
-        sym (value-text src c g T row out true (sym s) refl _ refl l _ (text-whole src (T .t5) row start end refl refl _ refl end e refl) _ refl)
+        sym (value-text src c g T X row out true (sym s) refl _ refl l _ (text-whole src (T .t5) row start end refl refl _ refl end e refl) _ refl)
 
     -- Where a string stands at a row's value, and there is room for what it spells, that is written.
-    pub value-there : (v : List ℕ) → ValueAt src (T .t5) row v → length v ≤ length out → eppValue src c g T row out ≡ record { answer = Written (length v); out = v ++ replicate (length out - length v) 0 }
+    pub value-there : (v : List ℕ) → ValueAt src (T .t5) row v → length v ≤ length out → eppValue src c g T X row out ≡ record { answer = Written (length v); out = v ++ replicate (length out - length v) 0 }
     value-there v x h =
         let p : plain (slice (start + 1) (end - 1) src) ≡ v = sym (spells-plain (x .spells)) in
         at-string (spells-string src start end v x) ∙ rw (p, le-leb (length v) (length out) h)
 
     -- A value whose place is that of a string is never refused as unsound.
-    pub value-not-44 : stringAt src start ≡ Closed end → getD (valuationNumbers (eppValue src c g T row out .answer)) 0 0 ≡ 44 → ⊥
+    pub value-not-44 : stringAt src start ≡ Closed end → getD (valuationNumbers (eppValue src c g T X row out .answer)) 0 0 ≡ 44 → ⊥
     value-not-44 e k = fits v (leb (length v) (length out)) (rw (at-string e) at k)
       where
         v : List ℕ

@@ -15,7 +15,7 @@ use Rattle.tables.specs.Table.{cell, zeroed, put}
 use Rattle.tables.specs.Layout.{epps, value, width}
 use Rattle.grammar.specs.declared.Counts.{Counts}
 use Rattle.grammar.specs.declared.Singles.{Singles}
-use Rattle.grammar.specs.Sound.{Tables}
+use Rattle.grammar.specs.Sound.{Tables, Indexes}
 use Rattle.sound.specs.Test.{countAt, soundTest}
 use Rattle.values.specs.declared.Text.{Text}
 use Rattle.values.specs.declared.Text.the-variants.{TextAt, NoText}
@@ -99,9 +99,9 @@ textValue (TextAt a b) src out = fitted (leb (length (plain (slice a b src))) (l
 textValue NoText src out = refusedValue NotString out
 
 -- "The report and the `%epp` value give 44, [..] then 42 [..] for its output"
-unfoldable pub eppValue : List ℕ → Counts → Singles → Tables → ℕ → List ℕ → Valued
-eppValue src c g T row out =
-    elim (soundTest src c g T) [
+unfoldable pub eppValue : List ℕ → Counts → Singles → Tables → Indexes → ℕ → List ℕ → Valued
+eppValue src c g T X row out =
+    elim (soundTest src c g T X) [
       | true ↦ elim (ltb row (countAt c epps)) [ true ↦ textValue (textAt src (T .t5) row) src out | false ↦ refusedValue PastCount out ]
       | false ↦ refusedValue OfUnsoundTables out
     ]

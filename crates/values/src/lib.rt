@@ -121,12 +121,14 @@ pub fn epp_value(
     t8: &[u32],
     t9: &[u32],
     t10: &[u32],
+    i1: &[u32],
+    i7: &[u32],
     row: u32,
     out: &mut [u8],
 ) -> Valuation
-    ensures { λ r. ⌜ _≡_ {A = Valued} (record { answer = r; out = now (out .exit) }) (eppValue (now (src .entry)) c g (record { t1 = now (t1 .entry); t2 = now (t2 .entry); t3 = now (t3 .entry); t4 = now (t4 .entry); t5 = now (t5 .entry); t6 = now (t6 .entry); t7 = now (t7 .entry); t8 = now (t8 .entry); t9 = now (t9 .entry); t10 = now (t10 .entry) }) row (now (out .entry))) ⌝ }
+    ensures { λ r. ⌜ _≡_ {A = Valued} (record { answer = r; out = now (out .exit) }) (eppValue (now (src .entry)) c g (record { t1 = now (t1 .entry); t2 = now (t2 .entry); t3 = now (t3 .entry); t4 = now (t4 .entry); t5 = now (t5 .entry); t6 = now (t6 .entry); t7 = now (t7 .entry); t8 = now (t8 .entry); t9 = now (t9 .entry); t10 = now (t10 .entry) }) (record { tokens = now (i1 .entry); rules = now (i7 .entry) }) row (now (out .entry))) ⌝ }
 {
-    if !sound::sound(src, c, g, t1, t2, t3, t4, t5, t6, t7, t8, t9, t10) {
+    if !sound::sound(src, c, g, t1, t2, t3, t4, t5, t6, t7, t8, t9, t10, i1, i7) {
         zero(out);
         return Valuation::OfUnsoundTables;
     }

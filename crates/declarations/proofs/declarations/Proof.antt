@@ -13,8 +13,8 @@ enum-known-i c = search needs
 
 declaration-run-requires : tie.Need-declaration-run-requires
 declaration-run-requires c κs =
-    let g = c .before .before .before .before .before .before .before .before .before .before in
-    passed-here _ _ _ (g .before .before .before .before .before .before .before .before .before .pre) (gap-passed _ _ _ _ _ (g .pass-gap .ensures .1) (c .before .before .before .before .before .before .before .before .i .given .1))
+    let g = c .before .before .before .before .before .before .before .before .before .before .before in
+    (passed-here _ _ _ (g .before .before .before .before .before .before .before .before .before .before .pre .0) (gap-passed _ _ _ _ _ (g .pass-gap .ensures .1) (c .before .before .before .before .before .before .before .before .before .i .given .1)), c .before .before .before .before .before .before .before .before .before .before .before .before .before .before .before .before .before .before .before .before .before .pre .1)
 
 enum-known-f : tie.Need-enum-known-f
 enum-known-f c = search needs
@@ -40,17 +40,20 @@ same-length-6 c = search needs
 same-length-7 : tie.Need-same-length-7
 same-length-7 c = search needs
 
+same-length-8 : tie.Need-same-length-8
+same-length-8 c = search needs
+
 returns : tie.Need-returns
 returns c =
-    let o = c .before .before .before .before .before .before .before .before .before .before .before .before .before .before in
-    let g = o .before .before .before .before .before .before .before .before .before .before .before in
-    let e = o .before .before .before .before .before .before .before .before .before .i .given .1 in
-    (all-from _ _ _ _ _ (g .pass-gap .ensures .0) _ _ _ e (o .declaration-run .ensures .0), passed-on _ _ _ _ (gap-passed _ _ _ _ _ (g .pass-gap .ensures .1) e) (o .declaration-run .ensures .1))
+    let o = c .before .before .before .before .before .before .before .before .before .before .before .before .before .before .before .before in
+    let g = o .before .before .before .before .before .before .before .before .before .before .before .before in
+    let e = o .before .before .before .before .before .before .before .before .before .before .i .given .1 in
+    (all-from _ _ _ _ _ (g .pass-gap .ensures .0) _ _ _ e (o .declaration-run .ensures .0), (passed-on _ _ _ _ (gap-passed _ _ _ _ _ (g .pass-gap .ensures .1) e) (o .declaration-run .ensures .1 .0), o .declaration-run .ensures .1 .1))
 
 returns-2 : tie.Need-returns-2
 returns-2 c =
     let g = c .before .before .before in
-    (all-refused _ _ _ _ _ (g .pass-gap .ensures .0) _ (c .before .f .given .1), still _ _ (g .before .before .before .before .before .before .before .before .before .pre))
+    (all-refused _ _ _ _ _ (g .pass-gap .ensures .0) _ (c .before .f .given .1), (still _ _ (g .before .before .before .before .before .before .before .before .before .before .pre .0), c .before .before .before .before .before .before .before .before .before .before .before .before .before .pre .1))
 
 pub declarations-spec : {M : Type 1} → statement M
 declarations-spec =
@@ -67,5 +70,6 @@ declarations-spec =
     same-length-5
     same-length-6
     same-length-7
+    same-length-8
     returns
     returns-2)

@@ -7,24 +7,24 @@ use Rattle.items.proofs.prec_item.Tie as tie
 
 here : tie.Need-prec-name-requires
 here c κs =
-    let k = c .before .before in
+    let k = c .before .before .before in
     let g = k .before .before in
-    passed-here _ _ _ (g .before .before .before .pre) (gap-passed _ _ _ _ _ (g .pass-gap .ensures .1) (k .i .given .1))
+    (passed-here _ _ _ (g .before .before .before .before .pre .0) (gap-passed _ _ _ _ _ (g .pass-gap .ensures .1) (k .i .given .1)), c .before .before .before .before .before .before .before .before .before .pre .1)
 
 spaced : tie.Need-returns
 spaced c =
-    let p = c .before .before in
-    let k = p .before .before .before in
+    let p = c .before .before .before .before in
+    let k = p .before .before .before .before in
     let g = k .before .before in
     let e = k .i .given .1 in (
       prec-spaced _ _ _ _ _ (g .pass-gap .ensures .0) _ _ _ e (p .prec-name .ensures .0),
-      passed-on _ _ _ _ (gap-passed _ _ _ _ _ (g .pass-gap .ensures .1) e) (p .prec-name .ensures .1),
+      (passed-on _ _ _ _ (gap-passed _ _ _ _ _ (g .pass-gap .ensures .1) e) (p .prec-name .ensures .1 .0), p .prec-name .ensures .1 .1),
     )
 
 refused : tie.Need-returns-2
 refused c =
     let g = c .before .before .before in
-    (prec-gap _ _ _ _ _ (g .pass-gap .ensures .0) _ (c .before .f .given .1), still _ _ (g .before .before .before .pre))
+    (prec-gap _ _ _ _ _ (g .pass-gap .ensures .0) _ (c .before .f .given .1), (still _ _ (g .before .before .before .before .pre .0), c .before .before .before .before .before .before .before .pre .1))
 
 pub prec-item-spec : {M : Type 1} → statement M
 prec-item-spec =
@@ -33,6 +33,7 @@ prec-item-spec =
     (λ c κs. search needs)
     (λ c. search needs)
     here
+    (λ c. search needs)
     (λ c. search needs)
     (λ c. search needs)
     spaced

@@ -23,7 +23,7 @@ pub symbol-kind-spec : {M : Type 1} → statement M
 symbol-kind-spec =
     tie.close
     (tie.spec
-    (λ c κs. search needs)
+    (λ c κs. c .before .before .before .pre)
     (λ c. search needs)
     (λ c κs. search needs)
     (λ c. search needs)

@@ -9,27 +9,28 @@ use Rattle.lines.proofs.avoid_decl.Statement.{statement}
 use Rattle.lines.proofs.avoid_decl.Tie as tie
 
 ended : tie.Need-returns
-ended c = (avoid-end _ _ _ _ _ _ _ (c .if1 .taken), record { onward = omega arith; inside = c .before .before .before .before .before .pre .within })
+ended c = (avoid-end _ _ _ _ _ _ _ (c .if1 .taken), (record { onward = omega arith; inside = c .before .before .before .before .before .before .pre .0 .within }, c .before .before .before .before .before .before .pre .1))
 
 here : tie.Need-avoid-list-requires
 here c κs =
-    let k = c .before .before .before .before in
+    let k = c .before .before .before .before .before in
     let g = k .before .before in
     let h = told (Gapped _ _) (k .i .given .1) (g .pass-gap .ensures .1) in
-    record { within = h .1; short = g .before .before .before .before .before .before .pre .short }
+    let x = c .before .before .before .before .before .before .before .before .before .before .before .before .before .before .pre in
+    (record { within = h .1; short = x .0 .short }, x .1, x .2)
 
 line : tie.Need-returns-2
 line c =
-    let p = c .before .before .before .before .before .before in
-    let k = p .before .before .before .before .before in
+    let p = c .before .before .before .before .before .before .before .before in
+    let k = p .before .before .before .before .before .before in
     let g = k .before .before in
     let e = k .i .given .1 in
-    (avoid-line _ _ _ _ _ _ _ (g .before .if1 .left) _ (g .pass-gap .ensures .0) _ _ _ e (p .avoid-list .ensures .0), passed-on _ _ _ _ (gap-passed _ _ _ _ _ (g .pass-gap .ensures .1) e) (p .avoid-list .ensures .1))
+    (avoid-line _ _ _ _ _ _ _ (g .before .if1 .left) _ (g .pass-gap .ensures .0) _ _ _ e (p .avoid-list .ensures .0), (passed-on _ _ _ _ (gap-passed _ _ _ _ _ (g .pass-gap .ensures .1) e) (p .avoid-list .ensures .1 .0), p .avoid-list .ensures .1 .1))
 
 refused : tie.Need-returns-3
 refused c =
     let g = c .before .before .before in
-    (avoid-gap _ _ _ _ _ _ _ (g .before .if1 .left) _ (g .pass-gap .ensures .0) _ (c .before .f .given .1), record { onward = omega arith; inside = g .before .before .before .before .before .before .pre .within })
+    (avoid-gap _ _ _ _ _ _ _ (g .before .if1 .left) _ (g .pass-gap .ensures .0) _ (c .before .f .given .1), (record { onward = omega arith; inside = g .before .before .before .before .before .before .before .pre .0 .within }, c .before .before .before .before .before .before .before .before .before .before .pre .1))
 
 pub avoid-decl-spec : {M : Type 1} → statement M
 avoid-decl-spec =
@@ -39,6 +40,7 @@ avoid-decl-spec =
     (λ c κs. search needs)
     (λ c. search needs)
     here
+    (λ c. search needs)
     (λ c. search needs)
     (λ c. search needs)
     (λ c. search needs)

@@ -11,7 +11,7 @@ name-spec =
     (tie.spec
     (λ c κs. search needs)
     (λ c κs. search needs)
-    (λ c. name-unsound _ _ _ _ _ _ _ (c .before .before .sound .ensures) _ (not-true _ (c .before .if1 .taken)) (c .part .ensures))
+    (λ c. name-unsound _ _ _ _ _ _ _ _ (c .before .before .sound .ensures) _ (not-true _ (c .before .if1 .taken)) (c .part .ensures))
     (λ c κs. search needs)
     (λ c κs. search needs)
-    (λ c. name-is _ _ _ _ _ _ _ (c .before .before .before .sound .ensures) _ (not-false _ (c .before .before .if1 .left)) _ (c .before .name-place .ensures) (c .part2 .ensures)))
+    (λ c. name-is _ _ _ _ _ _ _ _ (c .before .before .before .sound .ensures) _ (not-false _ (c .before .before .if1 .left)) _ (c .before .name-place .ensures) (c .part2 .ensures)))

@@ -20,4 +20,6 @@ quiltrudder-read-spec =
     (λ c. search needs)
     (λ c. search needs)
     (λ c. search needs)
-    (λ c. face-read _ _ _ _ _ (c .reading-cells .ensures) (c .before .before .before .before .before .before .before .before .before .before .before .before .before .before .before .before .before .before .before .before .before .before .before .read .ensures)))
+    (λ c. search needs)
+    (λ c. search needs)
+    (λ c. face-read _ _ _ _ _ _ (c .reading-cells .ensures) (c .before .before .before .before .before .before .before .before .before .before .before .before .before .before .before .before .before .before .before .before .before .before .before .before .before .before .before .read .ensures)))

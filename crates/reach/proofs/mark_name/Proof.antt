@@ -10,17 +10,17 @@ use Rattle.reach.proofs.mark_name.Tie as tie
 -- the row's bit lies in the words
 inside : tie.Need-mark-requires
 inside c κs =
-    let a = c .before .before .before .before .before .before .before .before .before .args in
-    omega (arith, c .before .before .before .before .before .before .before .before .before .pre .0 .inside, name-calls (now (a .src)) (named (now (a .names)) (a .z)) (a .a) (a .b) _ (c .before .before .before .before .before .find .ensures) _ (c .before .before .before .row .given .1) .inside)
+    let a = c .before .before .before .before .before .before .before .before .before .before .args in
+    omega (arith, c .before .before .before .before .before .before .before .before .before .before .pre .0 .inside, name-calls (now (a .src)) (named (now (a .names)) (a .z)) (a .a) (a .b) _ (c .before .before .before .before .before .find .ensures) _ (c .before .before .before .row .given .1) .inside)
 
 found : tie.Need-returns
 found c =
-    let a = c .before .before .before .before .before .before .before .before .before .before .before .before .args in
-    mark-found (now (a .src)) (named (now (a .names)) (a .z)) (a .a) (a .b) _ (c .before .before .before .before .before .before .before .before .find .ensures) _ _ _ _ (c .before .before .before .before .before .before .before .before .before .before .before .before .pre .1) (c .before .before .before .before .before .before .row .given .1) (c .before .before .mark .ensures)
+    let a = c .before .before .before .before .before .before .before .before .before .before .before .before .before .args in
+    mark-found (now (a .src)) (named (now (a .names)) (a .z)) (a .a) (a .b) _ (c .before .before .before .before .before .before .before .before .find .ensures) _ _ _ _ (c .before .before .before .before .before .before .before .before .before .before .before .before .before .pre .1) (c .before .before .before .before .before .before .row .given .1) (c .before .before .mark .ensures)
 
 unfound : tie.Need-returns-2
 unfound c =
-    let a = c .before .before .before .before .before .before .args in
+    let a = c .before .before .before .before .before .before .before .args in
     mark-unfound (now (a .src)) (named (now (a .names)) (a .z)) (a .a) (a .b) _ (c .before .before .find .ensures) _ (c .enum-told .given .1)
 
 pub mark-name-spec : {M : Type 1} → statement M

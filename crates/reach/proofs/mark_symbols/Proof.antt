@@ -9,20 +9,20 @@ use Rattle.reach.proofs.mark_symbols.Statement.{statement}
 use Rattle.reach.proofs.mark_symbols.Tie as tie
 
 abbrev Inv-loop : tie.InvT-loop
-Inv-loop w₀ src names z syms from to changed₀ s₀ w changed s = (from ≤ s) × (from < s → s ≤ to) × Added (Among src syms (named names z) from s) w₀ w changed
+Inv-loop w₀ src names ix z syms from to changed₀ s₀ w changed s = (from ≤ s) × (from < s → s ≤ to) × Added (Among src syms (named names z) from s) w₀ w changed
 
 abbrev μ-loop : tie.MeasureT-loop
-μ-loop w₀ src names z syms from to changed₀ s₀ w changed s = to - s
+μ-loop w₀ src names ix z syms from to changed₀ s₀ w changed s = to - s
 
 begin : tie.Need-loop-holds Inv-loop μ-loop
 begin c = (omega arith, λ h. omega arith, among-none _ _ _ _ _ _ (omega arith))
 
 ready : tie.Need-mark-symbol-requires Inv-loop μ-loop
-ready c κs = (fits-on _ (now (c .before .before .before .before .before .before .before .args .w)) _ (c .before .before .loop .inv .2 .adds .size) (c .before .before .before .before .before .before .before .pre .0), c .before .before .before .before .before .before .before .pre .1)
+ready c κs = (fits-on _ (now (c .before .before .before .before .before .before .before .before .args .w)) _ (c .before .before .loop .inv .2 .adds .size) (c .before .before .before .before .before .before .before .before .pre .0), c .before .before .before .before .before .before .before .before .pre .1, c .before .before .before .before .before .before .before .before .pre .2)
 
 again : tie.Need-loop-again Inv-loop μ-loop
 again c =
-    let a = c .before .before .before .before .before .before .before .before .before .before .before .args in
+    let a = c .before .before .before .before .before .before .before .before .before .before .before .before .args in
     let l = c .before .before .before .before .before .before .loop in (
       omega arith,
       λ h. omega arith,

@@ -11,30 +11,30 @@ use Rattle.reach.proofs.mark_tokens.Statement.{statement}
 use Rattle.reach.proofs.mark_tokens.Tie as tie
 
 abbrev Inv-loop : tie.InvT-loop
-Inv-loop w₀ src c tokens prods syms z n p₀ w p = (p ≤ n) × TokensTo (net src c prods syms) (named tokens (tokenSort c)) p w₀ w
+Inv-loop w₀ src c tokens ix prods syms z n p₀ w p = (p ≤ n) × TokensTo (net src c prods syms) (named tokens (tokenSort c)) p w₀ w
 
 abbrev μ-loop : tie.MeasureT-loop
-μ-loop w₀ src c tokens prods syms z n p₀ w p = n - p
+μ-loop w₀ src c tokens ix prods syms z n p₀ w p = n - p
 
 begin : tie.Need-loop-holds Inv-loop μ-loop
 begin c = (omega arith, tokens-none _ _ _)
 
 ready : tie.Need-mark-production-requires Inv-loop μ-loop
-ready c κs = rw (c .before .before .before .before .token-sort .ensures) (fits-on _ (now (c .before .before .before .before .before .before .before .before .before .before .args .w)) _ (c .before .before .loop .inv .1 .size) (c .before .before .before .before .before .before .before .before .before .before .pre .0), c .before .before .before .before .before .before .before .before .before .before .pre .1)
+ready c κs = rw (c .before .before .before .before .token-sort .ensures) (fits-on _ (now (c .before .before .before .before .before .before .before .before .before .before .before .args .w)) _ (c .before .before .loop .inv .1 .size) (c .before .before .before .before .before .before .before .before .before .before .before .pre .0), c .before .before .before .before .before .before .before .before .before .before .before .pre .1, c .before .before .before .before .before .before .before .before .before .before .before .pre .3)
 
 prec-ready : tie.Need-mark-prec-requires Inv-loop μ-loop
 prec-ready c κs =
     let e = c .before .before .before .before .before .before .before .before .token-sort .ensures in
     let q = rw e at (c .before .before .before .mark-production .ensures) in
-    rw e (fits-on _ (now (c .before .before .before .before .before .before .before .before .before .before .before .before .before .before .args .w)) _ (q .adds .size ∙ c .before .before .before .before .before .before .loop .inv .1 .size) (c .before .before .before .before .before .before .before .before .before .before .before .before .before .before .pre .0), c .before .before .before .before .before .before .before .before .before .before .before .before .before .before .pre .1)
+    rw e (fits-on _ (now (c .before .before .before .before .before .before .before .before .before .before .before .before .before .before .before .args .w)) _ (q .adds .size ∙ c .before .before .before .before .before .before .loop .inv .1 .size) (c .before .before .before .before .before .before .before .before .before .before .before .before .before .before .before .pre .0), c .before .before .before .before .before .before .before .before .before .before .before .before .before .before .before .pre .1, c .before .before .before .before .before .before .before .before .before .before .before .before .before .before .before .pre .3)
 
 again : tie.Need-loop-again Inv-loop μ-loop
 again c =
-    let a = c .before .before .before .before .before .before .before .before .before .before .before .before .before .before .before .before .before .args in
+    let a = c .before .before .before .before .before .before .before .before .before .before .before .before .before .before .before .before .before .before .args in
     let l = c .before .before .before .before .before .before .before .before .before .loop in
     let e = c .before .before .before .before .before .before .before .before .before .before .before .token-sort .ensures in (
       omega arith,
-      tokens-more (net (now (a .src)) (a .c) (now (a .prods)) (now (a .syms))) (named (now (a .tokens)) (tokenSort (a .c))) (ruleSort (a .c) .count) (omega arith) (c .before .before .before .before .before .before .before .before .before .before .before .before .before .before .before .before .before .pre .2) (l .p) (now (a .w)) (l .w) _ _ _ _
+      tokens-more (net (now (a .src)) (a .c) (now (a .prods)) (now (a .syms))) (named (now (a .tokens)) (tokenSort (a .c))) (ruleSort (a .c) .count) (omega arith) (c .before .before .before .before .before .before .before .before .before .before .before .before .before .before .before .before .before .before .pre .2) (l .p) (now (a .w)) (l .w) _ _ _ _
           (rw (c .before .before .before .before .before .before .before .before .before .before .rows-of .ensures) at (c .before .before .before .before .before .before .before .before .loop-test .taken)) (l .inv .1) (rw e at (c .before .before .before .before .before .before .mark-production .ensures)) (rw e at (c .before .before .mark-prec .ensures)),
     )
 

@@ -10,9 +10,14 @@ use Rattle.reach.proofs.Works.{works}
 use Rattle.reach.proofs.mark_used.Statement.{statement}
 use Rattle.reach.proofs.mark_used.Tie as tie
 
+tokens-ready : tie.Need-mark-tokens-requires
+tokens-ready c κs =
+    let given = c .before .before .before .before .before .before .before .before .before .before .before .before .before .before .before .before .before .before .before .before .before .before .before .before .before .before .pre in
+    (search needs, given .0 .tokens-apart, given .0 .owned, given .1)
+
 used : tie.Need-returns-2
 used c =
-    let a = c .before .before .before .before .before .before .before .before .before .before .before .before .before .before .before .before .before .before .before .before .before .before .before .before .before .before .before .args in
+    let a = c .before .before .before .before .before .before .before .before .before .before .before .before .before .before .before .before .before .before .before .before .before .before .before .before .before .before .before .before .before .args in
     let z = c .before .before .before .before .before .before .before .before .before .before .before .before .before .before .before .before .before .before .before .zero in
     let m = c .before .before .before .before .before .before .before .before .before .before .mark-start in
     let s = c .before .before .before .before .before .before .spread in
@@ -38,6 +43,6 @@ mark-used-spec =
     (λ c. search needs)
     (λ c κs. search needs)
     (λ c κs. search needs)
-    (λ c κs. search needs)
+    tokens-ready
     (λ c. search needs)
     used)

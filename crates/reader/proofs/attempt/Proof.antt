@@ -1,34 +1,33 @@
 -- `reader::attempt` meets its contract. Assumes nothing.
-use Rattle.reader.proofs.Laws.{fit-here, fit-near, begun-near, attempt-fit, attempt-unfit}
+use Rattle.reader.proofs.Laws.{fit-here, fit-near, begun-near, begun-tracked, attempt-fit, attempt-unfit}
 use Rattle.reader.proofs.attempt.Statement.{statement}
 use Rattle.reader.proofs.attempt.Tie as tie
 
 -- the call of the sections
-abbrev sectioned : tie.After-slice-known20 → tie.After-sections
-sectioned c = c .before .before .before .before .before .before .before .before .before .before .before .before .before .before .before .before .before .before .before .before
+abbrev sectioned : tie.After-slice-known24 → tie.After-sections
+sectioned c = c .before .before .before .before .before .before .before .before .before .before .before .before .before .before .before .before .before .before .before .before .before .before .before .before
 
 here : tie.Need-sections-requires
-here c κs =
-    let k = c .before .before .before .before .before .before .before .before .before .before in
-    let a = k .before .before in
-    fit-here _ _ (a .admit .ensures .1) (k .enum-told .given .1) _ (a .before .begin .ensures)
+here c κs = (fit-here _ _ (c .before .before .before .before .before .before .before .before .before .before .before .before .before .before .admit .ensures .1) (c .before .before .before .before .before .before .before .before .before .before .before .before .enum-told .given .1) _ (c .before .before .before .before .before .before .before .before .before .before .before .before .before .before .before .before .begin .ensures), begun-tracked _ 0 3 0 _ _ _ (c .before .before .before .before .before .before .before .before .before .before .before .before .before .before .before .before .begin .ensures) (c .before .before .before .before .before .before .before .before .before .before .before .before .before .before .before .before .before .before .before .before .before .before .before .before .before .before .before .before .before .before .pre .0), begun-tracked _ 6 5 0 _ _ _ (c .before .before .before .before .before .before .before .before .before .before .before .before .before .before .before .before .begin .ensures) (c .before .before .before .before .before .before .before .before .before .before .before .before .before .before .before .before .before .before .before .before .before .before .before .before .before .before .before .before .before .before .pre .1))
 
 fit : tie.Need-returns
 fit c =
-    let r = sectioned c in
-    let k = r .before .before .before .before .before .before .before .before .before .before .before in
-    let a = k .before .before in
-    (attempt-fit _ _ _ _ (a .before .begin .ensures) _ (a .admit .ensures .0) _ (k .enum-told .given .1) (r .sections .ensures .0), fit-near _ _ (a .admit .ensures .1) (k .enum-told .given .1) _ _ (r .sections .ensures .1))
+    let r = sectioned c in (
+      attempt-fit _ _ _ _ (c .before .before .before .before .before .before .before .before .before .before .before .before .before .before .before .before .before .before .before .before .before .before .before .before .before .before .before .before .before .before .before .before .before .before .before .before .before .before .before .before .before .begin .ensures) _ _ (c .before .before .before .before .before .before .before .before .before .before .before .before .before .before .before .before .before .before .before .before .before .before .before .before .before .before .before .before .before .before .before .before .before .before .before .before .before .before .before .before .sizes-fit .ensures) _ (c .before .before .before .before .before .before .before .before .before .before .before .before .before .before .before .before .before .before .before .before .before .before .before .before .before .before .before .before .before .before .before .before .before .before .before .before .before .before .before .admit .ensures .0) _ (c .before .before .before .before .before .before .before .before .before .before .before .before .before .before .before .before .before .before .before .before .before .before .before .before .before .before .before .before .before .before .before .before .before .before .before .before .before .enum-told .given .1) (r .sections .ensures .0),
+      (fit-near _ _ (c .before .before .before .before .before .before .before .before .before .before .before .before .before .before .before .before .before .before .before .before .before .before .before .before .before .before .before .before .before .before .before .before .before .before .before .before .before .before .before .admit .ensures .1) (c .before .before .before .before .before .before .before .before .before .before .before .before .before .before .before .before .before .before .before .before .before .before .before .before .before .before .before .before .before .before .before .before .before .before .before .before .before .enum-told .given .1) _ _ (r .sections .ensures .1 .0), r .sections .ensures .1 .1),
+    )
 
 unfit : tie.Need-returns-2
-unfit c =
-    let a = c .before .before .before in
-    (attempt-unfit _ _ _ _ (a .before .begin .ensures) _ (a .admit .ensures .0) _ (c .before .a .given .1), begun-near _ (a .before .begin .ensures))
+unfit c = (
+  attempt-unfit _ _ _ _ (c .before .before .before .before .before .begin .ensures) _ _ (c .before .before .before .before .sizes-fit .ensures) _ (c .before .before .before .admit .ensures .0) _ (c .before .a .given .1),
+  (begun-near _ (c .before .before .before .before .before .begin .ensures), (begun-tracked _ 0 3 0 _ _ _ (c .before .before .before .before .before .begin .ensures) (c .before .before .before .before .before .before .before .before .before .before .before .before .before .before .before .before .before .before .before .pre .0), begun-tracked _ 6 5 0 _ _ _ (c .before .before .before .before .before .begin .ensures) (c .before .before .before .before .before .before .before .before .before .before .before .before .before .before .before .before .before .before .before .pre .1))),
+)
 
 pub attempt-spec : {M : Type 1} → statement M
 attempt-spec =
     tie.close
     (tie.spec
+    (λ c κs. tt)
     (λ c κs. tt)
     (λ c κs. tt)
     (λ c. c .match .keys1)
@@ -44,5 +43,7 @@ attempt-spec =
     (λ c. sectioned c .sections .kept .1 .1 .1 .1 .1 .1 .1 .1 .1 .1 .0)
     (λ c. sectioned c .sections .kept .1 .1 .1 .1 .1 .1 .1 .1 .1 .1 .1 .0)
     (λ c. sectioned c .sections .kept .1 .1 .1 .1 .1 .1 .1 .1 .1 .1 .1 .1 .0)
+    (λ c. sectioned c .sections .kept .1 .1 .1 .1 .1 .1 .1 .1 .1 .1 .1 .1 .1 .0)
+    (λ c. sectioned c .sections .kept .1 .1 .1 .1 .1 .1 .1 .1 .1 .1 .1 .1 .1 .1 .0)
     fit
     unfit)

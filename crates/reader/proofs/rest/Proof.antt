@@ -1,23 +1,32 @@
 -- `reader::rest` meets its contract: rules, then programs. Assumes nothing.
 use Rattle.grammar.proofs.Steps.{passed-here, passed-on}
 use Rattle.reader.proofs.Laws.{rest-going, rest-done, rest-refused}
+use Rattle.reader.proofs.Spares.{by-programs}
 use Rattle.reader.proofs.rest.Statement.{statement}
 use Rattle.reader.proofs.rest.Tie as tie
 
--- the call of the rules
+-- the call of the rules, and where the function begins
 abbrev ruled : tie.After-n → tie.After-rules
-ruled c = c .before .before .before .before .before .before .before .before .before
+ruled c = c .before .before .before .before .before .before .before .before .before .before .before .before .before
+
+abbrev begun : tie.After-rules → tie.Start
+begun c = c .before .before .before .before .before .before .before .before .before .before .before .before .before .before
 
 here : tie.Need-programs-requires
 here c κs =
     let r = ruled (c .before .before) in
-    passed-here _ _ _ (r .before .before .before .before .before .before .before .before .before .before .pre) (r .rules .ensures .1)
+    passed-here _ _ _ (begun r .pre .0) (r .rules .ensures .1 .0)
 
 going : tie.Need-returns
 going c =
     let k = c .before in
-    let r = ruled (k .before .before) in
-    (rest-going _ _ _ _ _ _ _ _ (r .rules .ensures .0) _ (k .enum-told .given .1) (c .programs .ensures .0), passed-on _ _ _ _ (r .rules .ensures .1) (c .programs .ensures .1))
+    let r = ruled (c .before .before .before) in (
+      rest-going _ _ _ _ _ _ _ _ (r .rules .ensures .0) _ (k .enum-told .given .1) (c .programs .ensures .0),
+      (
+        passed-on _ _ _ _ (r .rules .ensures .1 .0) (c .programs .ensures .1),
+        (by-programs _ _ _ _ _ _ 0 3 0 (c .programs .ensures .0) (r .rules .ensures .1 .1 .0), by-programs _ _ _ _ _ _ 6 5 0 (c .programs .ensures .0) (r .rules .ensures .1 .1 .1)),
+      ),
+    )
 
 done : tie.Need-returns-2
 done c =
@@ -33,7 +42,7 @@ pub rest-spec : {M : Type 1} → statement M
 rest-spec =
     tie.close
     (tie.spec
-    (λ c κs. c .before .before .before .before .before .before .before .before .before .pre)
+    (λ c κs. c .before .before .before .before .before .before .before .before .before .before .before .before .before .pre)
     (λ c. c .match .keys1)
     here
     (λ c. c .match .keys2)
@@ -42,14 +51,20 @@ rest-spec =
     (λ c. ruled (c .before .before .before) .rules .kept .1 .1 .1 .1 .0)
     (λ c. ruled (c .before .before .before) .rules .kept .1 .1 .1 .1 .1 .0)
     (λ c. ruled (c .before .before .before) .rules .kept .1 .1 .1 .1 .1 .1 .0)
+    (λ c. ruled (c .before .before .before) .rules .kept .1 .1 .1 .1 .1 .1 .1 .0)
+    (λ c. ruled (c .before .before .before) .rules .kept .1 .1 .1 .1 .1 .1 .1 .1 .0)
     going
     (λ c. ruled (c .before .before) .rules .kept .1 .1 .1 .0)
     (λ c. ruled (c .before .before) .rules .kept .1 .1 .1 .1 .0)
     (λ c. ruled (c .before .before) .rules .kept .1 .1 .1 .1 .1 .0)
     (λ c. ruled (c .before .before) .rules .kept .1 .1 .1 .1 .1 .1 .0)
+    (λ c. ruled (c .before .before) .rules .kept .1 .1 .1 .1 .1 .1 .1 .0)
+    (λ c. ruled (c .before .before) .rules .kept .1 .1 .1 .1 .1 .1 .1 .1 .0)
     done
     (λ c. ruled (c .before .before .before) .rules .kept .1 .1 .1 .0)
     (λ c. ruled (c .before .before .before) .rules .kept .1 .1 .1 .1 .0)
     (λ c. ruled (c .before .before .before) .rules .kept .1 .1 .1 .1 .1 .0)
     (λ c. ruled (c .before .before .before) .rules .kept .1 .1 .1 .1 .1 .1 .0)
+    (λ c. ruled (c .before .before .before) .rules .kept .1 .1 .1 .1 .1 .1 .1 .0)
+    (λ c. ruled (c .before .before .before) .rules .kept .1 .1 .1 .1 .1 .1 .1 .1 .0)
     refused)

@@ -4,16 +4,17 @@ use mathlib.Core.Path.{_≡_}
 use mathlib.Core.Bool.{true}
 use native.Mathlib.Omega.{arith}
 use borrow.Author.Needs.{needs}
-use Rattle.sound.specs.Test.{below, freshTest}
-use Rattle.sound.proofs.Laws.{below-none, below-on, below-not, below-all}
+use Rattle.tables.specs.Below.{below}
+use Rattle.tables.proofs.Below.{below-none, below-on, below-not, below-all}
+use Rattle.index.specs.Index.{freshName}
 use Rattle.sound.proofs.names_differ.Statement.{statement}
 use Rattle.sound.proofs.names_differ.Tie as tie
 
 abbrev Inv-loop : tie.InvT-loop
-Inv-loop src t w n r₀ r = (r ≤ n) × (below r (freshTest src w t) ≡ true)
+Inv-loop src t w n ix r₀ r = (r ≤ n) × (below r (freshName src w 0 t) ≡ true)
 
 abbrev μ-loop : tie.MeasureT-loop
-μ-loop src t w n r₀ r = n - r
+μ-loop src t w n ix r₀ r = n - r
 
 returns : tie.Need-returns Inv-loop μ-loop
 returns c =
@@ -37,7 +38,7 @@ names-differ-spec =
     Inv-loop
     μ-loop
     (λ c. (omega arith, below-none _))
-    (λ c κs. search needs)
+    (λ c κs. (c .before .before .before .before .before .pre, c .loop-test .taken))
     returns
     (λ c. search needs)
     (λ c. search needs)

@@ -4,8 +4,10 @@ use mathlib.Core.Path.{_≡_, refl}
 use mathlib.Core.Bool.{true}
 use native.Mathlib.Omega.{arith}
 use borrow.Author.Needs.{needs}
-use Rattle.sound.specs.Test.{below, before, rangeTest}
-use Rattle.sound.proofs.Laws.{below-none, below-on, below-not, before-first, before-next, ranges-not, ranges-all}
+use Rattle.tables.specs.Below.{below}
+use Rattle.tables.proofs.Below.{below-none, below-on, below-not}
+use Rattle.sound.specs.Test.{before, rangeTest}
+use Rattle.sound.proofs.Laws.{before-first, before-next, ranges-not, ranges-all}
 use Rattle.sound.proofs.ranges_sound.Statement.{statement}
 use Rattle.sound.proofs.ranges_sound.Tie as tie
 

@@ -4,8 +4,9 @@ use mathlib.Core.Path.{_≡_}
 use mathlib.Core.Bool.{true}
 use native.Mathlib.Omega.{arith}
 use borrow.Author.Needs.{needs}
-use Rattle.sound.specs.Test.{below, rowTest}
-use Rattle.sound.proofs.Laws.{below-none, below-on, below-not, below-all}
+use Rattle.tables.specs.Below.{below}
+use Rattle.tables.proofs.Below.{below-none, below-on, below-not, below-all}
+use Rattle.sound.specs.Test.{rowTest}
 use Rattle.sound.proofs.rows_sound.Statement.{statement}
 use Rattle.sound.proofs.rows_sound.Tie as tie
 

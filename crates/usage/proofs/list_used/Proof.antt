@@ -15,7 +15,7 @@ use Rattle.usage.proofs.list_used.Tie as tie
 
 returns : tie.Need-returns
 returns c =
-    let s = c .before .before .before .before .before .before .before .before .before .before .before .before .before .before .before .before .before .before in
+    let s = c .before .before .before .before .before .before .before .before .before .before .before .before .before .before .before .before .before .before .before .before in
     let a = s .args in
     let m = marks-no (grammarOf (now (a .src)) (a .c) (a .start) (now (a .t1)) (now (a .t7)) (now (a .t8)) (now (a .t9))) (c .before .before .before .before .before .before .before .mark-used .result) (now (a .work)) (c .before .before .before .before .before .before .before .mark-used .last .0) (not-true _ (c .before .before .before .before .if1 .taken)) (c .before .before .before .before .before .before .before .mark-used .ensures) in
     (m .0, record { work = m .1; cells = c .before .before .zero .ensures })
@@ -32,7 +32,7 @@ returns-6 c = let z : ⊥ = rw (c .enum-told5 .given .1) at (c .before .before .
 
 -- from behind the listing on: where the function begins, what it goes by, and that the bits are the used rows
 abbrev start : tie.After-list-unused → tie.Start
-start c = c .before .before .before .before .before .before .before .before .before .before .before .before .before .before .before .before .before
+start c = c .before .before .before .before .before .before .before .before .before .before .before .before .before .before .before .before .before .before .before
 
 abbrev grammar : tie.After-list-unused → Grammar
 grammar c = grammarOf (now (start c .args .src)) (start c .args .c) (start c .args .start) (now (start c .args .t1)) (now (start c .args .t7)) (now (start c .args .t8)) (now (start c .args .t9))

@@ -15,12 +15,12 @@ same-length-2 c = walked-length _ _ _ _ _ (c .before .before .before .before .be
 
 second : tie.Need-returns
 second c =
-    let a = c .before .before .before .before .before .before .before .before .before .before .before .before .before .before .before .before .before .before .before .before .before in
+    let a = c .before .before .before .before .before .before .before .before .before .before .before .before .before .before .before .before .before .before .before .before .before .before .before in
     part-on _ _ _ (faults-are (now (a .args .src)) (a .args .c) (a .args .g) (now (a .args .t1)) (now (a .args .t2)) (now (a .args .t4)) (now (a .args .t5)) (now (a .args .t6)) (now (a .args .t7)) (now (a .args .t8)) (now (a .args .t9))) _ _ _ _ (c .before .before .before .before .before .before .before .before .before .note-start-rules .ensures) _ (c .before .before .before .before .before .at .given .1) _ _ (c .before .before .note-epps-unused .ensures)
 
 first : tie.Need-returns-2
 first c =
-    let a = c .before .before .before .before .before .before .before .before .before .before .before .before .before .before .before .before .before in
+    let a = c .before .before .before .before .before .before .before .before .before .before .before .before .before .before .before .before .before .before .before in
     part-over _ _ _ (faults-are (now (a .args .src)) (a .args .c) (a .args .g) (now (a .args .t1)) (now (a .args .t2)) (now (a .args .t4)) (now (a .args .t5)) (now (a .args .t6)) (now (a .args .t7)) (now (a .args .t8)) (now (a .args .t9))) _ _ _ _ (c .before .before .before .before .before .note-start-rules .ensures) _ (c .before .f .given .1)
 
 pub note-faults-spec : {M : Type 1} → statement M

@@ -11,11 +11,11 @@ use Rattle.validation.proofs.note_kinds.Statement.{statement}
 use Rattle.validation.proofs.note_kinds.Tie as tie
 
 abbrev Inv-loop : tie.InvT-loop
-Inv-loop src t from to t1 tokens t7 rules at t14₀ next₀ r₀ t14 next r =
+Inv-loop src t from to t1 tokens t7 rules i1 i7 at t14₀ next₀ r₀ t14 next r =
     (from ≤ r) × (r - from ≤ to - from) × (walked (NextRow next) t14 ≡ noted (upto (r - from) (λ i. kindFaults src t t1 tokens t7 rules (from + i))) at t14₀)
 
 abbrev μ-loop : tie.MeasureT-loop
-μ-loop src t from to t1 tokens t7 rules at t14₀ next₀ r₀ t14 next r = to - r
+μ-loop src t from to t1 tokens t7 rules i1 i7 at t14₀ next₀ r₀ t14 next r = to - r
 
 loop-again : tie.Need-loop-again Inv-loop μ-loop
 loop-again c =

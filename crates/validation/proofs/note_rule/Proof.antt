@@ -16,13 +16,13 @@ use Rattle.validation.proofs.note_rule.Statement.{statement}
 use Rattle.validation.proofs.note_rule.Tie as tie
 
 abbrev Inv-loop : tie.InvT-loop
-Inv-loop src t1 tokens t2 precedences t7 rules t8 t9 n k at t14₀ next₀ r₀ t14 next r =
+Inv-loop src t1 tokens t2 precedences t7 rules t8 t9 n k i1 i7 at t14₀ next₀ r₀ t14 next r =
     (r ≤ n)
     × (r < n → isOfRule t8 k r ≡ true)
     × (walked (NextRow next) t14 ≡ noted (upto r (λ i. ofRule (eqb (cellOf t8 i ruleRow) k) (productionFaults src t1 tokens t2 precedences t7 rules t8 t9 i))) at t14₀)
 
 abbrev μ-loop : tie.MeasureT-loop
-μ-loop src t1 tokens t2 precedences t7 rules t8 t9 n k at t14₀ next₀ r₀ t14 next r = n - r
+μ-loop src t1 tokens t2 precedences t7 rules t8 t9 n k i1 i7 at t14₀ next₀ r₀ t14 next r = n - r
 
 loop-holds : tie.Need-loop-holds Inv-loop μ-loop
 loop-holds c = walk-next _ _ _ _ _ (c .next-of-rule .ensures) (omega arith) _ _ _ _ _ (walk-start _ _ _)

@@ -12,5 +12,5 @@ start-fault-spec =
     (λ c. search needs)
     (λ c κs. search needs)
     (λ c. start-none _ _ _ _ (c .enum-told .given .1))
-    (λ c. start-at _ _ _ _ _ _ _ _ (c .before .before .before .start .given .1) (c .before .is-known .ensures) (c .if1 .taken))
-    (λ c. start-at _ _ _ _ _ _ _ _ (c .before .before .before .start .given .1) (c .before .is-known .ensures) (c .if1 .left)))
+    (λ c. start-at _ _ _ _ _ _ _ _ (c .before .before .before .start .given .1) (c .before .is-indexed .ensures) (c .if1 .taken))
+    (λ c. start-at _ _ _ _ _ _ _ _ (c .before .before .before .start .given .1) (c .before .is-indexed .ensures) (c .if1 .left)))

@@ -1,0 +1,67 @@
+-- A precedence line leaves the count of every table but 2 and 10, and what is given once to a name leaves table 1. Assumes nothing.
+use Prim.Native.Nat.{ℕ, suc, _<_}
+use mathlib.Core.Path.{_≡_, ap}
+use mathlib.Core.List.{List}
+use mathlib.Core.Bool.{Bool, true, false}
+use native.Mathlib.Omega.{arith}
+use lib.Dec.{leb}
+use lib.ListN.{length}
+use Rattle.scan.proofs.Loop.{Either, turns-keep}
+use Rattle.words.specs.declared.Token.{Token}
+use Rattle.words.specs.declared.Token.the-variants.{Found, NoToken}
+use Rattle.words.specs.Words.{tokenAt}
+use Rattle.tables.specs.Layout.{precedences, repeats, width}
+use Rattle.grammar.specs.declared.Answer.{Answer}
+use Rattle.grammar.specs.declared.Answer.the-variants.{Going, Done, Refused}
+use Rattle.grammar.specs.declared.Counts.{Counts}
+use Rattle.grammar.specs.declared.State.{State}
+use Rattle.grammar.specs.declared.Gap.{Gap}
+use Rattle.grammar.specs.declared.Gap.the-variants.{GapTo, GapRefused}
+use Rattle.grammar.specs.declared.Repeat.{Repeat}
+use Rattle.grammar.specs.declared.Repeat.the-variants.{RepeatedPrecedence}
+use Rattle.grammar.specs.Cells.{precedenceCells}
+use Rattle.grammar.specs.State.{Out0, Out2, Tokens, gapAt, onceStep, passOn}
+use Rattle.grammar.proofs.Spares.{Spares, spares-none, spares-on, spares-once, spares-behind, spared, tracked-passed}
+use Rattle.lines.specs.Precedences.{precFound, precItem, lineEnd, afterEnd, precTurn, precList, precFrom, precDecl}
+
+module _ (k : ℕ) (other : precedences ≡ k → ⊥) (tenth : repeats ≡ k → ⊥) (src : List ℕ) where
+  item : (s : State) (level assoc : ℕ) (t2 t10 : List ℕ) → Spares k (s .counts) (precItem src s level assoc t2 t10 .state .counts)
+  unfolding precItem
+  item s level assoc t2 t10 = go (tokenAt src (s .at))
+    where
+      go : (x : Token) → Spares k (s .counts) (precFound x src s level assoc t2 t10 .state .counts)
+      go (Found p end q) =
+          let row = precedenceCells (p .from) (p .to) level assoc in
+          let o = onceStep src s precedences (width precedences) 0 RepeatedPrecedence row t2 t10 in
+          spares-behind k src true end (o .answer) (o .state) (spares-once k src s precedences (width precedences) 0 RepeatedPrecedence row t2 t10 other tenth)
+      go (NoToken i) = spares-none k (s .counts)
+
+  abbrev Since : Counts → Out2 → Type 0
+  Since c o = Spares k c (o .state .counts)
+
+  turn : (c : Counts) (level assoc : ℕ) (o : Out2) → Since c o → Either (Since c) (Since c) (precTurn src level assoc o)
+  unfolding precTurn
+  turn c level assoc o x = go (leb (length src) (o .state .at))
+    where
+      next : (a : Answer) (p : Out2) → Since c p → Either (Since c) (Since c) (lineEnd a p)
+      next Going p y = y
+      next Done p y = y
+      next (Refused f) p y = y
+
+      go : (b : Bool) → Either (Since c) (Since c) (afterEnd b o (precItem src (o .state) level assoc (o .a) (o .b)))
+      go true = x
+      go false = next (precItem src (o .state) level assoc (o .a) (o .b) .answer) (precItem src (o .state) level assoc (o .a) (o .b)) (spares-on x (item (o .state) level assoc (o .a) (o .b)))
+
+  pub prec-spares : (s : State) (assoc : ℕ) (t2 t10 : List ℕ) → Spares k (s .counts) (precDecl src s assoc t2 t10 .state .counts)
+  unfolding precDecl precList
+  prec-spares s assoc t2 t10 = go (gapAt false src (s .at))
+    where
+      go : (g : Gap) → Spares k (s .counts) (precFrom g src s assoc t2 t10 .state .counts)
+      go (GapTo i n) = turns-keep (Since (s .counts)) (precTurn src (s .level) assoc) (turn (s .counts) (s .level) assoc) (suc (length src)) _ (spares-none k (s .counts))
+      go (GapRefused f) = spares-none k (s .counts)
+
+-- a name is given once to another table than 1, with spacing behind it: the index of table 1 stays
+pub once-tracked : (src : List ℕ) (s : State) (k w name : ℕ) (what : Repeat) (row t t10 : List ℕ) (a : Answer) (next : State) (u u10 : List ℕ) (line : Bool) (j : ℕ) (b : Answer) (q : State) (t1 ix : List ℕ) → 0 < k → record { answer = a; state = next; a = u; b = u10 } ≡ onceStep src s k w name what row t t10 → _≡_ {A = Out0} (record { answer = b; state = q }) (passOn src line j a next) → Tokens src (s .counts) t1 ix → Tokens src (q .counts) t1 ix
+once-tracked src s k w name what row t t10 a next u u10 line j b q t1 ix l e f I =
+    let x : Tokens src (next .counts) t1 ix = rw (ap (λ (o : Out2). o .state .counts) e) (spared (spares-once 0 src s k w name what row t t10 (λ h. omega arith) (λ h. omega arith)) I) in
+    tracked-passed src 0 3 0 line j a next b q t1 ix f x
