@@ -12,7 +12,7 @@ use std::time::Instant;
 use yacc::parser::YaccParser;
 use yacc::{YaccKind, YaccOriginalActionKind};
 
-const WIDTH: [usize; 10] = [3, 4, 2, 2, 6, 3, 5, 13, 3, 5];
+const WIDTH: [usize; 10] = [3, 4, 2, 2, 6, 3, 5, 13, 4, 5];
 
 // the ten tables, and the indexes of tables 1 and 7
 type Lent = [Vec<u32>; 12];

@@ -53,7 +53,7 @@ static void tables(void) {
         if (x[8]) { printf(" %u %u ", x[11], x[12]); text(src, x[9], x[10]); } else printf(" - - -");
         printf("\n");
     }
-    for (uint32_t i = 0; i < o[12]; i++) { uint32_t *x = t[9] + 3 * i; printf("t9 %u %u %u %u ", i, x[0], x[1], x[2]); text(src, x[1], x[2]); printf("\n"); }
+    for (uint32_t i = 0; i < o[12]; i++) { uint32_t *x = t[9] + QUILTRUDDER_T9_WIDTH * i; printf("t9 %u %u %u %u ", i, x[0], x[1], x[2]); text(src, x[1], x[2]); if (x[3] == QUILTRUDDER_NO_ROW) printf(" -\n"); else printf(" %u\n", x[3]); }
 }
 
 static void part(const char *what, const uint32_t *x) {

@@ -68,6 +68,16 @@ static int is_indexed(int k) {
     return same;
 }
 
+/* The row of table 1 or 7 that has the name of a symbol, looked for from the first on. */
+static uint32_t row_of(const uint32_t *x) {
+    int k = x[0] == 1 ? 7 : 1;
+    for (uint32_t i = 0; i < o[3 + k]; i++) {
+        uint32_t *a = t[k] + (size_t)width[k] * i;
+        if (a[1] - a[0] == x[2] - x[1] && !memcmp(src + a[0], src + x[1], a[1] - a[0])) return i;
+    }
+    return 4294967295u;
+}
+
 static int is_sound(void) {
     if (len > 65536) return 0;
     for (int k = 1; k <= 10; k++) {
@@ -76,6 +86,7 @@ static int is_sound(void) {
         for (uint32_t i = 0; i < o[3 + k]; i++) if (!row(k, t[k] + (size_t)width[k] * i, o[10])) return 0;
     }
     if (twice(1) || twice(7) || !is_indexed(1) || !is_indexed(7)) return 0;
+    for (uint32_t i = 0; i < o[12]; i++) if (t[9][4 * (size_t)i + 3] != row_of(t[9] + 4 * (size_t)i)) return 0;
     uint32_t at = 0;
     for (uint32_t i = 0; i < o[11]; i++) {
         uint32_t *x = t[8] + 13 * (size_t)i;

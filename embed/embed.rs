@@ -41,7 +41,7 @@ mod quiltrudder {
     }
 
     /// The widths of the rows of tables 1 to 10.
-    const WIDTHS: [usize; 10] = [3, 4, 2, 2, 6, 3, 5, 13, 3, 5];
+    const WIDTHS: [usize; 10] = [3, 4, 2, 2, 6, 3, 5, 13, 4, 5];
 
     /// Number, place and table number; the number is 0 unless it is a refusal's.
     #[derive(Clone, Copy, Debug, PartialEq)]

@@ -33,7 +33,7 @@ extern "C" {
 #define QUILTRUDDER_T6_WIDTH 3 /* expected unused: kind (1 rule, 2 token), from, to */
 #define QUILTRUDDER_T7_WIDTH 5 /* rules: name from, to; type flag, from, to */
 #define QUILTRUDDER_T8_WIDTH 13 /* productions: rule row; from, to; symbols from, to; %prec flag, from, to; action flag, text from, to, span from, to */
-#define QUILTRUDDER_T9_WIDTH 3 /* symbols: kind (1 rule, 2 token), from, to */
+#define QUILTRUDDER_T9_WIDTH 4 /* symbols: kind (1 rule, 2 token), from, to, row: that of the rule in table 7 or of the token in table 1, or QUILTRUDDER_NO_ROW */
 #define QUILTRUDDER_T10_WIDTH 5 /* repeats: number; first from, to; repeated from, to */
 
 /* How many slots to lend for the index beside table 1 or 7, where that table is lent room for so many rows: the first power of two that is twice the rows or more.
@@ -45,6 +45,9 @@ extern "C" {
 #define QUILTRUDDER_SLOTS_3(v) (QUILTRUDDER_SLOTS_2(v) | QUILTRUDDER_SLOTS_2(v) >> 8)
 #define QUILTRUDDER_SLOTS_4(v) (QUILTRUDDER_SLOTS_3(v) | QUILTRUDDER_SLOTS_3(v) >> 16)
 #define QUILTRUDDER_SLOTS_5(v) (QUILTRUDDER_SLOTS_4(v) | QUILTRUDDER_SLOTS_4(v) >> 16 >> 16)
+
+/* The row of a symbol whose name is that of no rule or token. */
+#define QUILTRUDDER_NO_ROW 4294967295u
 
 #define QUILTRUDDER_FAULT_WIDTH 3 /* faults, table 14: number, from, to */
 #define QUILTRUDDER_REPORT_WIDTH 2 /* report: kind (1 rule, 2 token), row */

@@ -30,7 +30,7 @@ type Cells7 = [u32; 109500];
 
 type Cells8 = [u32; 425984];
 
-type Cells9 = [u32; 98304];
+type Cells9 = [u32; 131072];
 
 type Cells10 = [u32; 163840];
 
@@ -314,6 +314,20 @@ fn put_flagged(
     put_part(o, at, src, a, b)
 }
 
+// Kind, place and name of a symbol, and the row of its rule or token.
+fn put_symbol(o: &mut [u8], at: usize, src: &[u8], t: &[u32], row: u32) -> usize {
+    let w = tables::SYMBOL_WIDTH;
+    let p = put_cells(o, at, t, w, row, tables::KNOWN_ROW);
+    let a = tables::cell(t, w, row, 1);
+    let b = tables::cell(t, w, row, 2);
+    let q = put_part(o, p, src, a, b);
+    let known = tables::cell(t, w, row, tables::KNOWN_ROW);
+    if known == tables::NO_ROW {
+        return put_word(o, q, b" -");
+    }
+    put_number(o, q, known)
+}
+
 fn put_rule(o: &mut [u8], at: usize, src: &[u8], t: &[u32], row: u32) -> usize {
     let w = tables::RULE_WIDTH;
     let a = tables::cell(t, w, row, 0);
@@ -351,7 +365,7 @@ fn put_held(o: &mut [u8], at: usize, src: &[u8], t: &[u32], table: u8, row: u32)
         6 => put_named(o, at, src, t, tables::UNUSED_WIDTH, tables::KIND_NAME, row),
         7 => put_rule(o, at, src, t, row),
         8 => put_production(o, at, src, t, row),
-        9 => put_named(o, at, src, t, tables::SYMBOL_WIDTH, tables::KIND_NAME, row),
+        9 => put_symbol(o, at, src, t, row),
         _ => put_cells(o, at, t, tables::REPEAT_WIDTH, row, tables::REPEAT_WIDTH),
     }
 }
@@ -1566,7 +1580,7 @@ pub fn dump_input() {
     let mut t6 = [0u32; 98304];
     let mut t7 = [0u32; 109500];
     let mut t8 = [0u32; 425984];
-    let mut t9 = [0u32; 98304];
+    let mut t9 = [0u32; 131072];
     let mut t10 = [0u32; 163840];
     let mut i1 = [0u32; 65536];
     let mut i7 = [0u32; 65536];

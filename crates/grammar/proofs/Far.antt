@@ -17,7 +17,8 @@ use Rattle.grammar.specs.declared.Part.{Part}
 use Rattle.grammar.specs.declared.Singles.{Singles}
 use Rattle.grammar.specs.declared.State.{State}
 use Rattle.grammar.specs.State.{Passed, count, withAt, withLevel, withCount, withSingles, withActiontype, fresh}
-use Rattle.grammar.specs.Sound.{Indexes, SoundIndexes, Tables, listOf, tab, setTab, zeroAll, View, each, pairs, Table, Lies, Lie, soundView, Sound, view, Far, TokenRow, PrecRow, ProductionRow}
+use Rattle.symbols.specs.Symbols.{Knows}
+use Rattle.grammar.specs.Sound.{Indexes, SoundIndexes, Tables, lexiconOf, listOf, tab, setTab, zeroAll, View, each, pairs, Table, Lies, Lie, soundView, Sound, view, Far, TokenRow, PrecRow, ProductionRow}
 
 -- table k alone is changed
 set-list : (T : Tables) (k : ℕ) (x : List ℕ) → listOf (setTab T k x) ≡ set (listOf T) k x
@@ -83,6 +84,15 @@ module _ {src : List ℕ} {done : ℕ} {s : State} {T : Tables} (f : Far src don
 
   pub far-actiontype : (p : Part) → Lies src p → Far src done (withActiontype s p) T
   far-actiontype p h = record { here = f .here; short = f .short; ten = f .ten; risen = f .risen; tables = f .tables; ranges = f .ranges; since = f .since; singles = f .singles; actiontype = h }
+
+  -- the cells of a table that is not table 8 are replaced by others that are as good,
+  pub far-cells : (k : ℕ) → k < 10 → (k ≡ productions → ⊥) → (x : List ℕ) → Table src (view s) k (count s k) x → Far src done s (setTab T k x)
+  far-cells k b d x R =
+      record { here = f .here; short = f .short; ten = f .ten; risen = f .risen; tables = λ j. at j (ℕ-discrete j k); ranges = rw (tab-other T k productions x (λ e. d (sym e))) (f .ranges); since = f .since; singles = f .singles; actiontype = f .actiontype }
+    where
+      at : (j : ℕ) → Dec (j ≡ k) → Table src (view s) j (count s j) (tab (setTab T k x) j)
+      at j (yes e) = rw e (rows-as refl (sym (tab-same T k x b)) R)
+      at j (no e) = rows-as refl (sym (tab-other T k j x e)) (f .tables j)
 
   -- the level rises,
   pub far-level : (n : ℕ) → s .level ≤ n → n ≤ s .at → Far src done (withLevel s n) T
@@ -165,8 +175,8 @@ fresh-far src T h =
     none (suc (suc (suc (suc (suc (suc (suc (suc (suc (suc k)))))))))) = rows-zeroed _ []
 
 -- and where no symbol is left behind the last range, it is sound.
-pub far-sound : (src : List ℕ) (s : State) (T : Tables) (X : Indexes) → Far src (count s symbols) s T → SoundIndexes src (s .counts) T X → Sound src (s .counts) (s .singles) T X
-far-sound src s T X f i =
+pub far-sound : (src : List ℕ) (s : State) (T : Tables) (X : Indexes) → Far src (count s symbols) s T → SoundIndexes src (s .counts) T X → Knows (lexiconOf src (s .counts) T) (count s symbols) (T .t9) → Sound src (s .counts) (s .singles) T X
+far-sound src s T X f i k =
     record {
       short = f .short;
       fits = λ k b. f .tables k .fits;
@@ -177,4 +187,5 @@ far-sound src s T X f i =
       ranges = f .ranges;
       names = λ k q r b l h. f .tables k .pairs q r l h;
       indexes = i;
+      known = k;
     }

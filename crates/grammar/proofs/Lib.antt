@@ -4,3 +4,4 @@ pub mod Repeats
 pub mod Kept
 pub mod Touch
 pub mod Spares
+pub mod Filled

@@ -20,9 +20,13 @@ nameCells from to = from ∷ to ∷ []
 abbrev pub eppCells : ℕ → ℕ → ℕ → ℕ → ℕ → ℕ → List ℕ
 eppCells keyFrom keyTo nameFrom nameTo valueFrom valueTo = keyFrom ∷ keyTo ∷ nameFrom ∷ nameTo ∷ valueFrom ∷ valueTo ∷ []
 
--- "6 expected unused (kind, place)", "9 symbols (kind, place)"; "1 rule, 2 token"
+-- "6 expected unused (kind, place)"; "1 rule, 2 token"
 abbrev pub kindCells : ℕ → ℕ → ℕ → List ℕ
 kindCells kind from to = kind ∷ from ∷ to ∷ []
+
+-- "9 symbols (kind, place)", and by document 02, request Five, a row number, which is zero until all rules are read
+abbrev pub symbolCells : ℕ → ℕ → ℕ → List ℕ
+symbolCells kind from to = kind ∷ from ∷ to ∷ 0 ∷ []
 
 -- "7 rules (name, action type or none)"
 abbrev pub ruleCells : ℕ → ℕ → Part → List ℕ

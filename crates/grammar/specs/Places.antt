@@ -4,7 +4,7 @@ use mathlib.Core.Path.{_≡_, refl}
 use Rattle.tables.specs.Layout.{tokens, precedences, avoided, implicit, epps, unused, rules, symbols, repeats}
 use Rattle.grammar.specs.declared.Part.{Part}
 use Rattle.grammar.specs.declared.Refusal.the-variants.{NoRoom}
-use Rattle.grammar.specs.Cells.{tokenCells, precedenceCells, nameCells, eppCells, kindCells, ruleCells, repeatCells}
+use Rattle.grammar.specs.Cells.{tokenCells, precedenceCells, nameCells, eppCells, kindCells, symbolCells, ruleCells, repeatCells}
 use Rattle.grammar.specs.State.{noRoom}
 
 pub full-tokens : (from to declared : ℕ) → noRoom tokens (tokenCells from to declared) ≡ NoRoom 1 from to
@@ -30,7 +30,7 @@ full-unused kind from to = refl
 pub full-rules : (from to : ℕ) (type : Part) → noRoom rules (ruleCells from to type) ≡ NoRoom 7 from to
 full-rules from to type = refl
 
-pub full-symbols : (kind from to : ℕ) → noRoom symbols (kindCells kind from to) ≡ NoRoom 9 from to
+pub full-symbols : (kind from to : ℕ) → noRoom symbols (symbolCells kind from to) ≡ NoRoom 9 from to
 full-symbols kind from to = refl
 
 pub full-repeats : (number a b c d : ℕ) → noRoom repeats (repeatCells number a b c d) ≡ NoRoom 10 c d

@@ -10,6 +10,7 @@ use Rattle.words.specs.Strings.{stringAt}
 use Rattle.tables.specs.Table.{samePart, zeroed}
 use Rattle.tables.specs.Rows.{Clean, rowAt, Rows, Chained}
 use Rattle.index.specs.Index.{Indexed, Sized}
+use Rattle.symbols.specs.Symbols.{Lexicon, lexicon, Knows}
 use Rattle.tables.specs.Layout.{tokens, precedences, rules, productions, symbols, declared, level, association, keyName, value, typed, ruleRow, place, symbolsFrom, symbolsTo, prec, action, kindName, width}
 use Rattle.grammar.specs.declared.Part.{Part}
 use Rattle.grammar.specs.declared.Part.the-variants.{Absent, At}
@@ -49,6 +50,10 @@ setTab T k x = ofList (set (listOf T) k x)
 
 abbrev pub zeroAll : Tables → Tables
 zeroAll T = record { t1 = zeroed (T .t1); t2 = zeroed (T .t2); t3 = zeroed (T .t3); t4 = zeroed (T .t4); t5 = zeroed (T .t5); t6 = zeroed (T .t6); t7 = zeroed (T .t7); t8 = zeroed (T .t8); t9 = zeroed (T .t9); t10 = zeroed (T .t10) }
+
+-- the names that symbols are known by
+abbrev pub lexiconOf : List ℕ → Counts → Tables → Lexicon
+lexiconOf src c T = lexicon src (T .t1) (getD (c .n) tokens 0) (T .t7) (getD (c .n) rules 0)
 
 -- document 02, request Three: "a lent index for tokens and one for rules"
 pub record Indexes : Type 0 where
@@ -183,6 +188,8 @@ pub record Sound (src : List ℕ) (c : Counts) (g : Singles) (T : Tables) (X : I
   pub names : (k q r : ℕ) → k < 10 → q < r → r < getD (c .n) k 0 → pairs src k (rowAt (width k) (tab T k) q) (rowAt (width k) (tab T k) r)
   -- document 02, request Three: "soundness (44) now includes this and the size"
   pub indexes : SoundIndexes src c T X
+  -- document 02, request Five: "Soundness includes it, 4294967295 being the one row number allowed outside the counts."
+  pub known : Knows (lexiconOf src c T) (getD (c .n) symbols 0) (T .t9)
 
 -- levels that were given are below the next one, and values are strings
 abbrev pub view : State → View

@@ -32,7 +32,7 @@ use Rattle.grammar.specs.declared.Answer.{Answer}
 use Rattle.grammar.specs.declared.Answer.the-variants.{Going, Done, Refused}
 use Rattle.grammar.specs.declared.Gap.{Gap}
 use Rattle.grammar.specs.declared.Gap.the-variants.{GapTo, GapRefused}
-use Rattle.grammar.specs.Cells.{kindCells, tokenCells}
+use Rattle.grammar.specs.Cells.{symbolCells, tokenCells}
 use Rattle.grammar.specs.State.{Out1, Out2, Passed, Onward, count, withAt, gapAt, Gapped, pushed, pushRow, entered, enterStep, past, pastGap, passOn}
 use Rattle.grammar.specs.Sound.{Tables, setTab, Given, GivenAction, Far}
 use Rattle.grammar.proofs.Far.{far-at, far-production}
@@ -186,8 +186,8 @@ pub record Rowed (src : List ℕ) (done : ℕ) (T : Tables) (s : State) (o : Out
   pub held : Held2 src done T tokens symbols s o
   pub quiet : Quiet s (o .answer) (o .state)
 
-symbol-held : {src : List ℕ} {done : ℕ} {s : State} {T : Tables} → Far src done s T → (kind from to : ℕ) → 1 ≤ kind → kind ≤ 2 → Passed src from to → Held src done T symbols s (pushRow s symbols (kindCells kind from to) (T .t9))
-symbol-held f kind from to l m p = push-held f symbols (omega arith) (λ e. omega arith) (kindCells kind from to) refl (record { least = l; most = m; name = p }) (λ r l. tt)
+symbol-held : {src : List ℕ} {done : ℕ} {s : State} {T : Tables} → Far src done s T → (kind from to : ℕ) → 1 ≤ kind → kind ≤ 2 → Passed src from to → Held src done T symbols s (pushRow s symbols (symbolCells kind from to) (T .t9))
+symbol-held f kind from to l m p = push-held f symbols (omega arith) (λ e. omega arith) (symbolCells kind from to) refl (record { least = l; most = m; name = p }) (λ r l. tt)
 
 pub token-symbol-far : {src : List ℕ} {done : ℕ} {s : State} {T : Tables} → Far src done s T → (from to : ℕ) → Passed src from to → Rowed src done T s (tokenSymbol src s from to (T .t1) (T .t9))
 unfolding tokenSymbol
@@ -198,7 +198,7 @@ token-symbol-far {src} {done} {s} {T} f from to p =
     go : (a : Answer) (o : Out1) → Held src done T tokens s o → count (o .state) rules ≡ count s rules → (a ≡ Done → ⊥) → Rowed src done T s (symbolEntered a o from to (T .t9))
     go Going o x q h =
         let y = symbol-held (x .far) 2 from to (omega arith) (omega arith) p in
-        let z = quiet-push (o .state) symbols (kindCells 2 from to) (T .t9) (λ e. omega arith) in
+        let z = quiet-push (o .state) symbols (symbolCells 2 from to) (T .t9) (λ e. omega arith) in
         record { held = record { far = y .far; stays = y .stays ∙ x .stays; level = y .level ∙ x .level }; quiet = record { rules = z .rules ∙ q; undone = z .undone } }
     go Done o x q h = absurd (h refl)
     go (Refused e) o x q h = record { held = record { far = x .far; stays = x .stays; level = x .level }; quiet = record { rules = q; undone = refused-undone e } }
@@ -285,10 +285,10 @@ module _ {src : List ℕ} {done : ℕ} {s : State} {T : Tables} {d : Production}
           let c = y .2 in
           let z : Passed src (p .from) (p .to) = record { onward = omega arith; inside = omega arith } in
           let k = symbolKind src (count s tokens) (T .t1) (p .from) (p .to) in
-          let e = pushRow s symbols (kindCells k (p .from) (p .to)) (T .t9) in
+          let e = pushRow s symbols (symbolCells k (p .from) (p .to)) (T .t9) in
           let r = kind-listed src (count s tokens) (T .t1) (p .from) (p .to) in
           let w = symbol-held f k (p .from) (p .to) (r .0) (r .1) z in
-          item-sooner (s .at + 1) (omega arith) (item-behind end (e .answer) (e .state) (w .far) (w .stays) (quiet-push s symbols (kindCells k (p .from) (p .to)) (T .t9) (λ e. omega arith)) (draft-to x end (omega arith) (y .3)) (omega arith) (y .3))
+          item-sooner (s .at + 1) (omega arith) (item-behind end (e .answer) (e .state) (w .far) (w .stays) (quiet-push s symbols (symbolCells k (p .from) (p .to)) (T .t9) (λ e. omega arith)) (draft-to x end (omega arith) (y .3)) (omega arith) (y .3))
       go (NoToken k) y = item-refused (s .at + 1) _ f x
 
 -- the steps above from another state, or on a draft that took their part in

@@ -20,7 +20,7 @@ use Rattle.grammar.specs.declared.Counts.{Counts}
 use Rattle.grammar.specs.declared.State.{State}
 use Rattle.grammar.specs.declared.Gap.{Gap}
 use Rattle.grammar.specs.declared.Gap.the-variants.{GapTo, GapRefused}
-use Rattle.grammar.specs.Cells.{kindCells}
+use Rattle.grammar.specs.Cells.{symbolCells}
 use Rattle.grammar.specs.declared.Step.{Step}
 use Rattle.grammar.specs.State.{Tokens, count, withAt, gapAt, pushRow, enterStep}
 use Rattle.grammar.proofs.Spares.{Spares, spares-none, spares-on, spares-push, spares-enter, spares-behind, spared}
@@ -87,7 +87,7 @@ module _ (k : ℕ) (ninth : symbols ≡ k → ⊥) (src : List ℕ) where
     where
       go : (x : Token) → Spares k (s .counts) (bareFound x src s d t1 t9 .state .counts)
       go (Found p end q) =
-          let row = kindCells (symbolKind src (count s tokens) t1 (p .from) (p .to)) (p .from) (p .to) in
+          let row = symbolCells (symbolKind src (count s tokens) t1 (p .from) (p .to)) (p .from) (p .to) in
           spares-behind k src false end (pushRow s symbols row t9 .answer) (pushRow s symbols row t9 .state) (spares-push k s symbols row t9 ninth)
       go (NoToken i) = spares-none k (s .counts)
 
@@ -100,7 +100,7 @@ module _ (k : ℕ) (ninth : symbols ≡ k → ⊥) (src : List ℕ) where
         e = spares-enter k src s from to false t1 first
 
         go : (a : Answer) → Spares k (s .counts) (symbolEntered a (enterStep src s from to false t1) from to t9 .state .counts)
-        go Going = spares-on e (spares-push k (enterStep src s from to false t1 .state) symbols (kindCells 2 from to) t9 ninth)
+        go Going = spares-on e (spares-push k (enterStep src s from to false t1 .state) symbols (symbolCells 2 from to) t9 ninth)
         go Done = e
         go (Refused f) = e
 

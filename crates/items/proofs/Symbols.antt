@@ -23,7 +23,7 @@ use Rattle.grammar.specs.declared.Refusal.the-variants.{Fault}
 use Rattle.grammar.specs.declared.Answer.{Answer}
 use Rattle.grammar.specs.declared.Answer.the-variants.{Going, Done, Refused}
 use Rattle.grammar.specs.State.{Out0, Out1, Out2, Here, Passed, Onward, Moves, count, withAt, gapAt, pushRow, enterStep, passOn, second2}
-use Rattle.grammar.specs.Cells.{kindCells}
+use Rattle.grammar.specs.Cells.{symbolCells}
 use Rattle.grammar.proofs.Steps.{moves}
 use Rattle.productions.specs.declared.Production.{Production}
 use Rattle.productions.specs.Cells.{pushProduction}
@@ -67,7 +67,7 @@ module _ (src : List ℕ) (at : ℕ) (r : Token) (x : Tokened src at r) where
 
 -- a quoted symbol's rows
 module _ (src : List ℕ) (s : State) (from to : ℕ) (t1 t9 : List ℕ) (o : Out1) (q : o ≡ enterStep src s from to false t1) where
-  pub symbol-entered : (z : Out1) → o .answer ≡ Going → z ≡ pushRow (o .state) symbols (kindCells 2 from to) t9 → second2 (o .a) z ≡ tokenSymbol src s from to t1 t9
+  pub symbol-entered : (z : Out1) → o .answer ≡ Going → z ≡ pushRow (o .state) symbols (symbolCells 2 from to) t9 → second2 (o .a) z ≡ tokenSymbol src s from to t1 t9
   unfolding tokenSymbol
   symbol-entered z g e = rw (← q, g, ← e)
 
@@ -138,7 +138,7 @@ module _ (src : List ℕ) (n : ℕ) (t1 : List ℕ) (from to : ℕ) (f : Row) (q
 -- a bare symbol
 module _ (src : List ℕ) (s : State) (d : Production) (t1 t9 : List ℕ) (r : Token) (q : r ≡ tokenAt src (s .at)) where
   pub bare-found : (p : Place) (end : ℕ) (b : Bool) (n kind : ℕ) (o : Out1) (z : Out0) → r ≡ Found p end b → n ≡ count s tokens → kind ≡ symbolKind src n t1 (p .from) (p .to)
-      → o ≡ pushRow s symbols (kindCells kind (p .from) (p .to)) t9 → z ≡ passOn src false end (o .answer) (o .state)
+      → o ≡ pushRow s symbols (symbolCells kind (p .from) (p .to)) t9 → z ≡ passOn src false end (o .answer) (o .state)
       → made1 z (withTo d end) (o .a) ≡ bareItem src s d t1 t9
   unfolding bareItem
   bare-found p end b n kind o z e c k w h = rw (← q, e, ← c, ← k, ← w, ← h)

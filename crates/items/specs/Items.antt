@@ -25,7 +25,7 @@ use Rattle.grammar.specs.declared.Answer.{Answer}
 use Rattle.grammar.specs.declared.Answer.the-variants.{Going, Done, Refused}
 use Rattle.grammar.specs.declared.Gap.{Gap}
 use Rattle.grammar.specs.declared.Gap.the-variants.{GapTo, GapRefused}
-use Rattle.grammar.specs.Cells.{kindCells}
+use Rattle.grammar.specs.Cells.{symbolCells}
 use Rattle.grammar.specs.State.{Out0, Out1, Out2, count, withAt, gapAt, pushRow, enterStep, passOn, first2, second2}
 use Rattle.productions.specs.declared.Prec.the-variants.{NoPrec, PrecAt}
 use Rattle.productions.specs.declared.Act.the-variants.{NoAction, ActionAt}
@@ -161,7 +161,7 @@ refused2 f s d a b = record { answer = Refused f; state = s; draft = d; a = a; b
 
 -- "A quoted symbol is a token and joins table 1": its row there comes before that of table 9
 abbrev pub symbolEntered : Answer → Out1 → ℕ → ℕ → List ℕ → Out2
-symbolEntered Going o from to t9 = second2 (o .a) (pushRow (o .state) symbols (kindCells 2 from to) t9)
+symbolEntered Going o from to t9 = second2 (o .a) (pushRow (o .state) symbols (symbolCells 2 from to) t9)
 symbolEntered Done o from to t9 = record { answer = Done; state = o .state; a = o .a; b = t9 }
 symbolEntered (Refused f) o from to t9 = record { answer = Refused f; state = o .state; a = o .a; b = t9 }
 
@@ -252,7 +252,7 @@ symbolKind src n t1 from to = kindFound (findName src (width tokens) 0 n t1 from
 -- a bare symbol's row comes before its spacing
 abbrev pub bareFound : Token → List ℕ → State → Production → List ℕ → List ℕ → Made1
 bareFound (Found p end q) src s d t1 t9 =
-    nameEntered src end (pushRow s symbols (kindCells (symbolKind src (count s tokens) t1 (p .from) (p .to)) (p .from) (p .to)) t9) (withTo d end)
+    nameEntered src end (pushRow s symbols (symbolCells (symbolKind src (count s tokens) t1 (p .from) (p .to)) (p .from) (p .to)) t9) (withTo d end)
 bareFound (NoToken k) src s d t1 t9 = refused1 (Fault IllegalString k) s d t9
 
 unfoldable pub bareItem : List ℕ → State → Production → List ℕ → List ℕ → Made1

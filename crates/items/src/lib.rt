@@ -159,7 +159,7 @@ pub fn token_symbol(
     let next = e.state;
     match a {
         Answer::Going => {
-            let row = [2, from, to];
+            let row = [2, from, to, 0];
             grammar::push(next, tables::SYMBOLS, &row, t9)
         }
         Answer::Done => Step {
@@ -425,7 +425,7 @@ pub fn bare_item(
             let from = p.from as u32;
             let to = p.to as u32;
             let kind = symbol_kind(src, grammar::count_of(s, tables::TOKENS), t1, i1, from, to);
-            let row = [kind, from, to];
+            let row = [kind, from, to, 0];
             let r = grammar::push(s, tables::SYMBOLS, &row, t9);
             let q = grammar::pass_on(src, r, end, false);
             let mut made = d;

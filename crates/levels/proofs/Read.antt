@@ -26,7 +26,7 @@ use Rattle.lines.specs.Line.{isFeed}
 use Rattle.reader.specs.declared.Admission.{Admission}
 use Rattle.reader.specs.declared.Admission.the-variants.{Fit, Unfit}
 use Rattle.reader.specs.declared.Reading.{Reading}
-use Rattle.reader.specs.Read.{Result, asText, sized, sizedText, admitted, restAll, declared, sectionsFrom, sectionsAll, attemptOf, attempted, endedAt, result, finished, finishedRun, indexed, readAll}
+use Rattle.reader.specs.Read.{Result, asText, sized, sizedText, admitted, restAll, declared, sectionsFrom, sectionsAll, attemptOf, attempted, endedAt, result, finished, finishedRun, indexed, filledIn, readNames, readAll}
 use Rattle.reader.specs.Allowed.{Full}
 use Rattle.reader.proofs.Sound.{read-sound}
 use Rattle.levels.specs.Levels.{tokenFrom, tokenTo, levelOf, TwoRows, NoFeedBetween, NoLineEndBetween}
@@ -39,14 +39,14 @@ data Left (src : List ℕ) (o : Result) : Type 0 where
   full : Full (o .answer) → (n : ℕ) → Numbered n (o .tables .t2) → AllApart src n (o .tables .t2) → Left src o
 
 -- a reading that ended, behind the declarations
-ended : (src : List ℕ) (X : Indexes) (d : Out) → Numbered (count (d .state) precedences) (d .tables .t2) → ApartIn src d → (s : State) (T : Tables) → T .t2 ≡ d .tables .t2 → Left src (indexed src X (finished Going s T))
+ended : (src : List ℕ) (X : Indexes) (d : Out) → Numbered (count (d .state) precedences) (d .tables .t2) → ApartIn src d → (s : State) (T : Tables) → T .t2 ≡ d .tables .t2 → Left src (filledIn src (indexed src X (finished Going s T)))
 unfolding endedAt
 ended src X d f p s T e =
-    on-test (λ (r : Reading). Left src (indexed src X (result r T))) (eqb (count s repeats) 0) _ _
+    on-test (λ (r : Reading). Left src (filledIn src (indexed src X (result r T)))) (eqb (count s repeats) 0) _ _
     (λ q. full tt (count (d .state) precedences) (rw e f) (rw e p))
     (λ q. full tt (count (d .state) precedences) (rw e f) (rw e p))
 
-sections-left : (src : List ℕ) (kind : ℕ) (T : Tables) (X : Indexes) → length src ≤ 65536 → Left src (indexed src X (finishedRun (sectionsAll src kind fresh (zeroAll T))))
+sections-left : (src : List ℕ) (kind : ℕ) (T : Tables) (X : Indexes) → length src ≤ 65536 → Left src (filledIn src (indexed src X (finishedRun (sectionsAll src kind fresh (zeroAll T)))))
 unfolding sectionsAll
 sections-left src kind T X h =
     let U = zeroAll T in
@@ -54,12 +54,12 @@ sections-left src kind T X h =
     let f = fresh-far src T h in
     go (o .answer) o (declarations-far src 0 kind fresh (declared U) U f) (section-pairs src 0 kind fresh (declared U) U f (laid-none src 0 (U .t2)))
   where
-    rest : (a : Answer) (d : Out) → FarAll src 0 (zeroAll T) d → ApartIn src d → (s : State) (U : Tables) → U .t2 ≡ d .tables .t2 → Left src (indexed src X (finished a s U))
+    rest : (a : Answer) (d : Out) → FarAll src 0 (zeroAll T) d → ApartIn src d → (s : State) (U : Tables) → U .t2 ≡ d .tables .t2 → Left src (filledIn src (indexed src X (finished a s U)))
     rest Going d f p s U e = ended src X d (far-numbered f) p s U e
     rest Done d f p s U e = ended src X d (far-numbered f) p s U e
     rest (Refused r) d f p s U e = none refl
 
-    go : (a : Answer) (o : Out) → FarAll src 0 (zeroAll T) o → (a ≡ Done → ApartIn src o) → Left src (indexed src X (finishedRun (sectionsFrom a src kind o (zeroAll T))))
+    go : (a : Answer) (o : Out) → FarAll src 0 (zeroAll T) o → (a ≡ Done → ApartIn src o) → Left src (filledIn src (indexed src X (finishedRun (sectionsFrom a src kind o (zeroAll T)))))
     go Going o f p = none refl
     go Done o f p = let r = restAll src kind (o .state) (o .tables .t1) (zeroAll T .t7) (zeroAll T .t8) (zeroAll T .t9) in rest (r .answer) o f (p refl) (r .state) _ refl
     go (Refused r) o f p = none refl
@@ -82,10 +82,10 @@ admits src kind fit = on-test (Admits src) (ltb kind 1 || ltb 3 kind) _ _ (λ e.
     by false = tt
 
 left : (src : List ℕ) (kind : ℕ) (T : Tables) (X : Indexes) → Left src (readAll src kind T X)
-unfolding readAll attempted
+unfolding readAll readNames attempted
 left src kind T X = go (admitted src kind (sized T X)) (admits src kind (sized T X))
   where
-    go : (m : Admission) → Admits src m → Left src (indexed src X (finishedRun (attemptOf m src kind (zeroAll T))))
+    go : (m : Admission) → Admits src m → Left src (filledIn src (indexed src X (finishedRun (attemptOf m src kind (zeroAll T)))))
     go Fit h = sections-left src kind T X h
     go (Unfit f) h = none refl
 

@@ -27,7 +27,7 @@ use Rattle.grammar.specs.declared.Answer.{Answer}
 use Rattle.grammar.specs.declared.Answer.the-variants.{Going, Done, Refused}
 use Rattle.grammar.specs.declared.Gap.{Gap}
 use Rattle.grammar.specs.declared.Gap.the-variants.{GapTo, GapRefused}
-use Rattle.grammar.specs.Cells.{kindCells}
+use Rattle.grammar.specs.Cells.{symbolCells}
 use Rattle.grammar.specs.State.{Out1, count, withAt, gapAt, pushRow, enterStep}
 use Rattle.grammar.proofs.Touch.{refused-going}
 use Rattle.productions.specs.declared.Act.{Act}
@@ -74,7 +74,7 @@ production-row src at n d x = record { acted = go (d .action) x }
     go (ActionAt a b c e) y q = y .0
 
 -- the row of a symbol
-symbol-row : (src : List ℕ) (at kind end : ℕ) (p : Place) (quoted : Bool) → tokenAt src at ≡ Found p end quoted → (kind ≡ 1 → quoted ≡ false) → SymbolMade src (kindCells kind (p .from) (p .to))
+symbol-row : (src : List ℕ) (at kind end : ℕ) (p : Place) (quoted : Bool) → tokenAt src at ≡ Found p end quoted → (kind ≡ 1 → quoted ≡ false) → SymbolMade src (symbolCells kind (p .from) (p .to))
 symbol-row src at kind end p quoted e h =
     record { at = at; end = end; quoted = quoted; token = e; rule = h; plain = λ q. token-no-dot src at p end (told (λ (b : Bool). tokenAt src at ≡ Found p end b) q e) }
 
@@ -146,17 +146,17 @@ module _ (src : List ℕ) (t : Text src) (kind : ℕ) (t7 : List ℕ) where
             let c = y .2 in
             let l = y .3 in
             let k = symbolKind src (count s tokens) t1 (p .from) (p .to) in
-            let o = pushRow s symbols (kindCells k (p .from) (p .to)) t9 in
-            pass-made src kind (o .state) t7 t8 (o .a) (symbol-made src kind s t7 t8 t9 x (kindCells k (p .from) (p .to)) refl (symbol-row src (s .at) k end p q e (λ z. bare-of src (s .at) end p q (n (omega arith)) e))) false end (o .answer)
+            let o = pushRow s symbols (symbolCells k (p .from) (p .to)) t9 in
+            pass-made src kind (o .state) t7 t8 (o .a) (symbol-made src kind s t7 t8 t9 x (symbolCells k (p .from) (p .to)) refl (symbol-row src (s .at) k end p q e (λ z. bare-of src (s .at) end p q (n (omega arith)) e))) false end (o .answer)
         go (NoToken k) e y = x
 
     -- a quoted one,
-    token-symbol-made : (t1 : List ℕ) (from to : ℕ) → SymbolMade src (kindCells 2 from to) → let o = tokenSymbol src s from to t1 t9 in MadeAt src kind (o .state) t7 t8 (o .b)
+    token-symbol-made : (t1 : List ℕ) (from to : ℕ) → SymbolMade src (symbolCells 2 from to) → let o = tokenSymbol src s from to t1 t9 in MadeAt src kind (o .state) t7 t8 (o .b)
     unfolding tokenSymbol
     token-symbol-made t1 from to p = let e = enterStep src s from to false t1 in go (e .answer) e (enter-made src kind s t7 t8 t9 x from to false t1)
       where
         go : (a : Answer) (e : Out1) → MadeAt src kind (e .state) t7 t8 t9 → let o = symbolEntered a e from to t9 in MadeAt src kind (o .state) t7 t8 (o .b)
-        go Going e y = symbol-made src kind (e .state) t7 t8 t9 y (kindCells 2 from to) refl p
+        go Going e y = symbol-made src kind (e .state) t7 t8 t9 y (symbolCells 2 from to) refl p
         go Done e y = y
         go (Refused f) e y = y
 
@@ -192,7 +192,7 @@ module _ (src : List ℕ) (t : Text src) (kind : ℕ) (t7 : List ℕ) where
     unfolding quotedItem quotedRows
     quoted-made t1 = go (tokenAt src (s .at)) refl
       where
-        rows : (p : Place) (end : ℕ) → SymbolMade src (kindCells 2 (p .from) (p .to)) → (g : Gap) → let o = quotedGap g src s d (p .from) (p .to) end t1 t9 in MadeAt src kind (o .state) t7 t8 (o .b)
+        rows : (p : Place) (end : ℕ) → SymbolMade src (symbolCells 2 (p .from) (p .to)) → (g : Gap) → let o = quotedGap g src s d (p .from) (p .to) end t1 t9 in MadeAt src kind (o .state) t7 t8 (o .b)
         rows p end y (GapTo i n) = token-symbol-made (withAt s i) d t8 t9 x t1 (p .from) (p .to) y
         rows p end y (GapRefused f) = x
 

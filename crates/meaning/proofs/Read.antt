@@ -14,7 +14,10 @@ use Rattle.whole.specs.Whole.{checkAt}
 use Rattle.whole.specs.Encode.{Text}
 use Rattle.whole.proofs.Theorems.{good-iff}
 use Rattle.tables.specs.Rows.{rowAt}
-use Rattle.tables.specs.Layout.{rules, productions, symbols, repeats, place, action, kindName, width}
+use Rattle.tables.specs.Layout.{rules, productions, symbols, repeats, place, action, kindName, knownRow, width}
+use Rattle.symbols.specs.Symbols.{Lexicon, filledRows}
+use Rattle.symbols.proofs.Laws.{fill-cell}
+use Rattle.grammar.specs.declared.Param.{Param}
 use Rattle.grammar.specs.declared.Param.the-variants.{NoParam, ParamAt}
 use Rattle.grammar.specs.declared.Counts.{Counts}
 use Rattle.grammar.specs.declared.State.{State}
@@ -27,7 +30,7 @@ use Rattle.rules.specs.Rules.{Ruled, rulesAll}
 use Rattle.reader.specs.declared.Admission.{Admission}
 use Rattle.reader.specs.declared.Admission.the-variants.{Fit, Unfit}
 use Rattle.reader.specs.declared.Reading.{Reading}
-use Rattle.reader.specs.Read.{Result, asText, sized, sizedText, admitted, restFrom, restAll, declared, sectionsFrom, sectionsAll, attemptOf, attempted, endedAt, finished, finishedRun, indexed, readAll}
+use Rattle.reader.specs.Read.{Result, asText, sized, sizedText, admitted, restFrom, restAll, declared, sectionsFrom, sectionsAll, attemptOf, attempted, endedAt, finished, finishedRun, indexed, filledIn, readNames, readAll}
 use Rattle.meaning.specs.Regions.{ParamMade, ActionMade}
 use Rattle.meaning.specs.Made.{SymbolMade, TypeMade, ParamFrom, Made, MadeAt, MadeOf}
 use Rattle.meaning.proofs.Rules.{MadeIn, rules-made, programs-made}
@@ -55,16 +58,29 @@ module _ (src : List ℕ) (kind : ℕ) where
       go Done o x = let r = rulesAll src kind (o .state) (o .tables .t1) (T .t7) (T .t8) (T .t9) in rest (r .answer) r (rules-made src t kind (o .state) (o .tables .t1) (T .t7) (T .t8) (T .t9) x)
       go (Refused f) o x = x
 
-  finished-made : (X : Indexes) (a : Answer) (s : State) (T : Tables) → MadeAt src kind s (T .t7) (T .t8) (T .t9) → MadeOf src kind (indexed src X (finished a s T))
+  -- a symbol's row number has nothing to do with its name
+  made-filled : (c : Counts) (p : Param) (t7 t8 t9 : List ℕ) (g : Lexicon) (n : ℕ) → Made src kind c p t7 t8 t9 → Made src kind c p t7 t8 (filledRows g t9 n)
+  made-filled c p t7 t8 t9 g n x =
+      record {
+        rules = x .rules;
+        productions = x .productions;
+        symbols = λ r h. let y = x .symbols r h in record { at = y .at; end = y .end; quoted = y .quoted; token = rw (same r 1 (omega arith), same r 2 (omega arith)) (y .token); rule = rw (same r 0 (omega arith)) (y .rule); plain = rw (same r 1 (omega arith), same r 2 (omega arith)) (y .plain) };
+        param = x .param;
+      }
+    where
+      same : (r k : ℕ) → k < knownRow → getD (rowAt (width symbols) (filledRows g t9 n) r) k 0 ≡ getD (rowAt (width symbols) t9 r) k 0
+      same r k h = fill-cell g t9 n r k h
+
+  finished-made : (X : Indexes) (a : Answer) (s : State) (T : Tables) → MadeAt src kind s (T .t7) (T .t8) (T .t9) → MadeOf src kind (filledIn src (indexed src X (finished a s T)))
   unfolding endedAt
   finished-made X a s T x = go a
     where
       ended : let r = endedAt s (T .t10) in Made src kind (r .counts) (r .singles .param) (T .t7) (T .t8) (T .t9)
       ended = on-test (λ (r : Reading). Made src kind (r .counts) (r .singles .param) (T .t7) (T .t8) (T .t9)) (eqb (count s repeats) 0) _ _ (λ e. x) (λ e. x)
 
-      go : (a : Answer) → MadeOf src kind (indexed src X (finished a s T))
-      go Going = ended
-      go Done = ended
+      go : (a : Answer) → MadeOf src kind (filledIn src (indexed src X (finished a s T)))
+      go Going = made-filled _ _ _ _ _ _ _ ended
+      go Done = made-filled _ _ _ _ _ _ _ ended
       go (Refused f) = none-made src kind _ _ _ _ refl refl refl
 
   -- a source that can be read is a text
@@ -86,10 +102,10 @@ module _ (src : List ℕ) (kind : ℕ) where
 
   -- Each row of tables 7, 8 and 9 that a read leaves, and the parse parameter, is made from the source as it should be.
   pub read-made : (T : Tables) (X : Indexes) → MadeOf src kind (readAll src kind T X)
-  unfolding readAll attempted
+  unfolding readAll readNames attempted
   read-made T X = go (admitted src kind (sized T X)) (admits (sized T X))
     where
-      go : (m : Admission) → Admits m → MadeOf src kind (indexed src X (finishedRun (attemptOf m src kind (zeroAll T))))
+      go : (m : Admission) → Admits m → MadeOf src kind (filledIn src (indexed src X (finishedRun (attemptOf m src kind (zeroAll T)))))
       go Fit t = let r = sectionsAll src kind fresh (zeroAll T) in finished-made X (r .answer) (r .state) (r .tables) (sections-made t (zeroAll T))
       go (Unfit f) t = none-made src kind _ _ _ _ refl refl refl
 

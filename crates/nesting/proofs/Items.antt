@@ -31,7 +31,7 @@ use Rattle.grammar.specs.declared.Answer.{Answer}
 use Rattle.grammar.specs.declared.Answer.the-variants.{Going, Done, Refused}
 use Rattle.grammar.specs.declared.Gap.{Gap}
 use Rattle.grammar.specs.declared.Gap.the-variants.{GapTo, GapRefused}
-use Rattle.grammar.specs.Cells.{kindCells, tokenCells}
+use Rattle.grammar.specs.Cells.{symbolCells, tokenCells}
 use Rattle.grammar.specs.State.{Out1, count, withAt, gapAt, Gapped, pushed, pushRow, entered, enterStep, past, pastGap, passOn}
 use Rattle.grammar.proofs.Far.{far-at}
 use Rattle.grammar.specs.Sound.{Tables, Far}
@@ -81,9 +81,9 @@ enter-still src s a b d t = go (enterToken src (count s tokens) a b d t .entered
     go Full x = record { other = λ j e. refl; ten = refl; at = refl }
 
 -- A symbol's row is added behind those counted in v, and the reading comes to stand at u.
-symbol-nested : {src : List ℕ} (s : State) (d : Production) {t8 t9 : List ℕ} → Nested src s d t8 t9 → Actionless (d .action) → (v : State) → length (v .counts .n) ≡ 10 → count v symbols ≡ count s symbols → count v productions ≡ count s productions → (kind from to end : ℕ) → s .at ≤ from → from < to → to ≤ end → let o = pushRow v symbols (kindCells kind from to) t9 in o .answer ≡ Going → (u : State) → u .counts ≡ o .state .counts → end ≤ u .at → Nested src u (withTo d end) t8 (o .a)
+symbol-nested : {src : List ℕ} (s : State) (d : Production) {t8 t9 : List ℕ} → Nested src s d t8 t9 → Actionless (d .action) → (v : State) → length (v .counts .n) ≡ 10 → count v symbols ≡ count s symbols → count v productions ≡ count s productions → (kind from to end : ℕ) → s .at ≤ from → from < to → to ≤ end → let o = pushRow v symbols (symbolCells kind from to) t9 in o .answer ≡ Going → (u : State) → u .counts ≡ o .state .counts → end ≤ u .at → Nested src u (withTo d end) t8 (o .a)
 symbol-nested {src} s d {t8} {t9} x free v ten c9 c8 kind from to end a b c g u k l =
-    let row = kindCells kind from to in
+    let row = symbolCells kind from to in
     let p = push-is v symbols row t9 (rw ten (omega arith)) g in
     let room = p .room in
     let low = p .low in
@@ -105,7 +105,7 @@ module _ {src : List ℕ} (s : State) (d : Production) {t8 t9 : List ℕ} (here 
       go : (t : Token) → Tokened src (s .at) t → let o = bareFound t src s d t1 t9 in o .answer ≡ Going → Nested src (o .state) (o .draft) t8 (o .a)
       go (Found p end q) y g =
           let k = symbolKind src (count s tokens) t1 (p .from) (p .to) in
-          let o = pushRow s symbols (kindCells k (p .from) (p .to)) t9 in
+          let o = pushRow s symbols (symbolCells k (p .from) (p .to)) t9 in
           let w = pass-going src false end (o .answer) (o .state) g .went in
           symbol-nested s d x free s ten refl refl k (p .from) (p .to) end (y .0) (y .1) (y .2) w (passOn src false end (o .answer) (o .state) .state) (pass-counts src false end (o .answer) (o .state)) (pass-onward src end (o .state) (o .answer) (y .3) .beyond g)
       go (NoToken k) y g = absurd (refused-going _ g)
@@ -117,9 +117,9 @@ module _ {src : List ℕ} (s : State) (d : Production) {t8 t9 : List ℕ} (here 
     where
       entry : (i : ℕ) → end ≤ i → (r : Answer) (v : Out1) → TokensAlone (withAt s i) (v .state) → let o = symbolEntered r v from to t9 in o .answer ≡ Going → Nested src (o .state) (withTo d end) t8 (o .b)
       entry i h Going v z g =
-          let o = pushRow (v .state) symbols (kindCells 2 from to) t9 in
+          let o = pushRow (v .state) symbols (symbolCells 2 from to) t9 in
           let tens = z .ten ∙ ten in
-          let p = push-is (v .state) symbols (kindCells 2 from to) t9 (rw tens (omega arith)) g in
+          let p = push-is (v .state) symbols (symbolCells 2 from to) t9 (rw tens (omega arith)) g in
           let l = z .at in
           let k = p .at in
           symbol-nested s d x free (v .state) tens (z .other symbols (λ e. omega arith)) (z .other productions (λ e. omega arith)) 2 from to end a b c g (o .state) refl (omega arith)

@@ -11,8 +11,12 @@ use Rattle.scan.proofs.Bytes.{on-test}
 use Rattle.whole.specs.declared.Checked.{Checked}
 use Rattle.whole.specs.declared.Checked.the-variants.{Good, BadAt}
 use Rattle.whole.specs.Whole.{checkAt}
-use Rattle.tables.specs.Layout.{productions, symbols, repeats, width}
+use Rattle.tables.specs.Layout.{productions, symbols, repeats, kindName, width}
+use Rattle.tables.specs.Rows.{rowAt}
 use Rattle.tables.proofs.Rows.{rows-zeroed}
+use Rattle.symbols.specs.Symbols.{Lexicon, filledRows}
+use Rattle.symbols.proofs.Laws.{fill-cell}
+use Rattle.grammar.specs.declared.Counts.{Counts}
 use Rattle.grammar.specs.declared.State.{State}
 use Rattle.grammar.specs.declared.Answer.{Answer}
 use Rattle.grammar.specs.declared.Answer.the-variants.{Going, Done, Refused}
@@ -29,7 +33,7 @@ use Rattle.reader.specs.declared.Verdict.the-variants.{Accepted, Rejected}
 use Rattle.reader.specs.declared.Admission.{Admission}
 use Rattle.reader.specs.declared.Admission.the-variants.{Fit, Unfit}
 use Rattle.reader.specs.declared.Reading.{Reading}
-use Rattle.reader.specs.Read.{asText, sized, sizedText, admitted, restFrom, restAll, declared, withDeclared, sectionsFrom, sectionsAll, attemptOf, attempted, endedAt, finished, finishedRun, readAll}
+use Rattle.reader.specs.Read.{asText, sized, sizedText, admitted, restFrom, restAll, declared, withDeclared, sectionsFrom, sectionsAll, attemptOf, attempted, endedAt, finished, finishedRun, withSymbols, readNames, readAll}
 use Rattle.nesting.specs.Nest.{Nest}
 use Rattle.nesting.specs.Under.{Lain, Settled}
 use Rattle.nesting.proofs.Rules.{LainUnless, lies-refused, settled-on, rules-nested}
@@ -108,6 +112,23 @@ admits src kind fit = on-test (Admits src) (ltb kind 1 || ltb 3 kind) _ _ (λ e.
     by true = on-test (Admits src) (ltb 65536 (length src)) _ _ (λ h. tt) (λ h. go (checkAt src 0) (ltb-false _ _ h))
     by false = tt
 
+-- a symbol's row number has nothing to do with its place
+nest-filled : (c : Counts) (T : Tables) (g : Lexicon) (n : ℕ) → Nest c T → Nest c (withSymbols T (filledRows g (T .t9) n))
+nest-filled c T g n x =
+    record {
+      inside = λ r q h a b. let i = x .inside r q h a b in record { starts = rw (from q) (i .starts); ends = rw (to q) (i .ends) };
+      inked = λ q h. record { some = rw (from q, to q) (x .inked q h .some) };
+      ordered = λ q r l h. record { apart = rw (to q, from r) (x .ordered q r l h .apart) };
+      follow = x .follow;
+      behind = x .behind;
+    }
+  where
+    from : (q : ℕ) → getD (rowAt (width symbols) (filledRows g (T .t9) n) q) kindName 0 ≡ getD (rowAt (width symbols) (T .t9) q) kindName 0
+    from q = fill-cell g (T .t9) n q kindName (omega arith)
+
+    to : (q : ℕ) → getD (rowAt (width symbols) (filledRows g (T .t9) n) q) (kindName + 1) 0 ≡ getD (rowAt (width symbols) (T .t9) q) (kindName + 1) 0
+    to q = fill-cell g (T .t9) n q (kindName + 1) (omega arith)
+
 finished-nested : (a : Answer) (s : State) (T : Tables) → Rests a s T → let o = finished a s T in Nest (o .counts) (o .tables)
 unfolding endedAt
 finished-nested a s T x = go a x
@@ -123,8 +144,8 @@ finished-nested a s T x = go a x
 
 -- Places nest in every reading, whatever its answer: in an accepted one, in one that was refused for repeats only; any other leaves no production.
 pub read-nests : (src : List ℕ) (kind : ℕ) (T : Tables) (X : Indexes) → Nest (readAll src kind T X .counts) (readAll src kind T X .tables)
-unfolding readAll attempted
-read-nests src kind T X = go (admitted src kind (sized T X)) (admits src kind (sized T X))
+unfolding readAll readNames attempted
+read-nests src kind T X = nest-filled _ _ _ _ (go (admitted src kind (sized T X)) (admits src kind (sized T X)))
   where
     go : (m : Admission) → Admits src m → let o = finishedRun (attemptOf m src kind (zeroAll T)) in Nest (o .counts) (o .tables)
     go Fit h = let r = sectionsAll src kind fresh (zeroAll T) in finished-nested (r .answer) (r .state) (r .tables) (sections-nested src kind T h)

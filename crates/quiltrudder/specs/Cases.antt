@@ -24,6 +24,7 @@ use Rattle.grammar.specs.State.{nextLevel, gapOf, gapAt, pushRow, listRepeat, e
 use Rattle.index.specs.Hash.{hashFrom, hashOf}
 use Rattle.tables.specs.Below.{below}
 use Rattle.index.specs.Index.{freshName, nextSlot, freeSlot, enterRow, entries, stands, rowStands, filled as index-filled, indexTest, halved, isPower, sizeTest}
+use Rattle.symbols.specs.Symbols.{namedRow, rowFor, filledRows, knowsTest}
 use Rattle.grammar.specs.Sound.{Tables, Indexes}
 use Rattle.settings.specs.Settings.{startNamed, startDecl, expectGiven, expectDecl, actiontypeNamed, actiontypeDecl, paramTyped, paramDecl, genericsDecl}
 use Rattle.lists.specs.Lists.{tokenItem, unusedRow, unusedItem, ends, listTurn, percentList, listDecl}
@@ -33,14 +34,14 @@ use Rattle.epps.specs.Epps.{eppGiven, eppText, eppValue, eppDecl}
 use Rattle.declarations.specs.Declarations.{declStep, declTurn, declRun, declAll}
 use Rattle.items.specs.Items.{firstMark, sortAt, tokenSymbol, quotedRows, quotedItem, precName, precItem as item-precItem, mayEnd, afterAction, actionItem, mayFollow, emptyItem, symbolKind, bareItem, endProduction, barItem, endItem, itemStep, itemTurn, itemList}
 use Rattle.rules.specs.Rules.{passMark, firstStart, colonType, arrowType, ruleType, enterRule, namedHead, ruleHead, ruleBody, ruleStep, nextRule, rulesTurn, rulesRun, rulesAll, programsFrom}
-use Rattle.reader.specs.Read.{Result, sizesFit, admitted, restAll, sectionsAll, attempted, endedAt, readAll}
+use Rattle.reader.specs.Read.{Result, sizesFit, admitted, restAll, sectionsAll, attempted, endedAt, readNames, readAll}
 use Rattle.grammar.specs.declared.Refusal.{Refusal}
 use Rattle.grammar.specs.Refusals.{ofNumber, repeatOf}
 use Rattle.grammar.specs.declared.Refusal.the-variants.{Fault, Repeated, NoRoom, TooLong, BadKind, BadIndex}
 use Rattle.reader.specs.declared.Verdict.{Verdict}
 use Rattle.reader.specs.declared.Verdict.the-variants.{Accepted, Rejected}
 use Rattle.reader.specs.Cases.{Input, row, filled, numbers}
-use Rattle.sound.specs.Test.{zeros, zerosFrom, givenTest, actionTest, tokenTest, precTest, nameTest, eppTest, kindTest, ruleTest, productionTest, repeatTest, tableTest, before, rangeTest, rangesTest, singlesTest, indexRight, indexesTest, tablesTest, soundTest}
+use Rattle.sound.specs.Test.{zeros, zerosFrom, givenTest, actionTest, tokenTest, precTest, nameTest, eppTest, kindTest, ruleTest, productionTest, repeatTest, tableTest, before, rangeTest, rangesTest, singlesTest, indexRight, indexesTest, knownTest, tablesTest, soundTest}
 use Rattle.productions.specs.Cells.{pushProduction, precOf, productionAt}
 use Rattle.validation.specs.Faults.{validityNumbers, upto, known, nameFaults, kindFaults, kindsFaults, productionFaults, ruleFaults, rulesFaults, eppFaults, eppsFaults, faults, validity}
 
@@ -87,7 +88,7 @@ table =
     -- `%%s:;`, kind 2
     ∷ row 2 (37 ∷ 37 ∷ 115 ∷ 58 ∷ 59 ∷ []) (8 ∷ 3 ∷ 3 ∷ 0 ∷ 0 ∷ 0 ∷ 0 ∷ 0 ∷ 0 ∷ 0 ∷ 0 ∷ 0 ∷ 0 ∷ 0 ∷ 0 ∷ 0 ∷ 0 ∷ 0 ∷ 0 ∷ 0 ∷ 0 ∷ 0 ∷ 0 ∷ 0 ∷ 0 ∷ 0 ∷ 0 ∷ 0 ∷ 0 ∷ 0 ∷ 0 ∷ 0 ∷ 0 ∷ 0 ∷ 0 ∷ [])
     -- `%tokenA%%s:A;`, kind 1
-    ∷ row 1 (37 ∷ 116 ∷ 111 ∷ 107 ∷ 101 ∷ 110 ∷ 65 ∷ 37 ∷ 37 ∷ 115 ∷ 58 ∷ 65 ∷ 59 ∷ []) (0 ∷ 13 ∷ 13 ∷ 1 ∷ 0 ∷ 0 ∷ 0 ∷ 0 ∷ 0 ∷ 1 ∷ 1 ∷ 1 ∷ 0 ∷ 6 ∷ 7 ∷ 1 ∷ 9 ∷ 10 ∷ 0 ∷ 0 ∷ 0 ∷ 0 ∷ 11 ∷ 12 ∷ 0 ∷ 1 ∷ 0 ∷ 0 ∷ 0 ∷ 0 ∷ 0 ∷ 0 ∷ 0 ∷ 0 ∷ 2 ∷ 11 ∷ 12 ∷ 1 ∷ 9 ∷ 10 ∷ 0 ∷ 0 ∷ 0 ∷ 0 ∷ 0 ∷ 0 ∷ 0 ∷ 0 ∷ 0 ∷ 0 ∷ 0 ∷ 0 ∷ 0 ∷ 0 ∷ 0 ∷ 0 ∷ 0 ∷ 0 ∷ 0 ∷ 0 ∷ 0 ∷ 0 ∷ [])
+    ∷ row 1 (37 ∷ 116 ∷ 111 ∷ 107 ∷ 101 ∷ 110 ∷ 65 ∷ 37 ∷ 37 ∷ 115 ∷ 58 ∷ 65 ∷ 59 ∷ []) (0 ∷ 13 ∷ 13 ∷ 1 ∷ 0 ∷ 0 ∷ 0 ∷ 0 ∷ 0 ∷ 1 ∷ 1 ∷ 1 ∷ 0 ∷ 6 ∷ 7 ∷ 1 ∷ 9 ∷ 10 ∷ 0 ∷ 0 ∷ 0 ∷ 0 ∷ 11 ∷ 12 ∷ 0 ∷ 1 ∷ 0 ∷ 0 ∷ 0 ∷ 0 ∷ 0 ∷ 0 ∷ 0 ∷ 0 ∷ 2 ∷ 11 ∷ 12 ∷ 0 ∷ 1 ∷ 9 ∷ 10 ∷ 0 ∷ 0 ∷ 0 ∷ 0 ∷ 0 ∷ 0 ∷ 0 ∷ 0 ∷ 0 ∷ 0 ∷ 0 ∷ 0 ∷ 0 ∷ 0 ∷ 0 ∷ 0 ∷ 0 ∷ 0 ∷ 0 ∷ 0 ∷ 0 ∷ 0 ∷ [])
     -- `%left'a'`, kind 1
     ∷ row 1 (37 ∷ 108 ∷ 101 ∷ 102 ∷ 116 ∷ 39 ∷ 97 ∷ 39 ∷ []) (10 ∷ 8 ∷ 8 ∷ 0 ∷ 0 ∷ 0 ∷ 0 ∷ 0 ∷ 0 ∷ 0 ∷ 0 ∷ 0 ∷ 0 ∷ 0 ∷ 0 ∷ 0 ∷ 0 ∷ 0 ∷ 0 ∷ 0 ∷ 0 ∷ 0 ∷ 0 ∷ 0 ∷ 0 ∷ 0 ∷ 0 ∷ 0 ∷ 0 ∷ 0 ∷ 0 ∷ 0 ∷ 0 ∷ 0 ∷ 0 ∷ [])
     -- `%avoid_insert'a'`, kind 1
@@ -99,9 +100,9 @@ table =
     -- `%token\nA`, kind 1
     ∷ row 1 (37 ∷ 116 ∷ 111 ∷ 107 ∷ 101 ∷ 110 ∷ 10 ∷ 65 ∷ []) (13 ∷ 6 ∷ 6 ∷ 0 ∷ 0 ∷ 0 ∷ 0 ∷ 0 ∷ 0 ∷ 0 ∷ 0 ∷ 0 ∷ 0 ∷ 0 ∷ 0 ∷ 0 ∷ 0 ∷ 0 ∷ 0 ∷ 0 ∷ 0 ∷ 0 ∷ 0 ∷ 0 ∷ 0 ∷ 0 ∷ 0 ∷ 0 ∷ 0 ∷ 0 ∷ 0 ∷ 0 ∷ 0 ∷ 0 ∷ 0 ∷ [])
     -- `%token//\nA%%s:A;`, kind 1
-    ∷ row 1 (37 ∷ 116 ∷ 111 ∷ 107 ∷ 101 ∷ 110 ∷ 47 ∷ 47 ∷ 10 ∷ 65 ∷ 37 ∷ 37 ∷ 115 ∷ 58 ∷ 65 ∷ 59 ∷ []) (0 ∷ 16 ∷ 16 ∷ 1 ∷ 0 ∷ 0 ∷ 0 ∷ 0 ∷ 0 ∷ 1 ∷ 1 ∷ 1 ∷ 0 ∷ 9 ∷ 10 ∷ 1 ∷ 12 ∷ 13 ∷ 0 ∷ 0 ∷ 0 ∷ 0 ∷ 14 ∷ 15 ∷ 0 ∷ 1 ∷ 0 ∷ 0 ∷ 0 ∷ 0 ∷ 0 ∷ 0 ∷ 0 ∷ 0 ∷ 2 ∷ 14 ∷ 15 ∷ 1 ∷ 12 ∷ 13 ∷ 0 ∷ 0 ∷ 0 ∷ 0 ∷ 0 ∷ 0 ∷ 0 ∷ 0 ∷ 0 ∷ 0 ∷ 0 ∷ 0 ∷ 0 ∷ 0 ∷ 0 ∷ 0 ∷ 0 ∷ 0 ∷ 0 ∷ 0 ∷ 0 ∷ 0 ∷ [])
+    ∷ row 1 (37 ∷ 116 ∷ 111 ∷ 107 ∷ 101 ∷ 110 ∷ 47 ∷ 47 ∷ 10 ∷ 65 ∷ 37 ∷ 37 ∷ 115 ∷ 58 ∷ 65 ∷ 59 ∷ []) (0 ∷ 16 ∷ 16 ∷ 1 ∷ 0 ∷ 0 ∷ 0 ∷ 0 ∷ 0 ∷ 1 ∷ 1 ∷ 1 ∷ 0 ∷ 9 ∷ 10 ∷ 1 ∷ 12 ∷ 13 ∷ 0 ∷ 0 ∷ 0 ∷ 0 ∷ 14 ∷ 15 ∷ 0 ∷ 1 ∷ 0 ∷ 0 ∷ 0 ∷ 0 ∷ 0 ∷ 0 ∷ 0 ∷ 0 ∷ 2 ∷ 14 ∷ 15 ∷ 0 ∷ 1 ∷ 12 ∷ 13 ∷ 0 ∷ 0 ∷ 0 ∷ 0 ∷ 0 ∷ 0 ∷ 0 ∷ 0 ∷ 0 ∷ 0 ∷ 0 ∷ 0 ∷ 0 ∷ 0 ∷ 0 ∷ 0 ∷ 0 ∷ 0 ∷ 0 ∷ 0 ∷ 0 ∷ 0 ∷ [])
     -- `%%s:""x";`, kind 1
-    ∷ row 1 (37 ∷ 37 ∷ 115 ∷ 58 ∷ 34 ∷ 34 ∷ 120 ∷ 34 ∷ 59 ∷ []) (0 ∷ 9 ∷ 9 ∷ 1 ∷ 0 ∷ 0 ∷ 0 ∷ 0 ∷ 0 ∷ 1 ∷ 1 ∷ 1 ∷ 0 ∷ 5 ∷ 7 ∷ 0 ∷ 2 ∷ 3 ∷ 0 ∷ 0 ∷ 0 ∷ 0 ∷ 4 ∷ 8 ∷ 0 ∷ 1 ∷ 0 ∷ 0 ∷ 0 ∷ 0 ∷ 0 ∷ 0 ∷ 0 ∷ 0 ∷ 2 ∷ 5 ∷ 7 ∷ 1 ∷ 2 ∷ 3 ∷ 0 ∷ 0 ∷ 0 ∷ 0 ∷ 0 ∷ 0 ∷ 0 ∷ 0 ∷ 0 ∷ 0 ∷ 0 ∷ 0 ∷ 0 ∷ 0 ∷ 0 ∷ 0 ∷ 0 ∷ 0 ∷ 0 ∷ 0 ∷ 0 ∷ 0 ∷ [])
+    ∷ row 1 (37 ∷ 37 ∷ 115 ∷ 58 ∷ 34 ∷ 34 ∷ 120 ∷ 34 ∷ 59 ∷ []) (0 ∷ 9 ∷ 9 ∷ 1 ∷ 0 ∷ 0 ∷ 0 ∷ 0 ∷ 0 ∷ 1 ∷ 1 ∷ 1 ∷ 0 ∷ 5 ∷ 7 ∷ 0 ∷ 2 ∷ 3 ∷ 0 ∷ 0 ∷ 0 ∷ 0 ∷ 4 ∷ 8 ∷ 0 ∷ 1 ∷ 0 ∷ 0 ∷ 0 ∷ 0 ∷ 0 ∷ 0 ∷ 0 ∷ 0 ∷ 2 ∷ 5 ∷ 7 ∷ 0 ∷ 1 ∷ 2 ∷ 3 ∷ 0 ∷ 0 ∷ 0 ∷ 0 ∷ 0 ∷ 0 ∷ 0 ∷ 0 ∷ 0 ∷ 0 ∷ 0 ∷ 0 ∷ 0 ∷ 0 ∷ 0 ∷ 0 ∷ 0 ∷ 0 ∷ 0 ∷ 0 ∷ 0 ∷ 0 ∷ [])
     -- `%%s:{ };`, kind 1
     ∷ row 1 (37 ∷ 37 ∷ 115 ∷ 58 ∷ 123 ∷ 32 ∷ 125 ∷ 59 ∷ []) (0 ∷ 8 ∷ 8 ∷ 0 ∷ 0 ∷ 0 ∷ 0 ∷ 0 ∷ 0 ∷ 1 ∷ 1 ∷ 0 ∷ 0 ∷ 2 ∷ 3 ∷ 0 ∷ 0 ∷ 0 ∷ 0 ∷ 4 ∷ 4 ∷ 0 ∷ 0 ∷ 0 ∷ 0 ∷ 0 ∷ 1 ∷ 5 ∷ 5 ∷ 5 ∷ 5 ∷ 1 ∷ 2 ∷ 3 ∷ 0 ∷ 0 ∷ 0 ∷ 0 ∷ 0 ∷ 0 ∷ 0 ∷ 0 ∷ 0 ∷ 0 ∷ 0 ∷ 0 ∷ 0 ∷ 0 ∷ 0 ∷ 0 ∷ 0 ∷ 0 ∷ 0 ∷ 0 ∷ 0 ∷ 0 ∷ [])
     -- `%start a%start b%%a:;`, kind 1
@@ -109,5 +110,5 @@ table =
     ∷ []
 
 pub table-holds : all (λ x. told (x .src) (readAll (x .src) (x .kind) lent slots)) table ≡ true
-unfolding isWhite all same row table filled numbers readAll attempted sizesFit sizeTest isPower halved admitted sectionsAll restAll endedAt repeatOf ofNumber check checkAt declAll declRun declTurn declStep seenAt firstOf startsAt begins turns gapAt gapOf spacing spacingAt isBlank isEol pastGap pushRow listRepeat enterStep onceStep addRow room samePart hasName firstRow findName enterToken nextLevel nameAt named wordAt tokenAt bare quotedAt closed isQuote isAt inClass isLetter isDigit runEnd runEndAt intAt counted decimal decimalAt stringAt stringFrom string lineEndAt single singleFrom colonText colonTextAt braced bracedFrom acted actionAt startDecl startNamed expectDecl expectGiven actiontypeDecl actiontypeNamed paramTyped paramDecl genericsDecl listDecl percentList listTurn ends tokenItem unusedItem unusedRow precDecl precList precTurn precItem avoidDecl avoidList avoidTurn avoidItem avoidNamed eppDecl eppValue eppText eppGiven pushProduction leadOf follow followAt begun decode decodeAt passed passedAt kept moved trimTurn trimmed firstMark sortAt tokenSymbol quotedRows quotedItem precName item-precItem mayEnd afterAction actionItem mayFollow emptyItem symbolKind bareItem endProduction barItem endItem itemStep itemTurn itemList passMark firstStart colonType arrowType ruleType enterRule namedHead ruleHead ruleBody ruleStep nextRule rulesTurn rulesRun rulesAll programsFrom zeros zerosFrom below givenTest actionTest tokenTest precTest nameTest eppTest kindTest ruleTest productionTest repeatTest freshName tableTest before rangeTest rangesTest singlesTest hashFrom hashOf nextSlot freeSlot enterRow entries stands rowStands index-filled indexTest indexRight indexesTest tablesTest soundTest upto known nameFaults kindFaults kindsFaults productionFaults ruleFaults rulesFaults eppFaults eppsFaults faults validity productionAt precOf
+unfolding isWhite all same row table filled numbers readAll readNames filledRows rowFor namedRow attempted sizesFit sizeTest isPower halved admitted sectionsAll restAll endedAt repeatOf ofNumber check checkAt declAll declRun declTurn declStep seenAt firstOf startsAt begins turns gapAt gapOf spacing spacingAt isBlank isEol pastGap pushRow listRepeat enterStep onceStep addRow room samePart hasName firstRow findName enterToken nextLevel nameAt named wordAt tokenAt bare quotedAt closed isQuote isAt inClass isLetter isDigit runEnd runEndAt intAt counted decimal decimalAt stringAt stringFrom string lineEndAt single singleFrom colonText colonTextAt braced bracedFrom acted actionAt startDecl startNamed expectDecl expectGiven actiontypeDecl actiontypeNamed paramTyped paramDecl genericsDecl listDecl percentList listTurn ends tokenItem unusedItem unusedRow precDecl precList precTurn precItem avoidDecl avoidList avoidTurn avoidItem avoidNamed eppDecl eppValue eppText eppGiven pushProduction leadOf follow followAt begun decode decodeAt passed passedAt kept moved trimTurn trimmed firstMark sortAt tokenSymbol quotedRows quotedItem precName item-precItem mayEnd afterAction actionItem mayFollow emptyItem symbolKind bareItem endProduction barItem endItem itemStep itemTurn itemList passMark firstStart colonType arrowType ruleType enterRule namedHead ruleHead ruleBody ruleStep nextRule rulesTurn rulesRun rulesAll programsFrom zeros zerosFrom below givenTest actionTest tokenTest precTest nameTest eppTest kindTest ruleTest productionTest repeatTest freshName tableTest before rangeTest rangesTest singlesTest hashFrom hashOf nextSlot freeSlot enterRow entries stands rowStands index-filled indexTest indexRight indexesTest knowsTest knownTest tablesTest soundTest upto known nameFaults kindFaults kindsFaults productionFaults ruleFaults rulesFaults eppFaults eppsFaults faults validity productionAt precOf
 table-holds = refl

@@ -13,14 +13,14 @@ use lib.Dec.{eqb}
 use Rattle.bits.specs.Bits.{bit, setBit, BitSet}
 use Rattle.bits.proofs.Bits.{bit-cases, set-there, ones-more, set-again, set-only}
 use Rattle.tables.specs.Table.{cell, findName}
-use Rattle.tables.specs.Layout.{productions, symbols, ruleRow, symbolsFrom, symbolsTo, prec, kindName, width}
+use Rattle.tables.specs.Layout.{productions, symbols, ruleRow, symbolsFrom, symbolsTo, prec, knownRow, width}
 use Rattle.tables.specs.declared.Found.{Found}
 use Rattle.tables.specs.declared.Found.the-variants.{RowAt, NoRow}
 use Rattle.tables.proofs.Cases.{find-iff, none-iff}
 use Rattle.grammar.specs.declared.Part.{Part}
 use Rattle.grammar.specs.declared.Part.the-variants.{Absent, At}
 use Rattle.reach.specs.declared.Sort.{Sort}
-use Rattle.reach.specs.Reach.{Named, Net, Calls, Begins, Apart, Grew, Adds, Added, Fits, Called, Among, Held, HeldPrec, Within, Visited}
+use Rattle.reach.specs.Reach.{Named, Net, Calls, Begins, Apart, Grew, Adds, Added, Fits, Called, Knowing, Told, InRow, Among, Held, HeldPrec, Within, Visited}
 
 -- ---- what a step adds, and whether something is new
 
@@ -113,66 +113,72 @@ module _ (src : List ℕ) (d : Named) (a b : ℕ) (f : Found) (e : f ≡ findNam
 
 -- ---- symbols
 
-module _ (src ss : List ℕ) (d : Named) where
-  -- the one symbol s
-  pub symbol-other : (s x : ℕ) (ws : List ℕ) → x ≡ cell (width symbols) ss s 0 → (x ≡ d .sort .kind → ⊥) → Added (Among src ss d s (s + 1)) ws ws false
+module _ (ss : List ℕ) (z : Sort) where
+  -- the one symbol s is of another sort,
+  pub symbol-other : (s x : ℕ) (ws : List ℕ) → x ≡ cell (width symbols) ss s 0 → (x ≡ z .kind → ⊥) → Added (InRow ss z s (s + 1)) ws ws false
   symbol-other s x ws e ne =
       added-none ws (λ k q.
-      let i : q .sym ≡ s = omega (arith, q .holds .from, q .holds .to) in
-      absurd (ne (e ∙ rw (← i) (q .holds .kind))))
+      let i : q .sym ≡ s = omega (arith, q .from, q .to) in
+      absurd (ne (e ∙ rw (← i) (q .kind))))
 
-  pub symbol-named : (s x a b : ℕ) (ws vs : List ℕ) (r : Bool) → x ≡ cell (width symbols) ss s 0 → x ≡ d .sort .kind → a ≡ cell (width symbols) ss s kindName → b ≡ cell (width symbols) ss s (kindName + 1)
-      → Added (Called src d a b) ws vs r → Added (Among src ss d s (s + 1)) ws vs r
-  symbol-named s x a b ws vs r e h f g m =
+  -- or has no row,
+  pub symbol-rowless : (s x : ℕ) (ws : List ℕ) → x ≡ cell (width symbols) ss s knownRow → z .count ≤ x → Added (InRow ss z s (s + 1)) ws ws false
+  symbol-rowless s x ws e l =
+      added-none ws (λ k q.
+      let i : q .sym ≡ s = omega (arith, q .from, q .to) in
+      absurd (omega (arith, rw i at (q .inside))))
+
+  -- or its row is marked
+  pub symbol-marked : (s x r : ℕ) (ws vs : List ℕ) (b : Bool) → x ≡ cell (width symbols) ss s 0 → x ≡ z .kind → r ≡ cell (width symbols) ss s knownRow → r < z .count
+      → Added (λ (j : ℕ). j ≡ z .base + r) ws vs b → Added (InRow ss z s (s + 1)) ws vs b
+  symbol-marked s x r ws vs b e h f l m =
       added-same
-      (λ k q. record { sym = s; row = q .row; holds = record { from = omega arith; to = omega arith; kind = sym e ∙ h; row = rw (← f, ← g) (q .calls) }; bit-is = q .bit-is })
+      (λ k q. record { sym = s; from = omega arith; to = omega arith; kind = sym e ∙ h; inside = rw (← f) l; bit-is = rw (← f) q })
       (λ k q.
-      let i : q .sym ≡ s = omega (arith, q .holds .from, q .holds .to) in
-      record { row = q .row; calls = rw (f, g) (rw i at (q .holds .row)); bit-is = q .bit-is })
+      let i : q .sym ≡ s = omega (arith, q .from, q .to) in
+      rw f (rw i at (q .bit-is)))
       m
 
-  -- none
-  pub among-none : (f t : ℕ) (ws : List ℕ) → t ≤ f → Added (Among src ss d f t) ws ws false
-  among-none f t ws h = added-none ws (λ k q. absurd (omega (arith, q .holds .from, q .holds .to)))
+  -- no symbol
+  pub symbols-none : (f t : ℕ) (ws : List ℕ) → t ≤ f → Added (InRow ss z f t) ws ws false
+  symbols-none f t ws h = added-none ws (λ k q. absurd (omega (arith, q .from, q .to)))
 
-  -- what is among a part is among the whole
-  pub among-wider : (f t f' t' k : ℕ) → f' ≤ f → t ≤ t' → Among src ss d f t k → Among src ss d f' t' k
-  among-wider f t f' t' k h l q = record {
-    sym = q .sym;
-    row = q .row;
-    holds = record { from = omega (arith, q .holds .from); to = omega (arith, q .holds .to); kind = q .holds .kind; row = q .holds .row };
-    bit-is = q .bit-is;
-  }
+  -- the same symbol, from other ends
+  between : (f t f' t' k : ℕ) (q : InRow ss z f t k) → f' ≤ q .sym → q .sym < t' → InRow ss z f' t' k
+  between f t f' t' k q h l = record { sym = q .sym; from = h; to = l; kind = q .kind; inside = q .inside; bit-is = q .bit-is }
 
-  -- among the symbols from f on and before s + 1: among those before s, or s itself
-  among-more : (f s k : ℕ) → Among src ss d f (s + 1) k → Among src ss d f s k ⊎ Among src ss d s (s + 1) k
-  among-more f s k q =
-      elim (decLt (q .sym) s) [
-        | yes l ↦ inl (record { sym = q .sym; row = q .row; holds = record { from = q .holds .from; to = l; kind = q .holds .kind; row = q .holds .row }; bit-is = q .bit-is })
-        | no l ↦ inr (record { sym = q .sym; row = q .row; holds = record { from = omega arith; to = q .holds .to; kind = q .holds .kind; row = q .holds .row }; bit-is = q .bit-is })
-      ]
-
-  pub symbols-more : (f s : ℕ) (a b : Bool) (ws vs us : List ℕ) → f ≤ s → Added (Among src ss d f s) ws vs a → Added (Among src ss d s (s + 1)) vs us b → Added (Among src ss d f (s + 1)) ws us (b || a)
+  pub symbols-more : (f s : ℕ) (a b : Bool) (ws vs us : List ℕ) → f ≤ s → Added (InRow ss z f s) ws vs a → Added (InRow ss z s (s + 1)) vs us b → Added (InRow ss z f (s + 1)) ws us (b || a)
   symbols-more f s a b ws vs us h x y =
-      added-then (Among src ss d f (s + 1)) a b ws vs us
-      (λ k q. among-wider f s f (s + 1) k (omega arith) (omega arith) q)
-      (λ k q. among-wider s (s + 1) f (s + 1) k h (omega arith) q)
-      (λ k q. among-more f s k q)
+      added-then (InRow ss z f (s + 1)) a b ws vs us
+      (λ k q. between f s f (s + 1) k q (q .from) (omega (arith, q .to)))
+      (λ k q. between s (s + 1) f (s + 1) k q (omega (arith, q .from)) (q .to))
+      (λ k q. elim (decLt (q .sym) s) [ yes l ↦ inl (between f (s + 1) f s k q (q .from) l) | no l ↦ inr (between f (s + 1) s (s + 1) k q (omega arith) (q .to)) ])
       x
       y
 
   -- the end, at or past `to`, past which the walk only is where it never began
-  pub symbols-all : (f t s : ℕ) (a : Bool) (ws vs : List ℕ) → t ≤ s → (f < s → s ≤ t) → Added (Among src ss d f s) ws vs a → Added (Among src ss d f t) ws vs a
+  pub symbols-all : (f t s : ℕ) (a : Bool) (ws vs : List ℕ) → t ≤ s → (f < s → s ≤ t) → Added (InRow ss z f s) ws vs a → Added (InRow ss z f t) ws vs a
   symbols-all f t s a ws vs h l x =
       added-same
-      (λ k q. record {
-        sym = q .sym;
-        row = q .row;
-        holds = record { from = q .holds .from; to = omega (arith, q .holds .from, q .holds .to, l (omega (arith, q .holds .from, q .holds .to))); kind = q .holds .kind; row = q .holds .row };
-        bit-is = q .bit-is;
-      })
-      (λ k q. among-wider f t f s k (omega arith) h q)
+      (λ k q. between f s f t k q (q .from) (omega (arith, q .to, l (omega (arith, q .from, q .to)))))
+      (λ k q. between f t f s k q (q .from) (omega (arith, q .to)))
       x
+
+-- where symbols know their rows, the rows that they have are those that they name
+pub rows-named : (src ss : List ℕ) (d : Named) (f t : ℕ) (ws vs : List ℕ) (r : Bool) → ((s : ℕ) → s < t → cell (width symbols) ss s 0 ≡ d .sort .kind → Knowing src ss d s)
+    → Added (InRow ss (d .sort) f t) ws vs r → Added (Among src ss d f t) ws vs r
+rows-named src ss d f t ws vs r told x =
+    added-same
+    (λ k q. record {
+      sym = q .sym;
+      row = cell (width symbols) ss (q .sym) knownRow;
+      holds = record { from = q .from; to = q .to; kind = q .kind; row = told (q .sym) (q .to) (q .kind) .calls (q .inside) };
+      bit-is = q .bit-is;
+    })
+    (λ k q.
+    let e = told (q .sym) (q .holds .to) (q .holds .kind) .only (q .row) (q .holds .row) in
+    record { sym = q .sym; from = q .holds .from; to = q .holds .to; kind = q .holds .kind; inside = rw e (q .holds .row .inside); bit-is = rw e (q .bit-is) })
+    x
 
 -- ---- a production
 
@@ -181,11 +187,12 @@ module _ (g : Net) (d : Named) (p rule : ℕ) (e : rule ≡ cell (width producti
   rule-unmarked ws b t h =
       added-none ws (λ k q. absurd (omega (arith, q .marked, ap (bit ws) e, is-zero ws rule b t h)))
 
-  pub rule-marked : (ws vs : List ℕ) (from to : ℕ) (b r : Bool) → b ≡ eqb (bit ws rule) 1 → b ≡ true → from ≡ cell (width productions) (g .prods) p symbolsFrom → to ≡ cell (width productions) (g .prods) p symbolsTo
-      → Added (Among (g .src) (g .syms) d from to) ws vs r → Added (Held g d ws p) ws vs r
-  rule-marked ws vs from to b r t h ef et x =
+  pub rule-marked : (ws vs : List ℕ) (from to : ℕ) (b r : Bool) → Told g d → p < g .count → b ≡ eqb (bit ws rule) 1 → b ≡ true → from ≡ cell (width productions) (g .prods) p symbolsFrom → to ≡ cell (width productions) (g .prods) p symbolsTo
+      → Added (InRow (g .syms) (d .sort) from to) ws vs r → Added (Held g d ws p) ws vs r
+  rule-marked ws vs from to b r told there t h ef et x =
       let on : bit ws (cell (width productions) (g .prods) p ruleRow) ≡ 1 = sym (ap (bit ws) e) ∙ is-one ws rule b t h in
-      added-same (λ k q. record { marked = on; among = rw (← ef, ← et) q }) (λ k q. rw (ef, et) (q .among)) x
+      added-same (λ k q. record { marked = on; among = q }) (λ k q. q .among)
+      (rows-named (g .src) (g .syms) d _ _ ws vs r (λ s l. told p s there l) (rw (← ef, ← et) x))
 
   -- its rule is done, or not
   pub visit-done : (ws ds : List ℕ) (b : Bool) → b ≡ eqb (bit ds rule) 1 → b ≡ true → Visited g d ds p ws ws false

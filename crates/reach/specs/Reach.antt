@@ -6,7 +6,7 @@ use mathlib.Core.List.{List}
 use mathlib.Core.Logic.{_⊎_}
 use lib.ListN.{length, getD, replicate}
 use Rattle.tables.specs.Table.{cell, hasName, zeroed}
-use Rattle.tables.specs.Layout.{tokens, rules, productions, symbols, ruleRow, symbolsFrom, symbolsTo, prec, kindName, width}
+use Rattle.tables.specs.Layout.{tokens, rules, productions, symbols, ruleRow, symbolsFrom, symbolsTo, prec, kindName, knownRow, width}
 use Rattle.grammar.specs.declared.Counts.{Counts}
 use Rattle.grammar.specs.declared.Part.{Part}
 use Rattle.grammar.specs.declared.Part.the-variants.{Absent, At}
@@ -130,17 +130,29 @@ pub record Work (g : Grammar) (ws : List ℕ) : Type 0 where
 abbrev pub grammarOf : List ℕ → Counts → Part → List ℕ → List ℕ → List ℕ → List ℕ → Grammar
 grammarOf src c start t1 t7 t8 t9 = record { net = net src c t8 t9; start = start; rules = named t7 (ruleSort c); tokens = named t1 (tokenSort c) }
 
--- what of soundness use goes by: each name is that of one row, and productions are of rules
+-- what of soundness use goes by: each name is that of one row, productions are of rules, and symbols know their rows
 abbrev pub Apart : List ℕ → Named → Type 0
 Apart src d = (a b q r : ℕ) → Calls src d a b q → Calls src d a b r → q ≡ r
 
 abbrev pub Owned : Net → ℕ → Type 0
 Owned g n = (p : ℕ) → p < g .count → cell (width productions) (g .prods) p ruleRow < n
 
+-- document 02, request Five, "Every symbol row gets the row number of its rule or token": symbol s has a row that has its name, where it lies below the count, and no other row
+-- has it
+pub record Knowing (src ss : List ℕ) (d : Named) (s : ℕ) : Type 0 where
+  pub calls : cell (width symbols) ss s knownRow < d .sort .count → Calls src d (cell (width symbols) ss s kindName) (cell (width symbols) ss s (kindName + 1)) (cell (width symbols) ss s knownRow)
+  pub only : (r : ℕ) → Calls src d (cell (width symbols) ss s kindName) (cell (width symbols) ss s (kindName + 1)) r → cell (width symbols) ss s knownRow ≡ r
+
+-- the symbols of all productions do that are of the sort
+abbrev pub Told : Net → Named → Type 0
+Told g d = (p s : ℕ) → p < g .count → s < cell (width productions) (g .prods) p symbolsTo → cell (width symbols) (g .syms) s 0 ≡ d .sort .kind → Knowing (g .src) (g .syms) d s
+
 pub record Fair (g : Grammar) : Type 0 where
   pub rules-apart : Apart (g .net .src) (g .rules)
   pub tokens-apart : Apart (g .net .src) (g .tokens)
   pub owned : Owned (g .net) (g .rules .sort .count)
+  pub rules-told : Told (g .net) (g .rules)
+  pub tokens-told : Told (g .net) (g .tokens)
 
 -- ---- what the steps promise
 
@@ -171,6 +183,15 @@ pub record Called (src : List ℕ) (d : Named) (a b k : ℕ) : Type 0 where
   pub row : ℕ
   pub calls : Calls src d a b row
   pub bit-is : k ≡ d .sort .base + row
+
+-- bit k stands for the row that a symbol of the sort has, from f on and before t
+pub record InRow (ss : List ℕ) (z : Sort) (f t k : ℕ) : Type 0 where
+  pub sym : ℕ
+  pub from : f ≤ sym
+  pub to : sym < t
+  pub kind : cell (width symbols) ss sym 0 ≡ z .kind
+  pub inside : cell (width symbols) ss sym knownRow < z .count
+  pub bit-is : k ≡ z .base + cell (width symbols) ss sym knownRow
 
 -- bit k stands for a row that a symbol from f on and before t names
 pub record Among (src ss : List ℕ) (d : Named) (f t k : ℕ) : Type 0 where

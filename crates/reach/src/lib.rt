@@ -7,10 +7,10 @@ ghost use Prim.Native.Nat.{ℕ, _+_, _*_, _^_, _<_, _≤_};
 ghost use mathlib.Core.Bool.{Bool, true, false, _||_};
 ghost use lib.ListN.{length, getD};
 ghost use Rattle.bits.specs.Bits.{bit};
-ghost use Rattle.tables.specs.Layout.{tokens, rules, width};
+ghost use Rattle.tables.specs.Layout.{tokens, rules, productions, width};
 ghost use Rattle.sound.specs.Test.{countAt};
 ghost use Rattle.index.specs.Index.{Indexed};
-ghost use Rattle.reach.specs.Reach.{wordsFor, ruleSort, tokenSort, named, net, grammarOf, Begins, Apart, Owned, Fair, Adds, Added, Fits, Called, Among, Held, HeldPrec, Swept, Within, Done, Visited, Spread, TokenOf, Marks};
+ghost use Rattle.reach.specs.Reach.{wordsFor, ruleSort, tokenSort, named, net, grammarOf, Begins, Apart, Owned, Fair, Adds, Added, Fits, Called, InRow, Told, Held, HeldPrec, Swept, Within, Done, Visited, Spread, TokenOf, Marks};
 
 // One sort of rows: its code, the width of its rows, their count, and the bit of row 0.
 pub struct Sort {
@@ -79,65 +79,49 @@ fn mark_name(w: &mut [u32], src: &[u8], names: &[u32], ix: &[u32], z: Sort, a: u
     }
 }
 
-// Sets the bit of the row that symbol `s` names, if it is of the sort.
-fn mark_symbol(
-    w: &mut [u32],
-    src: &[u8],
-    names: &[u32],
-    ix: &[u32],
-    z: Sort,
-    syms: &[u32],
-    s: u32,
-) -> bool
-    requires { ⌜ Fits z (now w) × Apart (now src) (named (now names) z) × Indexed (now src) (z .wide) 0 (z .count) (now names) (now ix) ⌝ }
-    ensures { λ r. ⌜ Added (Among (now (src .entry)) (now (syms .entry)) (named (now (names .entry)) z) s (s + 1)) (now (w .entry)) (now (w .exit)) r ⌝ }
+// Sets the bit of the row that symbol `s` has, if it is of the sort and has one.
+fn mark_symbol(w: &mut [u32], z: Sort, syms: &[u32], s: u32) -> bool
+    requires { ⌜ Fits z (now w) ⌝ }
+    ensures { λ r. ⌜ Added (InRow (now (syms .entry)) z s (s + 1)) (now (w .entry)) (now (w .exit)) r ⌝ }
 {
     let wide = tables::SYMBOL_WIDTH;
     if tables::cell(syms, wide, s, 0) != z.kind {
         return false;
     }
-    let a = tables::cell(syms, wide, s, 1);
-    let b = tables::cell(syms, wide, s, 2);
-    mark_name(w, src, names, ix, z, a, b)
+    let row = tables::cell(syms, wide, s, tables::KNOWN_ROW);
+    if row >= z.count {
+        return false;
+    }
+    mark(w, z.base + row as usize)
 }
 
 // The same for the symbols from `from` on and before `to`.
-fn mark_symbols(
-    w: &mut [u32],
-    src: &[u8],
-    names: &[u32],
-    ix: &[u32],
-    z: Sort,
-    syms: &[u32],
-    from: u32,
-    to: u32,
-) -> bool
-    requires { ⌜ Fits z (now w) × Apart (now src) (named (now names) z) × Indexed (now src) (z .wide) 0 (z .count) (now names) (now ix) ⌝ }
-    ensures { λ r. ⌜ Added (Among (now (src .entry)) (now (syms .entry)) (named (now (names .entry)) z) from to) (now (w .entry)) (now (w .exit)) r ⌝ }
+fn mark_symbols(w: &mut [u32], z: Sort, syms: &[u32], from: u32, to: u32) -> bool
+    requires { ⌜ Fits z (now w) ⌝ }
+    ensures { λ r. ⌜ Added (InRow (now (syms .entry)) z from to) (now (w .entry)) (now (w .exit)) r ⌝ }
 {
     let mut changed = false;
     let mut s = from;
     while s < to {
-        let one = mark_symbol(w, src, names, ix, z, syms, s);
+        let one = mark_symbol(w, z, syms, s);
         changed = either(one, changed);
         s += 1;
     }
     changed
 }
 
-// The rows that production `p` names, if its rule is marked.
+// The rows that production `p` names, if its rule is marked: its symbols have them, and no name is looked up.
 fn mark_production(
     w: &mut [u32],
     src: &[u8],
     names: &[u32],
-    ix: &[u32],
     z: Sort,
     c: Counts,
     prods: &[u32],
     syms: &[u32],
     p: u32,
 ) -> bool
-    requires { ⌜ Fits z (now w) × Apart (now src) (named (now names) z) × Indexed (now src) (z .wide) 0 (z .count) (now names) (now ix) ⌝ }
+    requires { ⌜ Fits z (now w) × Told (net (now src) c (now prods) (now syms)) (named (now names) z) × (p < countAt c productions) ⌝ }
     ensures { λ r. ⌜ Added (Held (net (now (src .entry)) c (now (prods .entry)) (now (syms .entry))) (named (now (names .entry)) z) (now (w .entry)) p) (now (w .entry)) (now (w .exit)) r ⌝ }
 {
     let wide = tables::PRODUCTION_WIDTH;
@@ -147,7 +131,7 @@ fn mark_production(
     }
     let from = tables::cell(prods, wide, p, tables::FIRST);
     let to = tables::cell(prods, wide, p, tables::LAST);
-    mark_symbols(w, src, names, ix, z, syms, from, to)
+    mark_symbols(w, z, syms, from, to)
 }
 
 // The row that the `%prec` of production `p` names, if its rule is marked.
@@ -199,21 +183,20 @@ fn visit(
     done: &[u32],
     src: &[u8],
     names: &[u32],
-    ix: &[u32],
     z: Sort,
     c: Counts,
     prods: &[u32],
     syms: &[u32],
     p: u32,
 ) -> bool
-    requires { ⌜ Fits z (now w) × Apart (now src) (named (now names) z) × Indexed (now src) (z .wide) 0 (z .count) (now names) (now ix) ⌝ }
+    requires { ⌜ Fits z (now w) × Told (net (now src) c (now prods) (now syms)) (named (now names) z) × (p < countAt c productions) ⌝ }
     ensures { λ r. ⌜ Visited (net (now (src .entry)) c (now (prods .entry)) (now (syms .entry))) (named (now (names .entry)) z) (now (done .entry)) p (now (w .entry)) (now (w .exit)) r ⌝ }
 {
     let rule = tables::cell(prods, tables::PRODUCTION_WIDTH, p, tables::RULE_ROW);
     if bits::test_bit(done, rule as usize) {
         return false;
     }
-    mark_production(w, src, names, ix, z, c, prods, syms, p)
+    mark_production(w, src, names, z, c, prods, syms, p)
 }
 
 // One pass over the productions: what a marked rule names is marked. Says whether a mark is new.
@@ -223,11 +206,10 @@ fn sweep(
     src: &[u8],
     c: Counts,
     rules: &[u32],
-    ix: &[u32],
     prods: &[u32],
     syms: &[u32],
 ) -> bool
-    requires { ⌜ Fits (ruleSort c) (now w) × Apart (now src) (named (now rules) (ruleSort c)) × Done (net (now src) c (now prods) (now syms)) (named (now rules) (ruleSort c)) (now done) (now w) × Indexed (now src) (ruleSort c .wide) 0 (ruleSort c .count) (now rules) (now ix) ⌝ }
+    requires { ⌜ Fits (ruleSort c) (now w) × Told (net (now src) c (now prods) (now syms)) (named (now rules) (ruleSort c)) × Done (net (now src) c (now prods) (now syms)) (named (now rules) (ruleSort c)) (now done) (now w) ⌝ }
     ensures { λ r. ⌜ Swept (net (now (src .entry)) c (now (prods .entry)) (now (syms .entry))) (named (now (rules .entry)) (ruleSort c)) (now (w .entry)) (now (w .exit)) r ⌝ }
 {
     let z = rule_sort(c);
@@ -235,7 +217,7 @@ fn sweep(
     let mut news = false;
     let mut p = 0;
     while p < n {
-        let one = visit(w, done, src, rules, ix, z, c, prods, syms, p);
+        let one = visit(w, done, src, rules, z, c, prods, syms, p);
         news = either(one, news);
         p += 1;
     }
@@ -249,35 +231,26 @@ fn round(
     src: &[u8],
     c: Counts,
     rules: &[u32],
-    ix: &[u32],
     prods: &[u32],
     syms: &[u32],
 ) -> bool
-    requires { ⌜ Fits (ruleSort c) (now w) × Apart (now src) (named (now rules) (ruleSort c)) × Done (net (now src) c (now prods) (now syms)) (named (now rules) (ruleSort c)) (now done) (now w) × Indexed (now src) (ruleSort c .wide) 0 (ruleSort c .count) (now rules) (now ix) ⌝ }
+    requires { ⌜ Fits (ruleSort c) (now w) × Told (net (now src) c (now prods) (now syms)) (named (now rules) (ruleSort c)) × Done (net (now src) c (now prods) (now syms)) (named (now rules) (ruleSort c)) (now done) (now w) ⌝ }
     ensures { λ r. ⌜ Swept (net (now (src .entry)) c (now (prods .entry)) (now (syms .entry))) (named (now (rules .entry)) (ruleSort c)) (now (w .entry)) (now (w .exit)) r × Done (net (now (src .entry)) c (now (prods .entry)) (now (syms .entry))) (named (now (rules .entry)) (ruleSort c)) (now (done .exit)) (now (w .exit)) ⌝ }
 {
     let mut before = [0u32; 512];
     copy_words(&mut before, w);
-    let news = sweep(w, done, src, c, rules, ix, prods, syms);
+    let news = sweep(w, done, src, c, rules, prods, syms);
     copy_words(done, &before);
     news
 }
 
 // Passes until no mark is new. Rows past 16,384 are never done, which costs time alone: no source has so many rules.
-fn spread(
-    w: &mut [u32],
-    src: &[u8],
-    c: Counts,
-    rules: &[u32],
-    ix: &[u32],
-    prods: &[u32],
-    syms: &[u32],
-)
-    requires { ⌜ Fits (ruleSort c) (now w) × Apart (now src) (named (now rules) (ruleSort c)) × Indexed (now src) (ruleSort c .wide) 0 (ruleSort c .count) (now rules) (now ix) ⌝ }
+fn spread(w: &mut [u32], src: &[u8], c: Counts, rules: &[u32], prods: &[u32], syms: &[u32])
+    requires { ⌜ Fits (ruleSort c) (now w) × Told (net (now src) c (now prods) (now syms)) (named (now rules) (ruleSort c)) ⌝ }
     ensures { λ r. ⌜ Spread (net (now (src .entry)) c (now (prods .entry)) (now (syms .entry))) (named (now (rules .entry)) (ruleSort c)) (now (w .entry)) (now (w .exit)) ⌝ }
 {
     let mut done = [0u32; 512];
-    while round(w, &mut done, src, c, rules, ix, prods, syms) {}
+    while round(w, &mut done, src, c, rules, prods, syms) {}
 }
 
 // One pass that marks the tokens of productions of marked rules: symbols', and that of the `%prec`.
@@ -290,14 +263,14 @@ fn mark_tokens(
     prods: &[u32],
     syms: &[u32],
 )
-    requires { ⌜ Fits (tokenSort c) (now w) × Apart (now src) (named (now tokens) (tokenSort c)) × Owned (net (now src) c (now prods) (now syms)) (ruleSort c .count) × Indexed (now src) (tokenSort c .wide) 0 (tokenSort c .count) (now tokens) (now ix) ⌝ }
+    requires { ⌜ Fits (tokenSort c) (now w) × Apart (now src) (named (now tokens) (tokenSort c)) × Told (net (now src) c (now prods) (now syms)) (named (now tokens) (tokenSort c)) × Owned (net (now src) c (now prods) (now syms)) (ruleSort c .count) × Indexed (now src) (tokenSort c .wide) 0 (tokenSort c .count) (now tokens) (now ix) ⌝ }
     ensures { λ r. ⌜ Adds (TokenOf (net (now (src .entry)) c (now (prods .entry)) (now (syms .entry))) (named (now (tokens .entry)) (tokenSort c)) (now (w .entry))) (now (w .entry)) (now (w .exit)) ⌝ }
 {
     let z = token_sort(c);
     let n = sound::rows_of(c, tables::PRODUCTIONS);
     let mut p = 0;
     while p < n {
-        mark_production(w, src, tokens, ix, z, c, prods, syms, p);
+        mark_production(w, src, tokens, z, c, prods, syms, p);
         mark_prec(w, src, tokens, ix, z, prods, p);
         p += 1;
     }
@@ -340,7 +313,7 @@ pub fn mark_used(
         return false;
     }
     mark_start(w, src, c, start, t7, i7);
-    spread(w, src, c, t7, i7, t8, t9);
+    spread(w, src, c, t7, t8, t9);
     mark_tokens(w, src, c, t1, i1, t8, t9);
     true
 }

@@ -14,9 +14,10 @@ use Rattle.whole.specs.declared.Checked.{Checked}
 use Rattle.whole.specs.declared.Checked.the-variants.{Good, BadAt}
 use Rattle.whole.specs.Whole.{checkAt, Below}
 use Rattle.tables.specs.Table.{zeroed, cell}
-use Rattle.tables.specs.Layout.{tokens, rules, repeats, firstPlace, width}
-use Rattle.index.specs.Index.{entries, sizeTest}
-use Rattle.index.proofs.Theorems.{indexed-none}
+use Rattle.tables.specs.Layout.{tokens, rules, symbols, repeats, firstPlace, width}
+use Rattle.index.specs.Index.{Indexed, entries, sizeTest}
+use Rattle.index.proofs.Theorems.{indexed-none, entries-length}
+use Rattle.symbols.specs.Symbols.{filledRows}
 use Rattle.grammar.specs.declared.Singles.{Singles}
 use Rattle.grammar.specs.declared.State.{State}
 use Rattle.grammar.specs.declared.Cause.the-variants.{NotUtf8, PrematureEnd}
@@ -27,14 +28,14 @@ use Rattle.grammar.specs.declared.Refusal.the-variants.{Fault, Repeated, TooLon
 use Rattle.grammar.specs.declared.Answer.{Answer}
 use Rattle.grammar.specs.declared.Answer.the-variants.{Going, Done, Refused}
 use Rattle.grammar.specs.State.{Out0, Here, Passed, Tracked, Tokens, Rules, count, fresh, noCounts, noSingles}
-use Rattle.grammar.specs.Sound.{Tables, Indexes, zeroAll}
+use Rattle.grammar.specs.Sound.{Tables, Indexes, lexiconOf, zeroAll}
 use Rattle.declarations.specs.Declarations.{Out, declAll}
 use Rattle.rules.specs.Rules.{Ruled, rulesAll, programsFrom}
 use Rattle.reader.specs.declared.Admission.{Admission}
 use Rattle.reader.specs.declared.Admission.the-variants.{Fit, Unfit}
 use Rattle.reader.specs.declared.Verdict.the-variants.{Accepted, Rejected}
 use Rattle.reader.specs.declared.Reading.{Reading}
-use Rattle.reader.specs.Read.{Run, Outcome, Result, Short, sizesFit, sized, sizedText, admitted, ranProgram, restAll, declared, withDeclared, withRuled, sectionsAll, attempted, onlyRepeats, stoppedAt, endedAt, result, finished, finishedRun, indexed, readAll}
+use Rattle.reader.specs.Read.{Run, Outcome, Result, Short, sizesFit, sized, sizedText, admitted, ranProgram, restAll, declared, withDeclared, withRuled, sectionsAll, attempted, onlyRepeats, stoppedAt, endedAt, result, finished, finishedRun, indexed, readNames, withSymbols, filledIn, readAll}
 
 -- kind, sizes, length, UTF-8
 module _ (src : List ℕ) (kind : ℕ) (fit : Bool) where
@@ -184,8 +185,8 @@ sized-same t7 z7 t1 z1 xt yt xr yr a b c d = rw (a, b, c, d, length-replicate {A
 pub read-ends : (src : List ℕ) (kind : ℕ) (T Z : Tables) (X : Indexes) (yt yr : List ℕ) (o : Run) (r : Outcome) (wt wr : List ℕ) → Nine Z T → Z .t10 ≡ zeroed (T .t10) → yt ≡ zeroed (X .tokens) → yr ≡ zeroed (X .rules)
     → o ≡ attempted src kind (sizesFit (length yt) (length (Z .t1)) (length yr) (length (Z .t7))) Z → r ≡ finished (o .answer) (o .state) (o .tables)
     → Tokens src (r .counts) (r .tables .t1) wt → Rules src (r .counts) (r .tables .t7) wr → length wt ≡ length (X .tokens) → length wr ≡ length (X .rules)
-    → record { answer = r .answer; counts = r .counts; singles = r .singles; tables = r .tables; indexes = record { tokens = wt; rules = wr } } ≡ readAll src kind T X
-unfolding readAll
+    → record { answer = r .answer; counts = r .counts; singles = r .singles; tables = r .tables; indexes = record { tokens = wt; rules = wr } } ≡ readNames src kind T X
+unfolding readNames
 read-ends src kind T Z X yt yr o r wt wr z k v u q h I J l m =
     let p : o ≡ attempted src kind (sized T X) Z = q ∙ ap (λ (fit : Bool). attempted src kind fit Z) (sized-same (T .t7) (Z .t7) (T .t1) (Z .t1) (X .tokens) yt (X .rules) yr (z .0) (z .6) v u) in
     let g : r ≡ finishedRun (attempted src kind (sized T X) (zeroAll T)) = rw (← z .0, ← z .1, ← z .2, ← z .3, ← z .4, ← z .5, ← z .6, ← z .7, ← z .8, ← k, ← p) h in
@@ -196,3 +197,23 @@ read-ends src kind T Z X yt yr o r wt wr z k v u q h I J l m =
     whole : wt ≡ entries src (width tokens) 0 (r .tables .t1) (length (X .tokens)) (getD (r .counts .n) tokens 0) → wr ≡ entries src (width rules) 0 (r .tables .t7) (length (X .rules)) (getD (r .counts .n) rules 0)
         → record { answer = r .answer; counts = r .counts; singles = r .singles; tables = r .tables; indexes = record { tokens = wt; rules = wr } } ≡ indexed src X r
     whole a b = rw (a, b)
+
+-- What it found names by, whatever the answer,
+abbrev Found : List ℕ → Result → Type 0
+Found src o = Indexed src (width tokens) 0 (getD (o .counts .n) tokens 0) (o .tables .t1) (o .indexes .tokens) × Indexed src (width rules) 0 (getD (o .counts .n) rules 0) (o .tables .t7) (o .indexes .rules)
+
+pub names-found : (src : List ℕ) (kind : ℕ) (T : Tables) (X : Indexes) (r : Result) → r ≡ readNames src kind T X → Found src r
+unfolding readNames
+names-found src kind T X r e = told (Found src) (sym e) (go (finishedRun (attempted src kind (sized T X) (zeroAll T))))
+  where
+    go : (o : Outcome) → Found src (indexed src X o)
+    go o = (
+      record { holds = rw (entries-length src (width tokens) 0 (o .tables .t1) (length (X .tokens)) (getD (o .counts .n) tokens 0)) },
+      record { holds = rw (entries-length src (width rules) 0 (o .tables .t7) (length (X .rules)) (getD (o .counts .n) rules 0)) },
+    )
+
+-- and symbols get their rows by it.
+pub read-filled : (src : List ℕ) (kind : ℕ) (T : Tables) (X : Indexes) (r : Result) → r ≡ readNames src kind T X → (t9 : List ℕ) → t9 ≡ filledRows (lexiconOf src (r .counts) (r .tables)) (r .tables .t9) (getD (r .counts .n) symbols 0)
+    → record { answer = r .answer; counts = r .counts; singles = r .singles; tables = withSymbols (r .tables) t9; indexes = r .indexes } ≡ readAll src kind T X
+unfolding readAll
+read-filled src kind T X r e t9 f = rw f (ap (filledIn src) e)

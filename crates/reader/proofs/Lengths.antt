@@ -41,7 +41,7 @@ use Rattle.grammar.specs.declared.Answer.{Answer}
 use Rattle.grammar.specs.declared.Answer.the-variants.{Going, Done, Refused}
 use Rattle.grammar.specs.declared.Gap.{Gap}
 use Rattle.grammar.specs.declared.Gap.the-variants.{GapTo, GapRefused}
-use Rattle.grammar.specs.Cells.{tokenCells, precedenceCells, nameCells, eppCells, kindCells, ruleCells}
+use Rattle.grammar.specs.Cells.{tokenCells, precedenceCells, nameCells, eppCells, kindCells, symbolCells, ruleCells}
 use Rattle.grammar.specs.State.{Out1, Out2, Out3, count, withAt, gapAt, pushed, pushRow, listRepeat, entered, enterStep, onceFound, onceStep}
 use Rattle.grammar.specs.Sound.{Tables, zeroAll}
 use Rattle.grammar.proofs.Kept.{onward-keep}
@@ -309,7 +309,7 @@ unfolding quotedItem quotedRows tokenSymbol
 quoted-long src s d t1 t9 = go (tokenAt src (s .at))
   where
     symbol : (a : Answer) (o : Out1) (from to : ℕ) → Long2 (o .a) t9 (symbolEntered a o from to t9)
-    symbol Going o from to = (refl, push-long (o .state) symbols (kindCells 2 from to) t9)
+    symbol Going o from to = (refl, push-long (o .state) symbols (symbolCells 2 from to) t9)
     symbol Done o from to = (refl, refl)
     symbol (Refused f) o from to = (refl, refl)
 
@@ -343,7 +343,7 @@ unfolding bareItem
 bare-long src s d t1 t9 = go (tokenAt src (s .at))
   where
     go : (r : Token) → length (bareFound r src s d t1 t9 .a) ≡ length t9
-    go (Found p end q) = push-long s symbols (kindCells (symbolKind src (count s tokens) t1 (p .from) (p .to)) (p .from) (p .to)) t9
+    go (Found p end q) = push-long s symbols (symbolCells (symbolKind src (count s tokens) t1 (p .from) (p .to)) (p .from) (p .to)) t9
     go (NoToken k) = refl
 
 by-sort : (k : Sort) (src : List ℕ) (s n : State) (d : Production) (t1 t8 t9 : List ℕ) → LongMade t1 t8 t9 (bySort k src s n d t1 t8 t9)

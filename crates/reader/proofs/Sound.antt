@@ -27,7 +27,10 @@ use Rattle.grammar.specs.declared.Refusal.{Refusal}
 use Rattle.grammar.specs.declared.Answer.{Answer}
 use Rattle.grammar.specs.declared.Answer.the-variants.{Going, Done, Refused}
 use Rattle.grammar.specs.State.{count, withCount, fresh, noSingles}
-use Rattle.grammar.specs.Sound.{Tables, Indexes, SoundIndexes, tab, setTab, zeroAll, Sound, Far}
+use Rattle.symbols.specs.Symbols.{filledRows, Knows}
+use Rattle.symbols.proofs.Laws.{fill-knows}
+use Rattle.grammar.proofs.Filled.{far-filled}
+use Rattle.grammar.specs.Sound.{Tables, Indexes, lexiconOf, SoundIndexes, tab, setTab, zeroAll, Sound, Far}
 use Rattle.grammar.proofs.Far.{far-table, fresh-far, far-sound}
 use Rattle.items.proofs.Far.{Taken, going-taken, done-taken}
 use Rattle.declarations.specs.Declarations.{Out, declAll}
@@ -39,7 +42,7 @@ use Rattle.reader.specs.declared.Verdict.the-variants.{Accepted, Rejecte
 use Rattle.reader.specs.declared.Admission.{Admission}
 use Rattle.reader.specs.declared.Admission.the-variants.{Fit, Unfit}
 use Rattle.reader.specs.declared.Reading.{Reading}
-use Rattle.reader.specs.Read.{Outcome, Result, asText, sizesFit, sized, sizedText, admitted, restFrom, restAll, declared, withDeclared, sectionsFrom, sectionsAll, attemptOf, attempted, onlyRepeats, endedAt, clearNine, finished, finishedRun, indexed, readAll}
+use Rattle.reader.specs.Read.{Outcome, Result, asText, sizesFit, sized, sizedText, admitted, restFrom, restAll, declared, withDeclared, sectionsFrom, sectionsAll, attemptOf, attempted, onlyRepeats, endedAt, clearNine, finished, finishedRun, indexed, readAll, readNames, withSymbols, filledIn, result, stoppedAt}
 use Rattle.reader.specs.Allowed.{Allowed, RepeatsOnly, Full, Cleared}
 use Rattle.reader.proofs.Lengths.{lengths, zero-lengths, sections-lengths}
 
@@ -125,9 +128,13 @@ indexed-sound src T X o l z =
       rules = record { holds = rw b };
     }
 
+-- symbols have nothing to do with it
+indexes-filled : {src : List ℕ} {c : Counts} {T : Tables} {X : Indexes} {t9 : List ℕ} → SoundIndexes src c T X → SoundIndexes src c (withSymbols T t9) X
+indexes-filled i = record { token-size = i .token-size; rule-size = i .rule-size; tokens = i .tokens; rules = i .rules }
+
 -- "An accepted read is sound", and so is one that was refused for repeats only: its indexes.
 pub read-indexed : (src : List ℕ) (kind : ℕ) (T : Tables) (X : Indexes) → Full (readAll src kind T X .answer) → SoundIndexes src (readAll src kind T X .counts) (readAll src kind T X .tables) (readAll src kind T X .indexes)
-unfolding readAll attempted
+unfolding readAll readNames attempted
 read-indexed src kind T X f = go (admitted src kind (sized T X)) (admits src kind (sized T X)) (fit-sizes src kind T X) f
   where
     ends : (a : Answer) (s : State) (U : Tables) → lengths U ≡ lengths T → Lengthy (finished a s U .tables) T
@@ -135,38 +142,46 @@ read-indexed src kind T X f = go (admitted src kind (sized T X)) (admits src kin
     ends Done s U e = (ap (λ (l : List ℕ). getD l 0 0) e, ap (λ (l : List ℕ). getD l 6 0) e)
     ends (Refused g) s U e = (length-replicate {A = ℕ} (length (U .t1)) 0 ∙ ap (λ (l : List ℕ). getD l 0 0) e, length-replicate {A = ℕ} (length (U .t7)) 0 ∙ ap (λ (l : List ℕ). getD l 6 0) e)
 
-    go : (m : Admission) → Admits src m → FitSizes T X m → let o = finishedRun (attemptOf m src kind (zeroAll T)) in Full (o .answer) → SoundIndexes src (o .counts) (o .tables) (indexed src X o .indexes)
+    go : (m : Admission) → Admits src m → FitSizes T X m → let o = finishedRun (attemptOf m src kind (zeroAll T)) in Full (o .answer) → SoundIndexes src (o .counts) (filledIn src (indexed src X o) .tables) (indexed src X o .indexes)
     go Fit h z x =
         let r = sectionsAll src kind fresh (zeroAll T) in
-        indexed-sound src T X (finishedRun r) (ends (r .answer) (r .state) (r .tables) (sections-lengths src kind fresh (zeroAll T) ∙ zero-lengths T)) z
+        indexes-filled
+        (indexed-sound src T X (finishedRun r) (ends (r .answer) (r .state) (r .tables) (sections-lengths src kind fresh (zeroAll T) ∙ zero-lengths T)) z)
     go (Unfit g) h z x = absurd (h x)
 
--- what is sound, with indexes that are
+-- what is sound with its symbols filled in, and with indexes that are
+abbrev filledTables : List ℕ → Counts → Tables → Tables
+filledTables src c T = withSymbols T (filledRows (lexiconOf src c T) (T .t9) (getD (c .n) symbols 0))
+
 abbrev SoundResult : List ℕ → Outcome → Type 0
-SoundResult src o = (X : Indexes) → SoundIndexes src (o .counts) (o .tables) X → Sound src (o .counts) (o .singles) (o .tables) X
+SoundResult src o = (X : Indexes) → SoundIndexes src (o .counts) (filledTables src (o .counts) (o .tables)) X → Sound src (o .counts) (o .singles) (filledTables src (o .counts) (o .tables)) X
 
 -- where a read stopped, repeats alone are left
-stopped-sound : {src : List ℕ} {done : ℕ} {s : State} {T : Tables} → Far src done s T → (X : Indexes) → SoundIndexes src (onlyRepeats (count s repeats)) (clearNine T) X → Sound src (onlyRepeats (count s repeats)) noSingles (clearNine T) X
-stopped-sound {src} {done} {s} {T} f X i =
-    far-sound src (withCount fresh repeats (count s repeats)) (clearNine T) X (far-table (fresh-far src T (f .short)) repeats (omega arith) (count s repeats) (omega arith) (T .t10) (λ e. omega arith) (f .tables repeats)) i
+stopped-sound : {src : List ℕ} {done : ℕ} {s : State} {T : Tables} → Far src done s T → (g : Refusal) → SoundResult src (finished (Refused g) s T)
+unfolding filledRows
+stopped-sound {src} {done} {s} {T} f g X i =
+    far-sound src (withCount fresh repeats (count s repeats)) (clearNine T) X (far-table (fresh-far src T (f .short)) repeats (omega arith) (count s repeats) (omega arith) (T .t10) (λ e. omega arith) (f .tables repeats)) i (record { row = λ r h. absurd (omega arith) })
 
 finished-sound : {src : List ℕ} (a : Answer) (s : State) (T : Tables) → Whole src T a s → SoundResult src (finished a s T)
 unfolding endedAt
 finished-sound {src} a s T x = go a (x .whole)
   where
+    known : Knows (lexiconOf src (s .counts) T) (count s symbols) (filledTables src (s .counts) T .t9)
+    known = fill-knows (lexiconOf src (s .counts) T) (T .t9) (count s symbols) (x .far .tables symbols .fits)
+
     ended : x .done ≡ count s symbols → SoundResult src (finished Going s T)
     ended e X =
-        let y = far-sound src s T X (told (λ (n : ℕ). Far src n s T) e (x .far)) in
-        on-test (λ (r : Reading). SoundIndexes src (r .counts) T X → Sound src (r .counts) (r .singles) T X) (eqb (count s repeats) 0) _ _ (λ e. y) (λ e. y)
+        let y : SoundIndexes src (s .counts) (filledTables src (s .counts) T) X → Sound src (s .counts) (s .singles) (filledTables src (s .counts) T) X = λ i. far-sound src s (filledTables src (s .counts) T) X (told (λ (n : ℕ). Far src n s (filledTables src (s .counts) T)) e (far-filled (x .far) (lexiconOf src (s .counts) T))) i known in
+        on-test (λ (r : Reading). SoundIndexes src (r .counts) (filledTables src (r .counts) T) X → Sound src (r .counts) (r .singles) (filledTables src (r .counts) T) X) (eqb (count s repeats) 0) _ _ (λ e. y) (λ e. y)
 
     go : (a : Answer) → (Taken a → x .done ≡ count s symbols) → SoundResult src (finished a s T)
     go Going w = ended (w (going-taken Going refl))
     go Done w = ended (w (done-taken Done refl))
-    go (Refused f) w = stopped-sound (x .far)
+    go (Refused f) w = stopped-sound (x .far) f
 
 -- "An accepted read is sound", and so is one that was refused for repeats only.
 pub read-sound : (src : List ℕ) (kind : ℕ) (T : Tables) (X : Indexes) → Full (readAll src kind T X .answer) → Sound src (readAll src kind T X .counts) (readAll src kind T X .singles) (readAll src kind T X .tables) (readAll src kind T X .indexes)
-unfolding readAll attempted
+unfolding readAll readNames attempted
 read-sound src kind T X f = go (admitted src kind (sized T X)) (admits src kind (sized T X)) f _ (read-indexed src kind T X f)
   where
     go : (m : Admission) → Admits src m → let o = finishedRun (attemptOf m src kind (zeroAll T)) in Full (o .answer) → SoundResult src o
@@ -193,7 +208,7 @@ finished-values {src} a s T f = go a
     go (Refused x) = λ r l. absurd (omega arith)
 
 pub read-values : (src : List ℕ) (kind : ℕ) (T : Tables) (X : Indexes) → Values src (readAll src kind T X .counts) (readAll src kind T X .tables .t5)
-unfolding readAll attempted
+unfolding readAll readNames attempted
 read-values src kind T X = go (admitted src kind (sized T X)) (admits src kind (sized T X))
   where
     go : (m : Admission) → Admits src m → let o = finishedRun (attemptOf m src kind (zeroAll T)) in Values src (o .counts) (o .tables .t5)
@@ -206,7 +221,7 @@ Within src (Accepted i) = i ≤ length src
 Within src (Rejected f) = Unit {0}
 
 read-within : (src : List ℕ) (kind : ℕ) (T : Tables) (X : Indexes) → Within src (readAll src kind T X .answer)
-unfolding readAll attempted endedAt
+unfolding readAll readNames attempted endedAt
 read-within src kind T X = go (admitted src kind (sized T X)) (admits src kind (sized T X))
   where
     ended : (s : State) (t : List ℕ) → s .at ≤ length src → Within src (endedAt s t .answer)
@@ -226,7 +241,7 @@ accepted-end src kind T X i e = rw e at (read-within src kind T X)
 
 -- "the ten counts of tables 1 to 10": a read gives ten, whatever its answer.
 pub read-ten : (src : List ℕ) (kind : ℕ) (T : Tables) (X : Indexes) → length (readAll src kind T X .counts .n) ≡ 10
-unfolding readAll attempted endedAt
+unfolding readAll readNames attempted endedAt
 read-ten src kind T X = go (admitted src kind (sized T X)) (admits src kind (sized T X))
   where
     ended : (s : State) (t : List ℕ) → length (s .counts .n) ≡ 10 → length (endedAt s t .counts .n) ≡ 10
@@ -242,8 +257,8 @@ read-ten src kind T X = go (admitted src kind (sized T X)) (admits src kind (siz
     go (Unfit f) h = refl
 
 -- What is left of a read that stopped: tables as long as those it was given.
-cleared : (src : List ℕ) (T U : Tables) (X : Indexes) (s : State) (f : Refusal) → lengths U ≡ lengths T → Cleared T X (indexed src X (finished (Refused f) s U))
-unfolding entries
+cleared : (src : List ℕ) (T U : Tables) (X : Indexes) (s : State) (f : Refusal) → lengths U ≡ lengths T → Cleared T X (filledIn src (indexed src X (finished (Refused f) s U)))
+unfolding entries filledRows
 cleared src T U X s f e = record { tables = zeros; counts = none; singles = refl; token-index = refl; rule-index = refl }
   where
     -- table k + 1 of zeros
@@ -276,7 +291,7 @@ cleared src T U X s f e = record { tables = zeros; counts = none; singles = refl
 
 -- After 1 to 19, 40 to 43 and 45 "tables 1 to 9 and their counts are zero, the singles absent", and so are both indexes.
 pub stopped-clean : (src : List ℕ) (kind : ℕ) (T : Tables) (X : Indexes) (f : Refusal) → readAll src kind T X .answer ≡ Rejected f → (RepeatsOnly f → ⊥) → Cleared T X (readAll src kind T X)
-unfolding readAll attempted endedAt
+unfolding readAll readNames attempted endedAt
 stopped-clean src kind T X f = let r = attempted src kind (sized T X) (zeroAll T) in go (r .answer) (r .state) (r .tables) (run (admitted src kind (sized T X)) ∙ zero-lengths T)
   where
     run : (m : Admission) → lengths (attemptOf m src kind (zeroAll T) .tables) ≡ lengths (zeroAll T)
@@ -287,7 +302,7 @@ stopped-clean src kind T X f = let r = attempted src kind (sized T X) (zeroAll T
     ended : (s : State) (t : List ℕ) → Full (endedAt s t .answer)
     ended s t = on-test (λ (r : Reading). Full (r .answer)) (eqb (count s repeats) 0) _ _ (λ e. tt) (λ e. tt)
 
-    go : (a : Answer) (s : State) (U : Tables) → lengths U ≡ lengths T → finished a s U .answer ≡ Rejected f → (RepeatsOnly f → ⊥) → Cleared T X (indexed src X (finished a s U))
+    go : (a : Answer) (s : State) (U : Tables) → lengths U ≡ lengths T → finished a s U .answer ≡ Rejected f → (RepeatsOnly f → ⊥) → Cleared T X (filledIn src (indexed src X (finished a s U)))
     go Going s U e h n = absurd (n (told Full h (ended s (U .t10))))
     go Done s U e h n = absurd (n (told Full h (ended s (U .t10))))
     go (Refused g) s U e h n = cleared src T U X s g e

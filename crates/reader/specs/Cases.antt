@@ -25,6 +25,7 @@ use Rattle.grammar.specs.Refusals.{ofNumber, repeatOf}
 use Rattle.grammar.specs.Numbers.{singlesNumbers}
 use Rattle.grammar.specs.State.{nextLevel, gapOf, gapAt, pushRow, listRepeat, enterStep, onceStep, pastGap}
 use Rattle.index.specs.Index.{halved, isPower, sizeTest}
+use Rattle.symbols.specs.Symbols.{namedRow, rowFor, filledRows}
 use Rattle.grammar.specs.Sound.{Tables, Indexes, tab, setTab}
 use Rattle.productions.specs.Cells.{pushProduction}
 use Rattle.settings.specs.Settings.{startNamed, startDecl, expectGiven, expectDecl, actiontypeNamed, actiontypeDecl, paramTyped, paramDecl, genericsDecl}
@@ -35,7 +36,7 @@ use Rattle.epps.specs.Epps.{eppGiven, eppText, eppValue, eppDecl}
 use Rattle.declarations.specs.Declarations.{declStep, declTurn, declRun, declAll}
 use Rattle.items.specs.Items.{firstMark, sortAt, tokenSymbol, quotedRows, quotedItem, precName, precItem as item-precItem, mayEnd, afterAction, actionItem, mayFollow, emptyItem, symbolKind, bareItem, endProduction, barItem, endItem, itemStep, itemTurn, itemList}
 use Rattle.rules.specs.Rules.{passMark, firstStart, colonType, arrowType, ruleType, enterRule, namedHead, ruleHead, ruleBody, ruleStep, nextRule, rulesTurn, rulesRun, rulesAll, programsFrom}
-use Rattle.reader.specs.Read.{Result, verdictNumbers, sizesFit, admitted, restAll, sectionsAll, attempted, endedAt, readAll}
+use Rattle.reader.specs.Read.{Result, verdictNumbers, sizesFit, admitted, restAll, sectionsAll, attempted, endedAt, readNames, readAll}
 
 -- a kind and a source
 pub record Input : Type 0 where
@@ -77,7 +78,7 @@ table =
     -- `%%s:;`, kind 2
     ∷ row 2 (37 ∷ 37 ∷ 115 ∷ 58 ∷ 59 ∷ []) (8 ∷ 3 ∷ 3 ∷ 0 ∷ 0 ∷ 0 ∷ 0 ∷ 0 ∷ 0 ∷ 0 ∷ 0 ∷ 0 ∷ 0 ∷ 0 ∷ 0 ∷ 0 ∷ 0 ∷ 0 ∷ 0 ∷ 0 ∷ 0 ∷ 0 ∷ 0 ∷ 0 ∷ 0 ∷ 0 ∷ 0 ∷ 0 ∷ 0 ∷ 0 ∷ 0 ∷ 0 ∷ 0 ∷ 0 ∷ 0 ∷ [])
     -- `%tokenA%%s:A;`, kind 1
-    ∷ row 1 (37 ∷ 116 ∷ 111 ∷ 107 ∷ 101 ∷ 110 ∷ 65 ∷ 37 ∷ 37 ∷ 115 ∷ 58 ∷ 65 ∷ 59 ∷ []) (0 ∷ 13 ∷ 13 ∷ 1 ∷ 0 ∷ 0 ∷ 0 ∷ 0 ∷ 0 ∷ 1 ∷ 1 ∷ 1 ∷ 0 ∷ 6 ∷ 7 ∷ 1 ∷ 9 ∷ 10 ∷ 0 ∷ 0 ∷ 0 ∷ 0 ∷ 11 ∷ 12 ∷ 0 ∷ 1 ∷ 0 ∷ 0 ∷ 0 ∷ 0 ∷ 0 ∷ 0 ∷ 0 ∷ 0 ∷ 2 ∷ 11 ∷ 12 ∷ 1 ∷ 9 ∷ 10 ∷ 0 ∷ 0 ∷ 0 ∷ 0 ∷ 0 ∷ 0 ∷ 0 ∷ 0 ∷ 0 ∷ 0 ∷ 0 ∷ 0 ∷ 0 ∷ 0 ∷ 0 ∷ 0 ∷ 0 ∷ 0 ∷ 0 ∷ [])
+    ∷ row 1 (37 ∷ 116 ∷ 111 ∷ 107 ∷ 101 ∷ 110 ∷ 65 ∷ 37 ∷ 37 ∷ 115 ∷ 58 ∷ 65 ∷ 59 ∷ []) (0 ∷ 13 ∷ 13 ∷ 1 ∷ 0 ∷ 0 ∷ 0 ∷ 0 ∷ 0 ∷ 1 ∷ 1 ∷ 1 ∷ 0 ∷ 6 ∷ 7 ∷ 1 ∷ 9 ∷ 10 ∷ 0 ∷ 0 ∷ 0 ∷ 0 ∷ 11 ∷ 12 ∷ 0 ∷ 1 ∷ 0 ∷ 0 ∷ 0 ∷ 0 ∷ 0 ∷ 0 ∷ 0 ∷ 0 ∷ 2 ∷ 11 ∷ 12 ∷ 0 ∷ 1 ∷ 9 ∷ 10 ∷ 0 ∷ 0 ∷ 0 ∷ 0 ∷ 0 ∷ 0 ∷ 0 ∷ 0 ∷ 0 ∷ 0 ∷ 0 ∷ 0 ∷ 0 ∷ 0 ∷ 0 ∷ 0 ∷ 0 ∷ 0 ∷ 0 ∷ [])
     -- `%left'a'`, kind 1
     ∷ row 1 (37 ∷ 108 ∷ 101 ∷ 102 ∷ 116 ∷ 39 ∷ 97 ∷ 39 ∷ []) (10 ∷ 8 ∷ 8 ∷ 0 ∷ 0 ∷ 0 ∷ 0 ∷ 0 ∷ 0 ∷ 0 ∷ 0 ∷ 0 ∷ 0 ∷ 0 ∷ 0 ∷ 0 ∷ 0 ∷ 0 ∷ 0 ∷ 0 ∷ 0 ∷ 0 ∷ 0 ∷ 0 ∷ 0 ∷ 0 ∷ 0 ∷ 0 ∷ 0 ∷ 0 ∷ 0 ∷ 0 ∷ 0 ∷ 0 ∷ 0 ∷ [])
     -- `%avoid_insert'a'`, kind 1
@@ -89,19 +90,19 @@ table =
     -- `%token\nA`, kind 1
     ∷ row 1 (37 ∷ 116 ∷ 111 ∷ 107 ∷ 101 ∷ 110 ∷ 10 ∷ 65 ∷ []) (13 ∷ 6 ∷ 6 ∷ 0 ∷ 0 ∷ 0 ∷ 0 ∷ 0 ∷ 0 ∷ 0 ∷ 0 ∷ 0 ∷ 0 ∷ 0 ∷ 0 ∷ 0 ∷ 0 ∷ 0 ∷ 0 ∷ 0 ∷ 0 ∷ 0 ∷ 0 ∷ 0 ∷ 0 ∷ 0 ∷ 0 ∷ 0 ∷ 0 ∷ 0 ∷ 0 ∷ 0 ∷ 0 ∷ 0 ∷ 0 ∷ [])
     -- `%token//\nA%%s:A;`, kind 1
-    ∷ row 1 (37 ∷ 116 ∷ 111 ∷ 107 ∷ 101 ∷ 110 ∷ 47 ∷ 47 ∷ 10 ∷ 65 ∷ 37 ∷ 37 ∷ 115 ∷ 58 ∷ 65 ∷ 59 ∷ []) (0 ∷ 16 ∷ 16 ∷ 1 ∷ 0 ∷ 0 ∷ 0 ∷ 0 ∷ 0 ∷ 1 ∷ 1 ∷ 1 ∷ 0 ∷ 9 ∷ 10 ∷ 1 ∷ 12 ∷ 13 ∷ 0 ∷ 0 ∷ 0 ∷ 0 ∷ 14 ∷ 15 ∷ 0 ∷ 1 ∷ 0 ∷ 0 ∷ 0 ∷ 0 ∷ 0 ∷ 0 ∷ 0 ∷ 0 ∷ 2 ∷ 14 ∷ 15 ∷ 1 ∷ 12 ∷ 13 ∷ 0 ∷ 0 ∷ 0 ∷ 0 ∷ 0 ∷ 0 ∷ 0 ∷ 0 ∷ 0 ∷ 0 ∷ 0 ∷ 0 ∷ 0 ∷ 0 ∷ 0 ∷ 0 ∷ 0 ∷ 0 ∷ 0 ∷ [])
+    ∷ row 1 (37 ∷ 116 ∷ 111 ∷ 107 ∷ 101 ∷ 110 ∷ 47 ∷ 47 ∷ 10 ∷ 65 ∷ 37 ∷ 37 ∷ 115 ∷ 58 ∷ 65 ∷ 59 ∷ []) (0 ∷ 16 ∷ 16 ∷ 1 ∷ 0 ∷ 0 ∷ 0 ∷ 0 ∷ 0 ∷ 1 ∷ 1 ∷ 1 ∷ 0 ∷ 9 ∷ 10 ∷ 1 ∷ 12 ∷ 13 ∷ 0 ∷ 0 ∷ 0 ∷ 0 ∷ 14 ∷ 15 ∷ 0 ∷ 1 ∷ 0 ∷ 0 ∷ 0 ∷ 0 ∷ 0 ∷ 0 ∷ 0 ∷ 0 ∷ 2 ∷ 14 ∷ 15 ∷ 0 ∷ 1 ∷ 12 ∷ 13 ∷ 0 ∷ 0 ∷ 0 ∷ 0 ∷ 0 ∷ 0 ∷ 0 ∷ 0 ∷ 0 ∷ 0 ∷ 0 ∷ 0 ∷ 0 ∷ 0 ∷ 0 ∷ 0 ∷ 0 ∷ 0 ∷ 0 ∷ [])
     -- `%token//\r\nA`, kind 1
     ∷ row 1 (37 ∷ 116 ∷ 111 ∷ 107 ∷ 101 ∷ 110 ∷ 47 ∷ 47 ∷ 13 ∷ 10 ∷ 65 ∷ []) (13 ∷ 9 ∷ 9 ∷ 0 ∷ 0 ∷ 0 ∷ 0 ∷ 0 ∷ 0 ∷ 0 ∷ 0 ∷ 0 ∷ 0 ∷ 0 ∷ 0 ∷ 0 ∷ 0 ∷ 0 ∷ 0 ∷ 0 ∷ 0 ∷ 0 ∷ 0 ∷ 0 ∷ 0 ∷ 0 ∷ 0 ∷ 0 ∷ 0 ∷ 0 ∷ 0 ∷ 0 ∷ 0 ∷ 0 ∷ 0 ∷ [])
     -- `%%s:""x";`, kind 1
-    ∷ row 1 (37 ∷ 37 ∷ 115 ∷ 58 ∷ 34 ∷ 34 ∷ 120 ∷ 34 ∷ 59 ∷ []) (0 ∷ 9 ∷ 9 ∷ 1 ∷ 0 ∷ 0 ∷ 0 ∷ 0 ∷ 0 ∷ 1 ∷ 1 ∷ 1 ∷ 0 ∷ 5 ∷ 7 ∷ 0 ∷ 2 ∷ 3 ∷ 0 ∷ 0 ∷ 0 ∷ 0 ∷ 4 ∷ 8 ∷ 0 ∷ 1 ∷ 0 ∷ 0 ∷ 0 ∷ 0 ∷ 0 ∷ 0 ∷ 0 ∷ 0 ∷ 2 ∷ 5 ∷ 7 ∷ 1 ∷ 2 ∷ 3 ∷ 0 ∷ 0 ∷ 0 ∷ 0 ∷ 0 ∷ 0 ∷ 0 ∷ 0 ∷ 0 ∷ 0 ∷ 0 ∷ 0 ∷ 0 ∷ 0 ∷ 0 ∷ 0 ∷ 0 ∷ 0 ∷ 0 ∷ [])
+    ∷ row 1 (37 ∷ 37 ∷ 115 ∷ 58 ∷ 34 ∷ 34 ∷ 120 ∷ 34 ∷ 59 ∷ []) (0 ∷ 9 ∷ 9 ∷ 1 ∷ 0 ∷ 0 ∷ 0 ∷ 0 ∷ 0 ∷ 1 ∷ 1 ∷ 1 ∷ 0 ∷ 5 ∷ 7 ∷ 0 ∷ 2 ∷ 3 ∷ 0 ∷ 0 ∷ 0 ∷ 0 ∷ 4 ∷ 8 ∷ 0 ∷ 1 ∷ 0 ∷ 0 ∷ 0 ∷ 0 ∷ 0 ∷ 0 ∷ 0 ∷ 0 ∷ 2 ∷ 5 ∷ 7 ∷ 0 ∷ 1 ∷ 2 ∷ 3 ∷ 0 ∷ 0 ∷ 0 ∷ 0 ∷ 0 ∷ 0 ∷ 0 ∷ 0 ∷ 0 ∷ 0 ∷ 0 ∷ 0 ∷ 0 ∷ 0 ∷ 0 ∷ 0 ∷ 0 ∷ 0 ∷ 0 ∷ [])
     -- `%%s:{ };`, kind 1
     ∷ row 1 (37 ∷ 37 ∷ 115 ∷ 58 ∷ 123 ∷ 32 ∷ 125 ∷ 59 ∷ []) (0 ∷ 8 ∷ 8 ∷ 0 ∷ 0 ∷ 0 ∷ 0 ∷ 0 ∷ 0 ∷ 1 ∷ 1 ∷ 0 ∷ 0 ∷ 2 ∷ 3 ∷ 0 ∷ 0 ∷ 0 ∷ 0 ∷ 4 ∷ 4 ∷ 0 ∷ 0 ∷ 0 ∷ 0 ∷ 0 ∷ 1 ∷ 5 ∷ 5 ∷ 5 ∷ 5 ∷ 1 ∷ 2 ∷ 3 ∷ 0 ∷ 0 ∷ 0 ∷ 0 ∷ 0 ∷ 0 ∷ 0 ∷ 0 ∷ 0 ∷ 0 ∷ 0 ∷ 0 ∷ 0 ∷ 0 ∷ 0 ∷ 0 ∷ 0 ∷ 0 ∷ 0 ∷ [])
     -- `%%s:%empty%prec A'b';`, kind 1
-    ∷ row 1 (37 ∷ 37 ∷ 115 ∷ 58 ∷ 37 ∷ 101 ∷ 109 ∷ 112 ∷ 116 ∷ 121 ∷ 37 ∷ 112 ∷ 114 ∷ 101 ∷ 99 ∷ 32 ∷ 65 ∷ 39 ∷ 98 ∷ 39 ∷ 59 ∷ []) (0 ∷ 21 ∷ 21 ∷ 2 ∷ 0 ∷ 0 ∷ 0 ∷ 0 ∷ 0 ∷ 1 ∷ 1 ∷ 1 ∷ 0 ∷ 16 ∷ 17 ∷ 0 ∷ 18 ∷ 19 ∷ 0 ∷ 2 ∷ 3 ∷ 0 ∷ 0 ∷ 0 ∷ 0 ∷ 4 ∷ 20 ∷ 0 ∷ 1 ∷ 1 ∷ 16 ∷ 17 ∷ 0 ∷ 0 ∷ 0 ∷ 0 ∷ 0 ∷ 2 ∷ 18 ∷ 19 ∷ 1 ∷ 2 ∷ 3 ∷ 0 ∷ 0 ∷ 0 ∷ 0 ∷ 0 ∷ 0 ∷ 0 ∷ 0 ∷ 0 ∷ 0 ∷ 0 ∷ 0 ∷ 0 ∷ 0 ∷ 0 ∷ 0 ∷ 0 ∷ 0 ∷ 0 ∷ [])
+    ∷ row 1 (37 ∷ 37 ∷ 115 ∷ 58 ∷ 37 ∷ 101 ∷ 109 ∷ 112 ∷ 116 ∷ 121 ∷ 37 ∷ 112 ∷ 114 ∷ 101 ∷ 99 ∷ 32 ∷ 65 ∷ 39 ∷ 98 ∷ 39 ∷ 59 ∷ []) (0 ∷ 21 ∷ 21 ∷ 2 ∷ 0 ∷ 0 ∷ 0 ∷ 0 ∷ 0 ∷ 1 ∷ 1 ∷ 1 ∷ 0 ∷ 16 ∷ 17 ∷ 0 ∷ 18 ∷ 19 ∷ 0 ∷ 2 ∷ 3 ∷ 0 ∷ 0 ∷ 0 ∷ 0 ∷ 4 ∷ 20 ∷ 0 ∷ 1 ∷ 1 ∷ 16 ∷ 17 ∷ 0 ∷ 0 ∷ 0 ∷ 0 ∷ 0 ∷ 2 ∷ 18 ∷ 19 ∷ 1 ∷ 1 ∷ 2 ∷ 3 ∷ 0 ∷ 0 ∷ 0 ∷ 0 ∷ 0 ∷ 0 ∷ 0 ∷ 0 ∷ 0 ∷ 0 ∷ 0 ∷ 0 ∷ 0 ∷ 0 ∷ 0 ∷ 0 ∷ 0 ∷ 0 ∷ 0 ∷ [])
     -- `%start a%start b%%a:;`, kind 1
     ∷ row 1 (37 ∷ 115 ∷ 116 ∷ 97 ∷ 114 ∷ 116 ∷ 32 ∷ 97 ∷ 37 ∷ 115 ∷ 116 ∷ 97 ∷ 114 ∷ 116 ∷ 32 ∷ 98 ∷ 37 ∷ 37 ∷ 97 ∷ 58 ∷ 59 ∷ []) (25 ∷ 7 ∷ 8 ∷ 0 ∷ 0 ∷ 0 ∷ 0 ∷ 0 ∷ 0 ∷ 1 ∷ 1 ∷ 0 ∷ 1 ∷ 18 ∷ 19 ∷ 0 ∷ 0 ∷ 0 ∷ 0 ∷ 20 ∷ 20 ∷ 0 ∷ 0 ∷ 0 ∷ 0 ∷ 0 ∷ 0 ∷ 0 ∷ 0 ∷ 0 ∷ 0 ∷ 25 ∷ 7 ∷ 8 ∷ 15 ∷ 16 ∷ 1 ∷ 7 ∷ 8 ∷ 0 ∷ 0 ∷ 0 ∷ 0 ∷ 0 ∷ 0 ∷ 0 ∷ 0 ∷ 0 ∷ 0 ∷ 0 ∷ 0 ∷ 0 ∷ 0 ∷ 0 ∷ 0 ∷ 0 ∷ 0 ∷ 0 ∷ [])
     -- `%token A%expect-unused A%%s:A;`, kind 1
-    ∷ row 1 (37 ∷ 116 ∷ 111 ∷ 107 ∷ 101 ∷ 110 ∷ 32 ∷ 65 ∷ 37 ∷ 101 ∷ 120 ∷ 112 ∷ 101 ∷ 99 ∷ 116 ∷ 45 ∷ 117 ∷ 110 ∷ 117 ∷ 115 ∷ 101 ∷ 100 ∷ 32 ∷ 65 ∷ 37 ∷ 37 ∷ 115 ∷ 58 ∷ 65 ∷ 59 ∷ []) (0 ∷ 30 ∷ 30 ∷ 1 ∷ 0 ∷ 0 ∷ 0 ∷ 0 ∷ 1 ∷ 1 ∷ 1 ∷ 1 ∷ 0 ∷ 7 ∷ 8 ∷ 1 ∷ 1 ∷ 23 ∷ 24 ∷ 26 ∷ 27 ∷ 0 ∷ 0 ∷ 0 ∷ 0 ∷ 28 ∷ 29 ∷ 0 ∷ 1 ∷ 0 ∷ 0 ∷ 0 ∷ 0 ∷ 0 ∷ 0 ∷ 0 ∷ 0 ∷ 2 ∷ 28 ∷ 29 ∷ 1 ∷ 26 ∷ 27 ∷ 0 ∷ 0 ∷ 0 ∷ 0 ∷ 0 ∷ 0 ∷ 0 ∷ 0 ∷ 0 ∷ 0 ∷ 0 ∷ 0 ∷ 0 ∷ 0 ∷ 0 ∷ 0 ∷ 0 ∷ 0 ∷ 0 ∷ [])
+    ∷ row 1 (37 ∷ 116 ∷ 111 ∷ 107 ∷ 101 ∷ 110 ∷ 32 ∷ 65 ∷ 37 ∷ 101 ∷ 120 ∷ 112 ∷ 101 ∷ 99 ∷ 116 ∷ 45 ∷ 117 ∷ 110 ∷ 117 ∷ 115 ∷ 101 ∷ 100 ∷ 32 ∷ 65 ∷ 37 ∷ 37 ∷ 115 ∷ 58 ∷ 65 ∷ 59 ∷ []) (0 ∷ 30 ∷ 30 ∷ 1 ∷ 0 ∷ 0 ∷ 0 ∷ 0 ∷ 1 ∷ 1 ∷ 1 ∷ 1 ∷ 0 ∷ 7 ∷ 8 ∷ 1 ∷ 1 ∷ 23 ∷ 24 ∷ 26 ∷ 27 ∷ 0 ∷ 0 ∷ 0 ∷ 0 ∷ 28 ∷ 29 ∷ 0 ∷ 1 ∷ 0 ∷ 0 ∷ 0 ∷ 0 ∷ 0 ∷ 0 ∷ 0 ∷ 0 ∷ 2 ∷ 28 ∷ 29 ∷ 0 ∷ 1 ∷ 26 ∷ 27 ∷ 0 ∷ 0 ∷ 0 ∷ 0 ∷ 0 ∷ 0 ∷ 0 ∷ 0 ∷ 0 ∷ 0 ∷ 0 ∷ 0 ∷ 0 ∷ 0 ∷ 0 ∷ 0 ∷ 0 ∷ 0 ∷ 0 ∷ [])
     -- `%expect18446744073709551616`, kind 1
     ∷ row 1 (37 ∷ 101 ∷ 120 ∷ 112 ∷ 101 ∷ 99 ∷ 116 ∷ 49 ∷ 56 ∷ 52 ∷ 52 ∷ 54 ∷ 55 ∷ 52 ∷ 52 ∷ 48 ∷ 55 ∷ 51 ∷ 55 ∷ 48 ∷ 57 ∷ 53 ∷ 53 ∷ 49 ∷ 54 ∷ 49 ∷ 54 ∷ []) (1 ∷ 7 ∷ 7 ∷ 0 ∷ 0 ∷ 0 ∷ 0 ∷ 0 ∷ 0 ∷ 0 ∷ 0 ∷ 0 ∷ 0 ∷ 0 ∷ 0 ∷ 0 ∷ 0 ∷ 0 ∷ 0 ∷ 0 ∷ 0 ∷ 0 ∷ 0 ∷ 0 ∷ 0 ∷ 0 ∷ 0 ∷ 0 ∷ 0 ∷ 0 ∷ 0 ∷ 0 ∷ 0 ∷ 0 ∷ 0 ∷ [])
     -- `%left 'a' // x\n%left 'b'\n%%s:;`, kind 1
@@ -109,13 +110,13 @@ table =
     -- `%%s:a.b;`, kind 1
     ∷ row 1 (37 ∷ 37 ∷ 115 ∷ 58 ∷ 97 ∷ 46 ∷ 98 ∷ 59 ∷ []) (3 ∷ 5 ∷ 5 ∷ 0 ∷ 0 ∷ 0 ∷ 0 ∷ 0 ∷ 0 ∷ 0 ∷ 0 ∷ 0 ∷ 0 ∷ 0 ∷ 0 ∷ 0 ∷ 0 ∷ 0 ∷ 0 ∷ 0 ∷ 0 ∷ 0 ∷ 0 ∷ 0 ∷ 0 ∷ 0 ∷ 0 ∷ 0 ∷ 0 ∷ 0 ∷ 0 ∷ 0 ∷ 0 ∷ 0 ∷ 0 ∷ [])
     -- `%%s:a|b c;a:;`, kind 1
-    ∷ row 1 (37 ∷ 37 ∷ 115 ∷ 58 ∷ 97 ∷ 124 ∷ 98 ∷ 32 ∷ 99 ∷ 59 ∷ 97 ∷ 58 ∷ 59 ∷ []) (0 ∷ 13 ∷ 13 ∷ 0 ∷ 0 ∷ 0 ∷ 0 ∷ 0 ∷ 0 ∷ 2 ∷ 3 ∷ 3 ∷ 0 ∷ 2 ∷ 3 ∷ 0 ∷ 0 ∷ 0 ∷ 10 ∷ 11 ∷ 0 ∷ 0 ∷ 0 ∷ 0 ∷ 4 ∷ 5 ∷ 0 ∷ 1 ∷ 0 ∷ 0 ∷ 0 ∷ 0 ∷ 0 ∷ 0 ∷ 0 ∷ 0 ∷ 0 ∷ 6 ∷ 9 ∷ 1 ∷ 3 ∷ 0 ∷ 0 ∷ 0 ∷ 0 ∷ 0 ∷ 0 ∷ 0 ∷ 0 ∷ 1 ∷ 12 ∷ 12 ∷ 3 ∷ 3 ∷ 0 ∷ 0 ∷ 0 ∷ 0 ∷ 0 ∷ 0 ∷ 0 ∷ 0 ∷ 1 ∷ 4 ∷ 5 ∷ 1 ∷ 6 ∷ 7 ∷ 1 ∷ 8 ∷ 9 ∷ 1 ∷ 2 ∷ 3 ∷ 0 ∷ 0 ∷ 0 ∷ 0 ∷ 0 ∷ 0 ∷ 0 ∷ 0 ∷ 0 ∷ 0 ∷ 0 ∷ 0 ∷ 0 ∷ 0 ∷ 0 ∷ 0 ∷ 0 ∷ 0 ∷ 0 ∷ [])
+    ∷ row 1 (37 ∷ 37 ∷ 115 ∷ 58 ∷ 97 ∷ 124 ∷ 98 ∷ 32 ∷ 99 ∷ 59 ∷ 97 ∷ 58 ∷ 59 ∷ []) (0 ∷ 13 ∷ 13 ∷ 0 ∷ 0 ∷ 0 ∷ 0 ∷ 0 ∷ 0 ∷ 2 ∷ 3 ∷ 3 ∷ 0 ∷ 2 ∷ 3 ∷ 0 ∷ 0 ∷ 0 ∷ 10 ∷ 11 ∷ 0 ∷ 0 ∷ 0 ∷ 0 ∷ 4 ∷ 5 ∷ 0 ∷ 1 ∷ 0 ∷ 0 ∷ 0 ∷ 0 ∷ 0 ∷ 0 ∷ 0 ∷ 0 ∷ 0 ∷ 6 ∷ 9 ∷ 1 ∷ 3 ∷ 0 ∷ 0 ∷ 0 ∷ 0 ∷ 0 ∷ 0 ∷ 0 ∷ 0 ∷ 1 ∷ 12 ∷ 12 ∷ 3 ∷ 3 ∷ 0 ∷ 0 ∷ 0 ∷ 0 ∷ 0 ∷ 0 ∷ 0 ∷ 0 ∷ 1 ∷ 4 ∷ 5 ∷ 1 ∷ 1 ∷ 6 ∷ 7 ∷ 4294967295 ∷ 1 ∷ 8 ∷ 9 ∷ 4294967295 ∷ 1 ∷ 2 ∷ 3 ∷ 0 ∷ 0 ∷ 0 ∷ 0 ∷ 0 ∷ 0 ∷ 0 ∷ 0 ∷ 0 ∷ 0 ∷ 0 ∷ 0 ∷ 0 ∷ 0 ∷ 0 ∷ 0 ∷ 0 ∷ 0 ∷ 0 ∷ [])
     -- `%%s-> T::U :{ x }|;`, kind 2
     ∷ row 2 (37 ∷ 37 ∷ 115 ∷ 45 ∷ 62 ∷ 32 ∷ 84 ∷ 58 ∷ 58 ∷ 85 ∷ 32 ∷ 58 ∷ 123 ∷ 32 ∷ 120 ∷ 32 ∷ 125 ∷ 124 ∷ 59 ∷ []) (0 ∷ 19 ∷ 19 ∷ 0 ∷ 0 ∷ 0 ∷ 0 ∷ 0 ∷ 0 ∷ 1 ∷ 2 ∷ 0 ∷ 0 ∷ 2 ∷ 3 ∷ 1 ∷ 6 ∷ 10 ∷ 0 ∷ 12 ∷ 12 ∷ 0 ∷ 0 ∷ 0 ∷ 0 ∷ 0 ∷ 1 ∷ 14 ∷ 15 ∷ 13 ∷ 14 ∷ 0 ∷ 18 ∷ 18 ∷ 0 ∷ 0 ∷ 0 ∷ 0 ∷ 0 ∷ 0 ∷ 0 ∷ 0 ∷ 0 ∷ 0 ∷ 1 ∷ 2 ∷ 3 ∷ 0 ∷ 0 ∷ 0 ∷ 0 ∷ 0 ∷ 0 ∷ 0 ∷ 0 ∷ 0 ∷ 0 ∷ 0 ∷ 0 ∷ 0 ∷ 0 ∷ 0 ∷ 0 ∷ 0 ∷ 0 ∷ 0 ∷ [])
     -- `%actiontype T\n%%s:;s:a;`, kind 1
-    ∷ row 1 (37 ∷ 97 ∷ 99 ∷ 116 ∷ 105 ∷ 111 ∷ 110 ∷ 116 ∷ 121 ∷ 112 ∷ 101 ∷ 32 ∷ 84 ∷ 10 ∷ 37 ∷ 37 ∷ 115 ∷ 58 ∷ 59 ∷ 115 ∷ 58 ∷ 97 ∷ 59 ∷ []) (0 ∷ 23 ∷ 23 ∷ 0 ∷ 0 ∷ 0 ∷ 0 ∷ 0 ∷ 0 ∷ 1 ∷ 2 ∷ 1 ∷ 0 ∷ 16 ∷ 17 ∷ 1 ∷ 12 ∷ 13 ∷ 0 ∷ 18 ∷ 18 ∷ 0 ∷ 0 ∷ 0 ∷ 0 ∷ 0 ∷ 0 ∷ 0 ∷ 0 ∷ 0 ∷ 0 ∷ 0 ∷ 21 ∷ 22 ∷ 0 ∷ 1 ∷ 0 ∷ 0 ∷ 0 ∷ 0 ∷ 0 ∷ 0 ∷ 0 ∷ 0 ∷ 1 ∷ 21 ∷ 22 ∷ 1 ∷ 16 ∷ 17 ∷ 0 ∷ 0 ∷ 0 ∷ 0 ∷ 0 ∷ 0 ∷ 0 ∷ 0 ∷ 0 ∷ 0 ∷ 0 ∷ 0 ∷ 0 ∷ 0 ∷ 0 ∷ 0 ∷ 0 ∷ 0 ∷ 0 ∷ [])
+    ∷ row 1 (37 ∷ 97 ∷ 99 ∷ 116 ∷ 105 ∷ 111 ∷ 110 ∷ 116 ∷ 121 ∷ 112 ∷ 101 ∷ 32 ∷ 84 ∷ 10 ∷ 37 ∷ 37 ∷ 115 ∷ 58 ∷ 59 ∷ 115 ∷ 58 ∷ 97 ∷ 59 ∷ []) (0 ∷ 23 ∷ 23 ∷ 0 ∷ 0 ∷ 0 ∷ 0 ∷ 0 ∷ 0 ∷ 1 ∷ 2 ∷ 1 ∷ 0 ∷ 16 ∷ 17 ∷ 1 ∷ 12 ∷ 13 ∷ 0 ∷ 18 ∷ 18 ∷ 0 ∷ 0 ∷ 0 ∷ 0 ∷ 0 ∷ 0 ∷ 0 ∷ 0 ∷ 0 ∷ 0 ∷ 0 ∷ 21 ∷ 22 ∷ 0 ∷ 1 ∷ 0 ∷ 0 ∷ 0 ∷ 0 ∷ 0 ∷ 0 ∷ 0 ∷ 0 ∷ 1 ∷ 21 ∷ 22 ∷ 4294967295 ∷ 1 ∷ 16 ∷ 17 ∷ 0 ∷ 0 ∷ 0 ∷ 0 ∷ 0 ∷ 0 ∷ 0 ∷ 0 ∷ 0 ∷ 0 ∷ 0 ∷ 0 ∷ 0 ∷ 0 ∷ 0 ∷ 0 ∷ 0 ∷ 0 ∷ 0 ∷ [])
     -- `%%s:'a'%prec b%prec 'c';%% // x\n q`, kind 1
-    ∷ row 1 (37 ∷ 37 ∷ 115 ∷ 58 ∷ 39 ∷ 97 ∷ 39 ∷ 37 ∷ 112 ∷ 114 ∷ 101 ∷ 99 ∷ 32 ∷ 98 ∷ 37 ∷ 112 ∷ 114 ∷ 101 ∷ 99 ∷ 32 ∷ 39 ∷ 99 ∷ 39 ∷ 59 ∷ 37 ∷ 37 ∷ 32 ∷ 47 ∷ 47 ∷ 32 ∷ 120 ∷ 10 ∷ 32 ∷ 113 ∷ []) (0 ∷ 34 ∷ 34 ∷ 3 ∷ 0 ∷ 0 ∷ 0 ∷ 0 ∷ 0 ∷ 1 ∷ 1 ∷ 1 ∷ 0 ∷ 5 ∷ 6 ∷ 0 ∷ 13 ∷ 14 ∷ 0 ∷ 21 ∷ 22 ∷ 0 ∷ 2 ∷ 3 ∷ 0 ∷ 0 ∷ 0 ∷ 0 ∷ 4 ∷ 23 ∷ 0 ∷ 1 ∷ 1 ∷ 21 ∷ 22 ∷ 0 ∷ 0 ∷ 0 ∷ 0 ∷ 0 ∷ 2 ∷ 5 ∷ 6 ∷ 1 ∷ 2 ∷ 3 ∷ 0 ∷ 0 ∷ 0 ∷ 0 ∷ 0 ∷ 0 ∷ 0 ∷ 0 ∷ 0 ∷ 0 ∷ 0 ∷ 0 ∷ 0 ∷ 0 ∷ 0 ∷ 0 ∷ 1 ∷ 33 ∷ 34 ∷ [])
+    ∷ row 1 (37 ∷ 37 ∷ 115 ∷ 58 ∷ 39 ∷ 97 ∷ 39 ∷ 37 ∷ 112 ∷ 114 ∷ 101 ∷ 99 ∷ 32 ∷ 98 ∷ 37 ∷ 112 ∷ 114 ∷ 101 ∷ 99 ∷ 32 ∷ 39 ∷ 99 ∷ 39 ∷ 59 ∷ 37 ∷ 37 ∷ 32 ∷ 47 ∷ 47 ∷ 32 ∷ 120 ∷ 10 ∷ 32 ∷ 113 ∷ []) (0 ∷ 34 ∷ 34 ∷ 3 ∷ 0 ∷ 0 ∷ 0 ∷ 0 ∷ 0 ∷ 1 ∷ 1 ∷ 1 ∷ 0 ∷ 5 ∷ 6 ∷ 0 ∷ 13 ∷ 14 ∷ 0 ∷ 21 ∷ 22 ∷ 0 ∷ 2 ∷ 3 ∷ 0 ∷ 0 ∷ 0 ∷ 0 ∷ 4 ∷ 23 ∷ 0 ∷ 1 ∷ 1 ∷ 21 ∷ 22 ∷ 0 ∷ 0 ∷ 0 ∷ 0 ∷ 0 ∷ 2 ∷ 5 ∷ 6 ∷ 0 ∷ 1 ∷ 2 ∷ 3 ∷ 0 ∷ 0 ∷ 0 ∷ 0 ∷ 0 ∷ 0 ∷ 0 ∷ 0 ∷ 0 ∷ 0 ∷ 0 ∷ 0 ∷ 0 ∷ 0 ∷ 0 ∷ 0 ∷ 1 ∷ 33 ∷ 34 ∷ [])
     -- `%%s:{a}b;`, kind 1
     ∷ row 1 (37 ∷ 37 ∷ 115 ∷ 58 ∷ 123 ∷ 97 ∷ 125 ∷ 98 ∷ 59 ∷ []) (11 ∷ 7 ∷ 7 ∷ 0 ∷ 0 ∷ 0 ∷ 0 ∷ 0 ∷ 0 ∷ 0 ∷ 0 ∷ 0 ∷ 0 ∷ 0 ∷ 0 ∷ 0 ∷ 0 ∷ 0 ∷ 0 ∷ 0 ∷ 0 ∷ 0 ∷ 0 ∷ 0 ∷ 0 ∷ 0 ∷ 0 ∷ 0 ∷ 0 ∷ 0 ∷ 0 ∷ 0 ∷ 0 ∷ 0 ∷ 0 ∷ [])
     -- `%%s:%empty b;`, kind 1
@@ -131,15 +132,15 @@ table =
     -- `%%s->t`, kind 2
     ∷ row 2 (37 ∷ 37 ∷ 115 ∷ 45 ∷ 62 ∷ 116 ∷ []) (16 ∷ 6 ∷ 6 ∷ 0 ∷ 0 ∷ 0 ∷ 0 ∷ 0 ∷ 0 ∷ 0 ∷ 0 ∷ 0 ∷ 0 ∷ 0 ∷ 0 ∷ 0 ∷ 0 ∷ 0 ∷ 0 ∷ 0 ∷ 0 ∷ 0 ∷ 0 ∷ 0 ∷ 0 ∷ 0 ∷ 0 ∷ 0 ∷ 0 ∷ 0 ∷ 0 ∷ 0 ∷ 0 ∷ 0 ∷ 0 ∷ [])
     -- `%implicit_tokens A\n%%s:A;`, kind 3
-    ∷ row 3 (37 ∷ 105 ∷ 109 ∷ 112 ∷ 108 ∷ 105 ∷ 99 ∷ 105 ∷ 116 ∷ 95 ∷ 116 ∷ 111 ∷ 107 ∷ 101 ∷ 110 ∷ 115 ∷ 32 ∷ 65 ∷ 10 ∷ 37 ∷ 37 ∷ 115 ∷ 58 ∷ 65 ∷ 59 ∷ []) (0 ∷ 25 ∷ 25 ∷ 1 ∷ 0 ∷ 0 ∷ 1 ∷ 0 ∷ 0 ∷ 1 ∷ 1 ∷ 1 ∷ 0 ∷ 17 ∷ 18 ∷ 0 ∷ 17 ∷ 18 ∷ 21 ∷ 22 ∷ 0 ∷ 0 ∷ 0 ∷ 0 ∷ 23 ∷ 24 ∷ 0 ∷ 1 ∷ 0 ∷ 0 ∷ 0 ∷ 0 ∷ 0 ∷ 0 ∷ 0 ∷ 0 ∷ 1 ∷ 23 ∷ 24 ∷ 1 ∷ 21 ∷ 22 ∷ 0 ∷ 0 ∷ 0 ∷ 0 ∷ 0 ∷ 0 ∷ 0 ∷ 0 ∷ 0 ∷ 0 ∷ 0 ∷ 0 ∷ 0 ∷ 0 ∷ 0 ∷ 0 ∷ 0 ∷ 0 ∷ 0 ∷ [])
+    ∷ row 3 (37 ∷ 105 ∷ 109 ∷ 112 ∷ 108 ∷ 105 ∷ 99 ∷ 105 ∷ 116 ∷ 95 ∷ 116 ∷ 111 ∷ 107 ∷ 101 ∷ 110 ∷ 115 ∷ 32 ∷ 65 ∷ 10 ∷ 37 ∷ 37 ∷ 115 ∷ 58 ∷ 65 ∷ 59 ∷ []) (0 ∷ 25 ∷ 25 ∷ 1 ∷ 0 ∷ 0 ∷ 1 ∷ 0 ∷ 0 ∷ 1 ∷ 1 ∷ 1 ∷ 0 ∷ 17 ∷ 18 ∷ 0 ∷ 17 ∷ 18 ∷ 21 ∷ 22 ∷ 0 ∷ 0 ∷ 0 ∷ 0 ∷ 23 ∷ 24 ∷ 0 ∷ 1 ∷ 0 ∷ 0 ∷ 0 ∷ 0 ∷ 0 ∷ 0 ∷ 0 ∷ 0 ∷ 1 ∷ 23 ∷ 24 ∷ 4294967295 ∷ 1 ∷ 21 ∷ 22 ∷ 0 ∷ 0 ∷ 0 ∷ 0 ∷ 0 ∷ 0 ∷ 0 ∷ 0 ∷ 0 ∷ 0 ∷ 0 ∷ 0 ∷ 0 ∷ 0 ∷ 0 ∷ 0 ∷ 0 ∷ 0 ∷ 0 ∷ [])
     -- `%token A%%s:A 'A' B;`, kind 1
-    ∷ row 1 (37 ∷ 116 ∷ 111 ∷ 107 ∷ 101 ∷ 110 ∷ 32 ∷ 65 ∷ 37 ∷ 37 ∷ 115 ∷ 58 ∷ 65 ∷ 32 ∷ 39 ∷ 65 ∷ 39 ∷ 32 ∷ 66 ∷ 59 ∷ []) (0 ∷ 20 ∷ 20 ∷ 1 ∷ 0 ∷ 0 ∷ 0 ∷ 0 ∷ 0 ∷ 1 ∷ 1 ∷ 3 ∷ 0 ∷ 7 ∷ 8 ∷ 1 ∷ 10 ∷ 11 ∷ 0 ∷ 0 ∷ 0 ∷ 0 ∷ 12 ∷ 19 ∷ 0 ∷ 3 ∷ 0 ∷ 0 ∷ 0 ∷ 0 ∷ 0 ∷ 0 ∷ 0 ∷ 0 ∷ 2 ∷ 12 ∷ 13 ∷ 2 ∷ 15 ∷ 16 ∷ 1 ∷ 18 ∷ 19 ∷ 1 ∷ 10 ∷ 11 ∷ 0 ∷ 0 ∷ 0 ∷ 0 ∷ 0 ∷ 0 ∷ 0 ∷ 0 ∷ 0 ∷ 0 ∷ 0 ∷ 0 ∷ 0 ∷ 0 ∷ 0 ∷ 0 ∷ 0 ∷ 0 ∷ 0 ∷ [])
+    ∷ row 1 (37 ∷ 116 ∷ 111 ∷ 107 ∷ 101 ∷ 110 ∷ 32 ∷ 65 ∷ 37 ∷ 37 ∷ 115 ∷ 58 ∷ 65 ∷ 32 ∷ 39 ∷ 65 ∷ 39 ∷ 32 ∷ 66 ∷ 59 ∷ []) (0 ∷ 20 ∷ 20 ∷ 1 ∷ 0 ∷ 0 ∷ 0 ∷ 0 ∷ 0 ∷ 1 ∷ 1 ∷ 3 ∷ 0 ∷ 7 ∷ 8 ∷ 1 ∷ 10 ∷ 11 ∷ 0 ∷ 0 ∷ 0 ∷ 0 ∷ 12 ∷ 19 ∷ 0 ∷ 3 ∷ 0 ∷ 0 ∷ 0 ∷ 0 ∷ 0 ∷ 0 ∷ 0 ∷ 0 ∷ 2 ∷ 12 ∷ 13 ∷ 0 ∷ 2 ∷ 15 ∷ 16 ∷ 0 ∷ 1 ∷ 18 ∷ 19 ∷ 4294967295 ∷ 1 ∷ 10 ∷ 11 ∷ 0 ∷ 0 ∷ 0 ∷ 0 ∷ 0 ∷ 0 ∷ 0 ∷ 0 ∷ 0 ∷ 0 ∷ 0 ∷ 0 ∷ 0 ∷ 0 ∷ 0 ∷ 0 ∷ 0 ∷ 0 ∷ 0 ∷ [])
     -- `%parse-param p : q\n%parse-generics 'a\n%expect 2%expect-rr 3%%s:;`, kind 1
     ∷ row 1 (37 ∷ 112 ∷ 97 ∷ 114 ∷ 115 ∷ 101 ∷ 45 ∷ 112 ∷ 97 ∷ 114 ∷ 97 ∷ 109 ∷ 32 ∷ 112 ∷ 32 ∷ 58 ∷ 32 ∷ 113 ∷ 10 ∷ 37 ∷ 112 ∷ 97 ∷ 114 ∷ 115 ∷ 101 ∷ 45 ∷ 103 ∷ 101 ∷ 110 ∷ 101 ∷ 114 ∷ 105 ∷ 99 ∷ 115 ∷ 32 ∷ 39 ∷ 97 ∷ 10 ∷ 37 ∷ 101 ∷ 120 ∷ 112 ∷ 101 ∷ 99 ∷ 116 ∷ 32 ∷ 50 ∷ 37 ∷ 101 ∷ 120 ∷ 112 ∷ 101 ∷ 99 ∷ 116 ∷ 45 ∷ 114 ∷ 114 ∷ 32 ∷ 51 ∷ 37 ∷ 37 ∷ 115 ∷ 58 ∷ 59 ∷ []) (0 ∷ 64 ∷ 64 ∷ 0 ∷ 0 ∷ 0 ∷ 0 ∷ 0 ∷ 0 ∷ 1 ∷ 1 ∷ 0 ∷ 0 ∷ 61 ∷ 62 ∷ 0 ∷ 0 ∷ 0 ∷ 0 ∷ 63 ∷ 63 ∷ 0 ∷ 0 ∷ 0 ∷ 0 ∷ 0 ∷ 0 ∷ 0 ∷ 0 ∷ 0 ∷ 0 ∷ 1 ∷ 61 ∷ 62 ∷ 1 ∷ 2 ∷ 46 ∷ 47 ∷ 1 ∷ 3 ∷ 58 ∷ 59 ∷ 1 ∷ 13 ∷ 14 ∷ 17 ∷ 18 ∷ 1 ∷ 35 ∷ 37 ∷ 0 ∷ 0 ∷ 0 ∷ [])
     ∷ []
 
 pub table-holds : all (λ x. numbers (readAll (x .src) (x .kind) lent slots)) table ≡ true
-unfolding isWhite all same row table filled numbers readAll attempted sizesFit sizeTest isPower halved admitted sectionsAll restAll endedAt repeatOf ofNumber check checkAt declAll declRun declTurn declStep seenAt firstOf startsAt begins turns gapAt gapOf spacing spacingAt isBlank isEol pastGap pushRow listRepeat enterStep onceStep addRow room samePart hasName firstRow findName enterToken nextLevel nameAt named wordAt tokenAt bare quotedAt closed isQuote isAt inClass isLetter isDigit runEnd runEndAt intAt counted decimal decimalAt stringAt stringFrom string lineEndAt single singleFrom colonText colonTextAt braced bracedFrom acted actionAt startDecl startNamed expectDecl expectGiven actiontypeDecl actiontypeNamed paramTyped paramDecl genericsDecl listDecl percentList listTurn ends tokenItem unusedItem unusedRow precDecl precList precTurn precItem avoidDecl avoidList avoidTurn avoidItem avoidNamed eppDecl eppValue eppText eppGiven pushProduction leadOf follow followAt begun decode decodeAt passed passedAt kept moved trimTurn trimmed firstMark sortAt tokenSymbol quotedRows quotedItem precName item-precItem mayEnd afterAction actionItem mayFollow emptyItem symbolKind bareItem endProduction barItem endItem itemStep itemTurn itemList passMark firstStart colonType arrowType ruleType enterRule namedHead ruleHead ruleBody ruleStep nextRule rulesTurn rulesRun rulesAll programsFrom
+unfolding isWhite all same row table filled numbers readAll readNames filledRows rowFor namedRow attempted sizesFit sizeTest isPower halved admitted sectionsAll restAll endedAt repeatOf ofNumber check checkAt declAll declRun declTurn declStep seenAt firstOf startsAt begins turns gapAt gapOf spacing spacingAt isBlank isEol pastGap pushRow listRepeat enterStep onceStep addRow room samePart hasName firstRow findName enterToken nextLevel nameAt named wordAt tokenAt bare quotedAt closed isQuote isAt inClass isLetter isDigit runEnd runEndAt intAt counted decimal decimalAt stringAt stringFrom string lineEndAt single singleFrom colonText colonTextAt braced bracedFrom acted actionAt startDecl startNamed expectDecl expectGiven actiontypeDecl actiontypeNamed paramTyped paramDecl genericsDecl listDecl percentList listTurn ends tokenItem unusedItem unusedRow precDecl precList precTurn precItem avoidDecl avoidList avoidTurn avoidItem avoidNamed eppDecl eppValue eppText eppGiven pushProduction leadOf follow followAt begun decode decodeAt passed passedAt kept moved trimTurn trimmed firstMark sortAt tokenSymbol quotedRows quotedItem precName item-precItem mayEnd afterAction actionItem mayFollow emptyItem symbolKind bareItem endProduction barItem endItem itemStep itemTurn itemList passMark firstStart colonType arrowType ruleType enterRule namedHead ruleHead ruleBody ruleStep nextRule rulesTurn rulesRun rulesAll programsFrom
 table-holds = refl
 
 -- A source, a kind, and a table without room for a row: index k is table k + 1.
@@ -183,7 +184,7 @@ rooms =
     ∷ []
 
 pub rooms-hold : all (λ x. verdictNumbers (readAll (x .src) (x .kind) (setTab lent (x .without) []) slots .answer)) rooms ≡ true
-unfolding full rooms isWhite all same readAll attempted sizesFit sizeTest isPower halved admitted sectionsAll restAll endedAt repeatOf ofNumber check checkAt declAll declRun declTurn declStep seenAt firstOf startsAt begins turns gapAt gapOf spacing spacingAt isBlank isEol pastGap pushRow listRepeat enterStep onceStep addRow room samePart hasName firstRow findName enterToken nextLevel nameAt named wordAt tokenAt bare quotedAt closed isQuote isAt inClass isLetter isDigit runEnd runEndAt intAt counted decimal decimalAt stringAt stringFrom string lineEndAt single singleFrom colonText colonTextAt braced bracedFrom acted actionAt startDecl startNamed expectDecl expectGiven actiontypeDecl actiontypeNamed paramTyped paramDecl genericsDecl listDecl percentList listTurn ends tokenItem unusedItem unusedRow precDecl precList precTurn precItem avoidDecl avoidList avoidTurn avoidItem avoidNamed eppDecl eppValue eppText eppGiven pushProduction leadOf follow followAt begun decode decodeAt passed passedAt kept moved trimTurn trimmed firstMark sortAt tokenSymbol quotedRows quotedItem precName item-precItem mayEnd afterAction actionItem mayFollow emptyItem symbolKind bareItem endProduction barItem endItem itemStep itemTurn itemList passMark firstStart colonType arrowType ruleType enterRule namedHead ruleHead ruleBody ruleStep nextRule rulesTurn rulesRun rulesAll programsFrom
+unfolding full rooms isWhite all same readAll readNames filledRows rowFor namedRow attempted sizesFit sizeTest isPower halved admitted sectionsAll restAll endedAt repeatOf ofNumber check checkAt declAll declRun declTurn declStep seenAt firstOf startsAt begins turns gapAt gapOf spacing spacingAt isBlank isEol pastGap pushRow listRepeat enterStep onceStep addRow room samePart hasName firstRow findName enterToken nextLevel nameAt named wordAt tokenAt bare quotedAt closed isQuote isAt inClass isLetter isDigit runEnd runEndAt intAt counted decimal decimalAt stringAt stringFrom string lineEndAt single singleFrom colonText colonTextAt braced bracedFrom acted actionAt startDecl startNamed expectDecl expectGiven actiontypeDecl actiontypeNamed paramTyped paramDecl genericsDecl listDecl percentList listTurn ends tokenItem unusedItem unusedRow precDecl precList precTurn precItem avoidDecl avoidList avoidTurn avoidItem avoidNamed eppDecl eppValue eppText eppGiven pushProduction leadOf follow followAt begun decode decodeAt passed passedAt kept moved trimTurn trimmed firstMark sortAt tokenSymbol quotedRows quotedItem precName item-precItem mayEnd afterAction actionItem mayFollow emptyItem symbolKind bareItem endProduction barItem endItem itemStep itemTurn itemList passMark firstStart colonType arrowType ruleType enterRule namedHead ruleHead ruleBody ruleStep nextRule rulesTurn rulesRun rulesAll programsFrom
 rooms-hold = refl
 
 -- a kind, a source, and how many slots each index has
@@ -213,5 +214,5 @@ sizes =
     ∷ []
 
 pub sizes-hold : all (λ x. verdictNumbers (readAll (x .src) (x .kind) lent (record { tokens = replicate (x .first) 7; rules = replicate (x .seventh) 7 }) .answer)) sizes ≡ true
-unfolding lend sizes isWhite all same readAll attempted sizesFit sizeTest isPower halved admitted sectionsAll restAll endedAt repeatOf ofNumber check checkAt declAll declRun declTurn declStep seenAt firstOf startsAt begins turns gapAt gapOf spacing spacingAt isBlank isEol pastGap pushRow listRepeat enterStep onceStep addRow room samePart hasName firstRow findName enterToken nextLevel nameAt named wordAt tokenAt bare quotedAt closed isQuote isAt inClass isLetter isDigit runEnd runEndAt intAt counted decimal decimalAt stringAt stringFrom string lineEndAt single singleFrom colonText colonTextAt braced bracedFrom acted actionAt startDecl startNamed expectDecl expectGiven actiontypeDecl actiontypeNamed paramTyped paramDecl genericsDecl listDecl percentList listTurn ends tokenItem unusedItem unusedRow precDecl precList precTurn precItem avoidDecl avoidList avoidTurn avoidItem avoidNamed eppDecl eppValue eppText eppGiven pushProduction leadOf follow followAt begun decode decodeAt passed passedAt kept moved trimTurn trimmed firstMark sortAt tokenSymbol quotedRows quotedItem precName item-precItem mayEnd afterAction actionItem mayFollow emptyItem symbolKind bareItem endProduction barItem endItem itemStep itemTurn itemList passMark firstStart colonType arrowType ruleType enterRule namedHead ruleHead ruleBody ruleStep nextRule rulesTurn rulesRun rulesAll programsFrom
+unfolding lend sizes isWhite all same readAll readNames filledRows rowFor namedRow attempted sizesFit sizeTest isPower halved admitted sectionsAll restAll endedAt repeatOf ofNumber check checkAt declAll declRun declTurn declStep seenAt firstOf startsAt begins turns gapAt gapOf spacing spacingAt isBlank isEol pastGap pushRow listRepeat enterStep onceStep addRow room samePart hasName firstRow findName enterToken nextLevel nameAt named wordAt tokenAt bare quotedAt closed isQuote isAt inClass isLetter isDigit runEnd runEndAt intAt counted decimal decimalAt stringAt stringFrom string lineEndAt single singleFrom colonText colonTextAt braced bracedFrom acted actionAt startDecl startNamed expectDecl expectGiven actiontypeDecl actiontypeNamed paramTyped paramDecl genericsDecl listDecl percentList listTurn ends tokenItem unusedItem unusedRow precDecl precList precTurn precItem avoidDecl avoidList avoidTurn avoidItem avoidNamed eppDecl eppValue eppText eppGiven pushProduction leadOf follow followAt begun decode decodeAt passed passedAt kept moved trimTurn trimmed firstMark sortAt tokenSymbol quotedRows quotedItem precName item-precItem mayEnd afterAction actionItem mayFollow emptyItem symbolKind bareItem endProduction barItem endItem itemStep itemTurn itemList passMark firstStart colonType arrowType ruleType enterRule namedHead ruleHead ruleBody ruleStep nextRule rulesTurn rulesRun rulesAll programsFrom
 sizes-hold = refl

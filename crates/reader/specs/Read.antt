@@ -9,7 +9,7 @@ use Rattle.whole.specs.declared.Checked.{Checked}
 use Rattle.whole.specs.declared.Checked.the-variants.{Good, BadAt}
 use Rattle.whole.specs.Whole.{checkAt}
 use Rattle.tables.specs.Table.{zeroed, cell}
-use Rattle.tables.specs.Layout.{tokens, rules, repeats, firstPlace, width}
+use Rattle.tables.specs.Layout.{tokens, rules, symbols, repeats, firstPlace, width}
 use Rattle.index.specs.Index.{entries, sizeTest}
 use Rattle.grammar.specs.declared.Counts.{Counts}
 use Rattle.grammar.specs.declared.Singles.{Singles}
@@ -22,7 +22,8 @@ use Rattle.grammar.specs.declared.Answer.the-variants.{Going, Done, Refused}
 use Rattle.grammar.specs.Refusals.{repeatOf}
 use Rattle.grammar.specs.Numbers.{refusalNumbers}
 use Rattle.grammar.specs.State.{Out0, count, fresh, noSingles}
-use Rattle.grammar.specs.Sound.{Tables, Indexes, zeroAll}
+use Rattle.symbols.specs.Symbols.{filledRows}
+use Rattle.grammar.specs.Sound.{Tables, Indexes, lexiconOf, zeroAll}
 use Rattle.declarations.specs.Declarations.{Declared, Out, declAll}
 use Rattle.rules.specs.Rules.{Ruled, rulesAll, programsFrom}
 use Rattle.reader.specs.declared.Verdict.{Verdict}
@@ -181,6 +182,24 @@ indexed src X o =
           };
     }
 
--- The read: on tables of zeros, and on indexes of which the sizes alone matter.
+-- The read but for the symbols' rows: on tables of zeros, and on indexes of which the sizes alone matter.
+unfoldable pub readNames : List ℕ → ℕ → Tables → Indexes → Result
+readNames src kind T X = indexed src X (finishedRun (attempted src kind (sized T X) (zeroAll T)))
+
+-- Document 02, request Five: "An accepted reading has it filled, also for rules defined further down, and a reading with only repeats too."; a refusal leaves no symbol to fill.
+abbrev pub withSymbols : Tables → List ℕ → Tables
+withSymbols T t9 = record { t1 = T .t1; t2 = T .t2; t3 = T .t3; t4 = T .t4; t5 = T .t5; t6 = T .t6; t7 = T .t7; t8 = T .t8; t9 = t9; t10 = T .t10 }
+
+abbrev pub filledIn : List ℕ → Result → Result
+filledIn src o =
+    record {
+      answer = o .answer;
+      counts = o .counts;
+      singles = o .singles;
+      tables = withSymbols (o .tables) (filledRows (lexiconOf src (o .counts) (o .tables)) (o .tables .t9) (getD (o .counts .n) symbols 0));
+      indexes = o .indexes;
+    }
+
+-- the read
 unfoldable pub readAll : List ℕ → ℕ → Tables → Indexes → Result
-readAll src kind T X = indexed src X (finishedRun (attempted src kind (sized T X) (zeroAll T)))
+readAll src kind T X = filledIn src (readNames src kind T X)

@@ -12,12 +12,15 @@ use grammar::Step;
 use whole::Checked;
 ghost use mathlib.Core.Path.{_≡_};
 ghost use Prim.Native.Nat.{_≤_};
-ghost use lib.ListN.{length};
+ghost use lib.ListN.{length, getD};
+ghost use Rattle.tables.specs.Layout.{tokens, rules, symbols, width};
+ghost use Rattle.index.specs.Index.{Indexed};
+ghost use Rattle.symbols.specs.Symbols.{lexicon, filledRows};
 ghost use Rattle.grammar.specs.State.{Here, Passed, Tokens, Rules, fresh, noCounts, noSingles};
 ghost use Rattle.grammar.specs.Sound.{Tables};
 ghost use Rattle.rules.specs.Rules.{Ruled};
 ghost use Rattle.tables.specs.Table.{zeroed};
-ghost use Rattle.reader.specs.Read.{Run, Outcome, Result, Short, sizesFit, admitted, restAll, sectionsAll, attempted, stoppedAt, endedAt, finished, readAll};
+ghost use Rattle.reader.specs.Read.{Run, Outcome, Result, Short, sizesFit, admitted, restAll, sectionsAll, attempted, stoppedAt, endedAt, finished, readNames, readAll};
 
 // What a read came to.
 pub enum Verdict {
@@ -315,6 +318,42 @@ pub fn finish(
     }
 }
 
+// The read of a source of the kind but for the symbols' rows.
+pub fn read_names(
+    src: &[u8],
+    kind: u32,
+    t1: &mut [u32],
+    t2: &mut [u32],
+    t3: &mut [u32],
+    t4: &mut [u32],
+    t5: &mut [u32],
+    t6: &mut [u32],
+    t7: &mut [u32],
+    t8: &mut [u32],
+    t9: &mut [u32],
+    t10: &mut [u32],
+    i1: &mut [u32],
+    i7: &mut [u32],
+) -> Reading
+    ensures is { λ r. ⌜ _≡_ {A = Result} (record { answer = r .answer; counts = r .counts; singles = r .singles; tables = record { t1 = now (t1 .exit); t2 = now (t2 .exit); t3 = now (t3 .exit); t4 = now (t4 .exit); t5 = now (t5 .exit); t6 = now (t6 .exit); t7 = now (t7 .exit); t8 = now (t8 .exit); t9 = now (t9 .exit); t10 = now (t10 .exit) }; indexes = record { tokens = now (i1 .exit); rules = now (i7 .exit) } }) (readNames (now (src .entry)) kind (record { t1 = now (t1 .entry); t2 = now (t2 .entry); t3 = now (t3 .entry); t4 = now (t4 .entry); t5 = now (t5 .entry); t6 = now (t6 .entry); t7 = now (t7 .entry); t8 = now (t8 .entry); t9 = now (t9 .entry); t10 = now (t10 .entry) }) (record { tokens = now (i1 .entry); rules = now (i7 .entry) })) ⌝ }
+{
+    clear(t1, t2, t3, t4, t5, t6, t7, t8, t9, i1, i7);
+    tables::zero(t10);
+    let r = attempt(src, kind, t1, t2, t3, t4, t5, t6, t7, t8, t9, t10, i1, i7);
+    finish(src, r, t1, t2, t3, t4, t5, t6, t7, t8, t9, t10, i1, i7)
+}
+
+// The symbols that are counted get the row numbers of their rules and tokens.
+pub fn fill(src: &[u8], c: Counts, t1: &[u32], t7: &[u32], t9: &mut [u32], i1: &[u32], i7: &[u32])
+    requires { ⌜ Indexed (now src) (width tokens) 0 (getD (c .n) tokens 0) (now t1) (now i1) × Indexed (now src) (width rules) 0 (getD (c .n) rules 0) (now t7) (now i7) ⌝ }
+    ensures { λ r. ⌜ now (t9 .exit) ≡ filledRows (lexicon (now (src .entry)) (now (t1 .entry)) (getD (c .n) tokens 0) (now (t7 .entry)) (getD (c .n) rules 0)) (now (t9 .entry)) (getD (c .n) symbols 0) ⌝ }
+{
+    let n = c.n[tables::TOKENS as usize];
+    let m = c.n[tables::RULES as usize];
+    let count = c.n[tables::SYMBOLS as usize];
+    symbols::fill_rows(src, t1, n, i1, t7, m, i7, t9, count);
+}
+
 // The read of a source of the kind, into ten lent tables and two lent indexes.
 pub fn read(
     src: &[u8],
@@ -334,8 +373,8 @@ pub fn read(
 ) -> Reading
     ensures is { λ r. ⌜ _≡_ {A = Result} (record { answer = r .answer; counts = r .counts; singles = r .singles; tables = record { t1 = now (t1 .exit); t2 = now (t2 .exit); t3 = now (t3 .exit); t4 = now (t4 .exit); t5 = now (t5 .exit); t6 = now (t6 .exit); t7 = now (t7 .exit); t8 = now (t8 .exit); t9 = now (t9 .exit); t10 = now (t10 .exit) }; indexes = record { tokens = now (i1 .exit); rules = now (i7 .exit) } }) (readAll (now (src .entry)) kind (record { t1 = now (t1 .entry); t2 = now (t2 .entry); t3 = now (t3 .entry); t4 = now (t4 .entry); t5 = now (t5 .entry); t6 = now (t6 .entry); t7 = now (t7 .entry); t8 = now (t8 .entry); t9 = now (t9 .entry); t10 = now (t10 .entry) }) (record { tokens = now (i1 .entry); rules = now (i7 .entry) })) ⌝ }
 {
-    clear(t1, t2, t3, t4, t5, t6, t7, t8, t9, i1, i7);
-    tables::zero(t10);
-    let r = attempt(src, kind, t1, t2, t3, t4, t5, t6, t7, t8, t9, t10, i1, i7);
-    finish(src, r, t1, t2, t3, t4, t5, t6, t7, t8, t9, t10, i1, i7)
+    let q = read_names(src, kind, t1, t2, t3, t4, t5, t6, t7, t8, t9, t10, i1, i7);
+    let c = q.counts;
+    fill(src, c, t1, t7, t9, i1, i7);
+    q
 }

@@ -26,7 +26,7 @@ use Rattle.grammar.specs.declared.Answer.{Answer}
 use Rattle.grammar.specs.declared.Answer.the-variants.{Going, Done, Refused}
 use Rattle.grammar.specs.declared.Gap.{Gap}
 use Rattle.grammar.specs.declared.Gap.the-variants.{GapTo, GapRefused}
-use Rattle.grammar.specs.Cells.{kindCells, tokenCells}
+use Rattle.grammar.specs.Cells.{symbolCells, tokenCells}
 use Rattle.grammar.specs.State.{Out1, Passed, count, withAt, gapAt, pushed, pushRow, entered, enterStep, passOn}
 use Rattle.productions.specs.declared.Production.{Production}
 use Rattle.productions.specs.Cells.{productionCells, pushProduction}
@@ -99,7 +99,7 @@ unfolding tokenSymbol
 token-symbol-in src s h from to t1 t9 p = let e = enterStep src s from to false t1 in go (e .answer) e (enter-in src s h from to false t1 p) (enter-stays src s from to false t1)
   where
     go : (a : Answer) (o : Out1) → Sited src a (o .state) → o .state .at ≡ s .at → let z = symbolEntered a o from to t9 in Sited src (z .answer) (z .state) × (z .state .at ≡ s .at)
-    go Going o y e = (push-in src (o .state) (y .here) symbols (kindCells 2 from to) t9 (omega arith) p, push-stays (o .state) symbols (kindCells 2 from to) t9 ∙ e)
+    go Going o y e = (push-in src (o .state) (y .here) symbols (symbolCells 2 from to) t9 (omega arith) p, push-stays (o .state) symbols (symbolCells 2 from to) t9 ∙ e)
     go Done o y e = (y, e)
     go (Refused f) o y e = (y, e)
 
@@ -185,7 +185,7 @@ module _ (src : List ℕ) (s : State) (d : Production) (x : Open src s d) where
           let b = y .1 in
           let c = y .2 in
           let e = y .3 in
-          let row = kindCells (symbolKind src (count s tokens) t1 (p .from) (p .to)) (p .from) (p .to) in
+          let row = symbolCells (symbolKind src (count s tokens) t1 (p .from) (p .to)) (p .from) (p .to) in
           let o = pushRow s symbols row t9 in
           behind-in src s d x (withTo d end) end (o .answer) (o .state) refl refl (push-stays s symbols row t9) (omega arith) e (push-in src s (x .here) symbols row t9 (omega arith) (record { onward = omega arith; inside = omega arith }))
       go (NoToken k) y = let h = x .here in shut src s d x _ (omega arith)

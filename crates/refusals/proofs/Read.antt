@@ -35,7 +35,7 @@ use Rattle.reader.specs.declared.Verdict.the-variants.{Accepted, Rejected}
 use Rattle.reader.specs.declared.Admission.{Admission}
 use Rattle.reader.specs.declared.Admission.the-variants.{Fit, Unfit}
 use Rattle.reader.specs.declared.Reading.{Reading}
-use Rattle.reader.specs.Read.{Result, asText, sized, sizedText, admitted, restFrom, restAll, declared, sectionsFrom, sectionsAll, attemptOf, attempted, endedAt, result, finished, finishedRun, indexed, readAll}
+use Rattle.reader.specs.Read.{Result, asText, sized, sizedText, admitted, restFrom, restAll, declared, sectionsFrom, sectionsAll, attemptOf, attempted, endedAt, result, finished, finishedRun, indexed, filledIn, readNames, readAll}
 use Rattle.reader.proofs.Sound.{sections-far}
 use Rattle.refusals.specs.Refusal.{Documented, RepeatsListed, FirstRepeat}
 use Rattle.refusals.specs.Steps.{Fatal, Stops, Sited}
@@ -75,23 +75,23 @@ sections-stop src kind T = let o = declAll src kind fresh (declared T) in go (o 
     go (Refused f) o x = x .stops
 
 -- "10 repeats (number, first place, repeated place)": whole rows of the source, and zeros behind them, after any read, also one that was stopped.
-finished-listed : {src : List ℕ} {done : ℕ} (X : Indexes) (a : Answer) (s : State) (T : Tables) → Far src done s T → RepeatsListed src (indexed src X (finished a s T))
+finished-listed : {src : List ℕ} {done : ℕ} (X : Indexes) (a : Answer) (s : State) (T : Tables) → Far src done s T → RepeatsListed src (filledIn src (indexed src X (finished a s T)))
 unfolding endedAt
 finished-listed {src} X a s T f = go a
   where
-    ended : RepeatsListed src (indexed src X (finished Going s T))
-    ended = on-test (λ (r : Reading). RepeatsListed src (indexed src X (result r T))) (eqb (count s repeats) 0) _ _ (λ e. f .tables repeats) (λ e. f .tables repeats)
+    ended : RepeatsListed src (filledIn src (indexed src X (finished Going s T)))
+    ended = on-test (λ (r : Reading). RepeatsListed src (filledIn src (indexed src X (result r T)))) (eqb (count s repeats) 0) _ _ (λ e. f .tables repeats) (λ e. f .tables repeats)
 
-    go : (a : Answer) → RepeatsListed src (indexed src X (finished a s T))
+    go : (a : Answer) → RepeatsListed src (filledIn src (indexed src X (finished a s T)))
     go Going = ended
     go Done = ended
     go (Refused x) = f .tables repeats
 
 pub read-repeats : (src : List ℕ) (kind : ℕ) (T : Tables) (X : Indexes) → RepeatsListed src (readAll src kind T X)
-unfolding readAll attempted
+unfolding readAll readNames attempted
 read-repeats src kind T X = go (admitted src kind (sized T X)) (admits src kind (sized T X))
   where
-    go : (m : Admission) → Admits src m → RepeatsListed src (indexed src X (finishedRun (attemptOf m src kind (zeroAll T))))
+    go : (m : Admission) → Admits src m → RepeatsListed src (filledIn src (indexed src X (finishedRun (attemptOf m src kind (zeroAll T)))))
     go Fit h = let r = sectionsAll src kind fresh (zeroAll T) in finished-listed X (r .answer) (r .state) (r .tables) (sections-far src kind T h .far)
     go (Unfit f) h = rows-zeroed _ (T .t10)
 
@@ -113,7 +113,7 @@ stopped-verdict src o TooLong x = tt
 stopped-verdict src o BadKind x = tt
 stopped-verdict src o BadIndex x = tt
 
-finished-verdict : {src : List ℕ} {done : ℕ} (X : Indexes) (a : Answer) (s : State) (T : Tables) → Far src done s T → Stops src a → let o = indexed src X (finished a s T) in Verdicts src o (o .answer)
+finished-verdict : {src : List ℕ} {done : ℕ} (X : Indexes) (a : Answer) (s : State) (T : Tables) → Far src done s T → Stops src a → let o = filledIn src (indexed src X (finished a s T)) in Verdicts src o (o .answer)
 unfolding endedAt
 finished-verdict {src} X a s T f = go a
   where
@@ -125,21 +125,21 @@ finished-verdict {src} X a s T f = go a
         let m = x .most in
         sym (number-back (cell (width repeats) (T .t10) 0 0) (omega arith) (omega arith))
 
-    ended : let o = indexed src X (finished Going s T) in Verdicts src o (o .answer)
+    ended : let o = filledIn src (indexed src X (finished Going s T)) in Verdicts src o (o .answer)
     ended =
-        on-test (λ (r : Reading). Verdicts src (indexed src X (result r T)) (r .answer)) (eqb (count s repeats) 0) _ _ (λ e. tt)
+        on-test (λ (r : Reading). Verdicts src (filledIn src (indexed src X (result r T))) (r .answer)) (eqb (count s repeats) 0) _ _ (λ e. tt)
         (λ e. let n = eqb-false (count s repeats) 0 e in let h : 0 < count s repeats = omega arith in record { some = h; number = listed h; from = refl; to = refl })
 
-    go : (a : Answer) → Stops src a → let o = indexed src X (finished a s T) in Verdicts src o (o .answer)
+    go : (a : Answer) → Stops src a → let o = filledIn src (indexed src X (finished a s T)) in Verdicts src o (o .answer)
     go Going x = ended
     go Done x = ended
     go (Refused g) x = stopped-verdict src _ g x
 
 read-verdict : (src : List ℕ) (kind : ℕ) (T : Tables) (X : Indexes) → Verdicts src (readAll src kind T X) (readAll src kind T X .answer)
-unfolding readAll attempted
+unfolding readAll readNames attempted
 read-verdict src kind T X = go (admitted src kind (sized T X)) (admits src kind (sized T X))
   where
-    go : (m : Admission) → Admits src m → let o = indexed src X (finishedRun (attemptOf m src kind (zeroAll T))) in Verdicts src o (o .answer)
+    go : (m : Admission) → Admits src m → let o = filledIn src (indexed src X (finishedRun (attemptOf m src kind (zeroAll T)))) in Verdicts src o (o .answer)
     go Fit h = let r = sectionsAll src kind fresh (zeroAll T) in finished-verdict X (r .answer) (r .state) (r .tables) (sections-far src kind T h .far) (sections-stop src kind (zeroAll T))
     go (Unfit f) h = stopped-verdict src _ f h
 

@@ -206,7 +206,7 @@ pub fn report_input() {
     let mut t6 = [0u32; 3072];
     let mut t7 = [0u32; 5120];
     let mut t8 = [0u32; 13312];
-    let mut t9 = [0u32; 3072];
+    let mut t9 = [0u32; 4096];
     let mut t10 = [0u32; 5120];
     let mut i1 = [0u32; 2048];
     let mut i7 = [0u32; 2048];

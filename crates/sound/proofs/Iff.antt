@@ -11,7 +11,7 @@ use Rattle.tables.specs.declared.Found.{Found}
 use Rattle.tables.specs.declared.Found.the-variants.{RowAt, NoRow}
 use Rattle.tables.specs.Table.{cell, hasName, findName, samePart}
 use Rattle.tables.specs.Rows.{rowAt, endBefore, Chained}
-use Rattle.tables.specs.Layout.{tokens, rules, productions, symbols, symbolsFrom, symbolsTo, width}
+use Rattle.tables.specs.Layout.{tokens, rules, productions, symbols, symbolsFrom, symbolsTo, width, knownRow}
 use Rattle.tables.proofs.Cases.{none-iff}
 use Rattle.tables.proofs.Rows.{row-cell}
 use Rattle.grammar.specs.declared.Counts.{Counts}
@@ -22,11 +22,12 @@ use Rattle.grammar.specs.declared.Expect.the-variants.{NotExpected, Expected}
 use Rattle.grammar.specs.declared.Param.{Param}
 use Rattle.grammar.specs.declared.Param.the-variants.{NoParam, ParamAt}
 use Rattle.grammar.specs.declared.Singles.{Singles}
-use Rattle.grammar.specs.Sound.{Tables, Indexes, tab, Differ, each, pairs, Table, Lies, LiesExpected, LiesParam, Lie, soundView, Sound}
-use Rattle.sound.specs.Test.{rowTest, namesTest, tableTest, before, rangeTest, rangesTest, partTest, expectTest, paramTest, singlesTest, countAt, tablesTest, soundTest}
+use Rattle.grammar.specs.Sound.{Tables, Indexes, lexiconOf, tab, Differ, each, pairs, Table, Lies, LiesExpected, LiesParam, Lie, soundView, Sound}
+use Rattle.sound.specs.Test.{rowTest, namesTest, tableTest, before, rangeTest, rangesTest, partTest, expectTest, paramTest, singlesTest, countAt, knownTest, tablesTest, soundTest}
 use Rattle.tables.specs.Below.{below}
 use Rattle.tables.proofs.Below.{below-iff}
 use Rattle.index.specs.Index.{unfound, freshName}
+use Rattle.symbols.specs.Symbols.{rowFor, Knows, knowsTest}
 use Rattle.tables.proofs.Tells.{both-iff, le-iff, eq-iff}
 use Rattle.sound.proofs.Tells.{chain-iff, clean-iff, lies-iff}
 use Rattle.sound.proofs.RowTests.{each-iff}
@@ -52,7 +53,7 @@ module _ (src : List ℕ) (w : ℕ) (t : List ℕ) where
       Iff·trans (Iff·trans (unfound-iff (findName src w 0 r t (cell w t r 0) (cell w t r 1))) (none-iff src w 0 r t (cell w t r 0) (cell w t r 1)))
       (λ f q l. differ-iff h q r .0 (f q l), λ f q l. differ-iff h q r .1 (f q l))
 
-  apart-iff : 1 < w → (n : ℕ) → (below n (freshName src w 0 t) ≡ true) ↔ ((q r : ℕ) → q < r → r < n → Differ src (rowAt w t q) (rowAt w t r))
+  pub apart-iff : 1 < w → (n : ℕ) → (below n (freshName src w 0 t) ≡ true) ↔ ((q r : ℕ) → q < r → r < n → Differ src (rowAt w t q) (rowAt w t r))
   apart-iff h n =
       Iff·trans (below-iff (freshName src w 0 t) (λ (r : ℕ). (q : ℕ) → q < r → Differ src (rowAt w t q) (rowAt w t r)) (fresh-iff h) n)
       (λ f q r k l. f r l q k, λ f r l q k. f q r k l)
@@ -86,7 +87,7 @@ table-iff src c k n t h =
     (λ x. record { fits = x .1 .0; low = x .0; clean = x .1 .1 .0; each = x .1 .1 .1 .0; pairs = x .1 .1 .1 .1 }, λ R. (R .low, (R .fits, (R .clean, (R .each, R .pairs)))))
 
 -- all ten
-tables-iff : (src : List ℕ) (c : Counts) (T : Tables) → (tablesTest src c T ≡ true) ↔ ((k : ℕ) → k < 10 → Table src (soundView c) k (countAt c k) (tab T k))
+pub tables-iff : (src : List ℕ) (c : Counts) (T : Tables) → (tablesTest src c T ≡ true) ↔ ((k : ℕ) → k < 10 → Table src (soundView c) k (countAt c k) (tab T k))
 unfolding tablesTest
 tables-iff src c T =
     Iff·trans
@@ -137,6 +138,14 @@ module _ (src : List ℕ) where
         λ l. (((((l .start, l .expect), l .expect-rr), l .param), l .generics), l .programs),
       )
 
+-- each symbol knows its row
+known-iff : (src : List ℕ) (c : Counts) (T : Tables) → (knownTest src c T ≡ true) ↔ Knows (lexiconOf src c T) (countAt c symbols) (T .t9)
+unfolding knownTest knowsTest
+known-iff src c T =
+    Iff·trans
+    (below-iff (knowsTest (lexiconOf src c T) (T .t9)) (λ (s : ℕ). cell (width symbols) (T .t9) s knownRow ≡ rowFor (lexiconOf src c T) (T .t9) s) (λ s. eq-iff (cell (width symbols) (T .t9) s knownRow) (rowFor (lexiconOf src c T) (T .t9) s)) (countAt c symbols))
+    (λ f. record { row = f }, λ k. k .row)
+
 -- a test that counts where an earlier one says yes
 both-when : (a b : Bool) {P Q : Type 0} → (a ≡ true) ↔ P → (P → (b ≡ true) ↔ Q) → ((a && b) ≡ true) ↔ (P × Q)
 both-when true b f g = (λ h. let p = f .0 refl in (p, g p .0 h), λ x. g (x .0) .1 (x .1))
@@ -149,7 +158,7 @@ sound-iff src c g T X =
     Iff·trans
     (both-iff (le-iff (length src) 65536)
     (both-when (tablesTest src c T) _ (tables-iff src c T)
-    (λ R. both-iff (indexes-iff src c T X (R tokens (omega arith) .fits) (R rules (omega arith) .fits) (R tokens (omega arith) .low) (R rules (omega arith) .low)) (both-iff (ranges-iff (T .t8) (countAt c productions) (countAt c symbols)) (singles-iff src g))))) (
-      λ x. record { short = x .0; fits = λ k h. x .1 .0 k h .fits; low = λ k h. x .1 .0 k h .low; clean = λ k h. x .1 .0 k h .clean; rows = λ k r h. x .1 .0 k h .each r; singles = x .1 .1 .1 .1; ranges = x .1 .1 .1 .0; names = λ k q r h. x .1 .0 k h .pairs q r; indexes = x .1 .1 .0 },
-      λ s. (s .short, (λ k h. record { fits = s .fits k h; low = s .low k h; clean = s .clean k h; each = λ r. s .rows k r h; pairs = λ q r. s .names k q r h }, (s .indexes, (s .ranges, s .singles)))),
+    (λ R. both-iff (indexes-iff src c T X (R tokens (omega arith) .fits) (R rules (omega arith) .fits) (R tokens (omega arith) .low) (R rules (omega arith) .low)) (both-iff (known-iff src c T) (both-iff (ranges-iff (T .t8) (countAt c productions) (countAt c symbols)) (singles-iff src g)))))) (
+      λ x. record { short = x .0; fits = λ k h. x .1 .0 k h .fits; low = λ k h. x .1 .0 k h .low; clean = λ k h. x .1 .0 k h .clean; rows = λ k r h. x .1 .0 k h .each r; singles = x .1 .1 .1 .1 .1; ranges = x .1 .1 .1 .1 .0; known = x .1 .1 .1 .0; names = λ k q r h. x .1 .0 k h .pairs q r; indexes = x .1 .1 .0 },
+      λ s. (s .short, (λ k h. record { fits = s .fits k h; low = s .low k h; clean = s .clean k h; each = λ r. s .rows k r h; pairs = λ q r. s .names k q r h }, (s .indexes, (s .known, (s .ranges, s .singles))))),
     )

@@ -14,10 +14,11 @@ use Rattle.scan.proofs.Bytes.{drop-at, drop-key}
 use Rattle.tables.specs.Layout.{tokens, rules, productions, symbols, symbolsFrom, symbolsTo, width}
 use Rattle.tables.specs.Below.{below}
 use Rattle.tables.specs.Table.{cell}
-use Rattle.grammar.specs.Sound.{Tables, Indexes, tab}
+use Rattle.grammar.specs.Sound.{Tables, Indexes, lexiconOf, tab}
 use Rattle.grammar.specs.declared.Counts.{Counts}
 use Rattle.grammar.specs.declared.Singles.{Singles}
-use Rattle.sound.specs.Test.{indexesTest, zeros, zerosFrom, rowTest, before, rangeTest, rangesTest, namesTest, tableTest, countAt, tablesTest, singlesTest, soundTest}
+use Rattle.sound.specs.Test.{indexesTest, zeros, zerosFrom, rowTest, before, rangeTest, rangesTest, namesTest, tableTest, countAt, knownTest, tablesTest, singlesTest, soundTest}
+use Rattle.symbols.specs.Symbols.{knowsTest}
 
 -- a table number past the tenth
 past-five : (k n : ℕ) → n ≤ k → (k ≡ n → ⊥) → (k ≡ n + 1 → ⊥) → (k ≡ n + 2 → ⊥) → (k ≡ n + 3 → ⊥) → (k ≡ n + 4 → ⊥) → n + 5 ≤ k
@@ -149,6 +150,11 @@ module _ (src : List ℕ) (c : Counts) (T : Tables) where
         unfolding soundTest
         sound-table h = rw (le-leb _ _ s, ← e, not-true q h)
 
-        pub sound-rest : not q ≡ false → (m n : ℕ) (a b : Bool) → a ≡ rangesTest (T .t8) m n → m ≡ countAt c productions → n ≡ countAt c symbols → b ≡ singlesTest src g → (a && b) ≡ soundTest src c g T X
-        unfolding soundTest
-        sound-rest h m n a b i j k l = rw (le-leb _ _ s, ← e, not-false q h, ← d, not-false p z, i, j, k, l)
+        module _ (h : not q ≡ false) (v : Bool) (w : v ≡ below (countAt c symbols) (knowsTest (lexiconOf src c T) (T .t9))) where
+          pub sound-known : not v ≡ true → false ≡ soundTest src c g T X
+          unfolding soundTest knownTest
+          sound-known x = rw (le-leb _ _ s, ← e, not-false q h, ← d, not-false p z, ← w, not-true v x)
+
+          pub sound-rest : not v ≡ false → (m n : ℕ) (a b : Bool) → a ≡ rangesTest (T .t8) m n → m ≡ countAt c productions → n ≡ countAt c symbols → b ≡ singlesTest src g → (a && b) ≡ soundTest src c g T X
+          unfolding soundTest knownTest
+          sound-rest x m n a b i j k l = rw (le-leb _ _ s, ← e, not-false q h, ← d, not-false p z, ← w, not-false v x, i, j, k, l)

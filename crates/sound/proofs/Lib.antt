@@ -3,3 +3,4 @@ pub mod Tells
 pub mod RowTests
 pub mod Iff
 pub mod Indexes
+pub mod Known

@@ -9,7 +9,7 @@ use lib.Dec.{leb, ltb}
 use lib.ListN.{getD}
 use Rattle.tables.specs.Table.{cell, lies}
 use Rattle.tables.specs.Rows.{rowAt}
-use Rattle.tables.specs.Layout.{tokens, precedences, avoided, epps, rules, productions, symbols, repeats, declared, association, keyName, value, typed, ruleRow, place, prec, action, kindName, width}
+use Rattle.tables.specs.Layout.{tokens, precedences, avoided, epps, unused, rules, productions, symbols, repeats, declared, association, keyName, value, typed, ruleRow, place, prec, action, kindName, width}
 use Rattle.tables.proofs.Rows.{row-cell}
 use Rattle.grammar.specs.State.{Passed}
 use Rattle.grammar.specs.Sound.{Given, GivenAction, View, TokenRow, PrecRow, NameRow, EppRow, KindRow, RuleRow, ProductionRow, RepeatRow, each}
@@ -59,11 +59,11 @@ module _ (src t : List ℕ) (r : ℕ) where
       (both-iff (both-iff (placed (width epps) 0 (omega arith)) (placed (width epps) keyName (omega arith))) (placed (width epps) value (omega arith)))
       (λ x. record { key = x .0 .0; name = x .0 .1; text = x .1; closed = any src _ _ }, λ y. ((y .key, y .name), y .text))
 
-  kind-iff : (kindTest src t r ≡ true) ↔ KindRow src (rowAt (width symbols) t r)
+  kind-iff : (w : ℕ) → 2 < w → (kindTest src w t r ≡ true) ↔ KindRow src (rowAt w t r)
   unfolding kindTest
-  kind-iff =
+  kind-iff w h =
       Iff·trans
-      (both-iff (both-iff (least (width symbols) 0 1 (omega arith)) (most (width symbols) 0 2 (omega arith))) (placed (width symbols) kindName (omega arith)))
+      (both-iff (both-iff (least w 0 1 (omega arith)) (most w 0 2 (omega arith))) (placed w kindName (omega arith)))
       (λ x. record { least = x .0 .0; most = x .0 .1; name = x .1 }, λ y. ((y .least, y .most), y .name))
 
   rule-iff : (ruleTest src t r ≡ true) ↔ RuleRow src (rowAt (width rules) t r)
@@ -104,9 +104,9 @@ module _ (src t : List ℕ) (r : ℕ) where
     each-iff free any (suc (suc zero)) = name-iff
     each-iff free any (suc (suc (suc zero))) = name-iff
     each-iff free any (suc (suc (suc (suc zero)))) = epp-iff v any
-    each-iff free any (suc (suc (suc (suc (suc zero))))) = kind-iff
+    each-iff free any (suc (suc (suc (suc (suc zero))))) = kind-iff (width unused) (omega arith)
     each-iff free any (suc (suc (suc (suc (suc (suc zero)))))) = rule-iff
     each-iff free any (suc (suc (suc (suc (suc (suc (suc zero))))))) = production-iff
-    each-iff free any (suc (suc (suc (suc (suc (suc (suc (suc zero)))))))) = kind-iff
+    each-iff free any (suc (suc (suc (suc (suc (suc (suc (suc zero)))))))) = kind-iff (width symbols) (omega arith)
     each-iff free any (suc (suc (suc (suc (suc (suc (suc (suc (suc zero))))))))) = repeat-iff
     each-iff free any (suc (suc (suc (suc (suc (suc (suc (suc (suc (suc k)))))))))) = (λ e. tt, λ x. refl)

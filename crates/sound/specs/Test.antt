@@ -8,7 +8,8 @@ use lib.ListN.{length, getD, drop}
 use Rattle.tables.specs.Below.{below}
 use Rattle.tables.specs.Table.{cell, lies}
 use Rattle.index.specs.Index.{Indexed, indexTest, sizeTest, freshName}
-use Rattle.tables.specs.Layout.{tokens, precedences, avoided, epps, rules, productions, symbols, repeats, declared, association, keyName, value, typed, ruleRow, place, symbolsFrom, symbolsTo, prec, action, kindName, width}
+use Rattle.symbols.specs.Symbols.{knowsTest}
+use Rattle.tables.specs.Layout.{tokens, precedences, avoided, epps, unused, rules, productions, symbols, repeats, declared, association, keyName, value, typed, ruleRow, place, symbolsFrom, symbolsTo, prec, action, kindName, width}
 use Rattle.grammar.specs.declared.Counts.{Counts}
 use Rattle.grammar.specs.declared.Part.{Part}
 use Rattle.grammar.specs.declared.Part.the-variants.{Absent, At}
@@ -17,7 +18,7 @@ use Rattle.grammar.specs.declared.Expect.the-variants.{NotExpected, Expected}
 use Rattle.grammar.specs.declared.Param.{Param}
 use Rattle.grammar.specs.declared.Param.the-variants.{NoParam, ParamAt}
 use Rattle.grammar.specs.declared.Singles.{Singles}
-use Rattle.grammar.specs.Sound.{Tables, Indexes, tab}
+use Rattle.grammar.specs.Sound.{Tables, Indexes, lexiconOf, tab}
 
 -- "cells past them are zero"
 unfoldable pub zeros : List ℕ → Bool
@@ -50,9 +51,9 @@ eppTest src t r =
     (lies src (cell (width epps) t r 0) (cell (width epps) t r 1) && lies src (cell (width epps) t r keyName) (cell (width epps) t r (keyName + 1)))
     && lies src (cell (width epps) t r value) (cell (width epps) t r (value + 1))
 
-unfoldable pub kindTest : List ℕ → List ℕ → ℕ → Bool
-kindTest src t r =
-    (leb 1 (cell (width symbols) t r 0) && leb (cell (width symbols) t r 0) 2) && lies src (cell (width symbols) t r kindName) (cell (width symbols) t r (kindName + 1))
+-- tables 6 and 9, whose rows are w wide
+unfoldable pub kindTest : List ℕ → ℕ → List ℕ → ℕ → Bool
+kindTest src w t r = (leb 1 (cell w t r 0) && leb (cell w t r 0) 2) && lies src (cell w t r kindName) (cell w t r (kindName + 1))
 
 unfoldable pub ruleTest : List ℕ → List ℕ → ℕ → Bool
 ruleTest src t r =
@@ -79,7 +80,7 @@ any r = true
 -- the tests in number order
 abbrev pub rowTest : List ℕ → ℕ → ℕ → List ℕ → ℕ → Bool
 rowTest src n k t =
-    getD (tokenTest src t ∷ precTest src t ∷ nameTest src t ∷ nameTest src t ∷ eppTest src t ∷ kindTest src t ∷ ruleTest src t ∷ productionTest src n t ∷ kindTest src t ∷ repeatTest src t ∷ []) k any
+    getD (tokenTest src t ∷ precTest src t ∷ nameTest src t ∷ nameTest src t ∷ eppTest src t ∷ kindTest src (width unused) t ∷ ruleTest src t ∷ productionTest src n t ∷ kindTest src (width symbols) t ∷ repeatTest src t ∷ []) k any
 
 abbrev pub widthOf : ℕ → ℕ
 widthOf k = width k
@@ -136,6 +137,10 @@ indexRight src w n t ix = sizeTest (length ix) (length t) w && indexTest src w 0
 unfoldable pub indexesTest : List ℕ → Counts → List ℕ → List ℕ → List ℕ → List ℕ → Bool
 indexesTest src c t1 t7 i1 i7 = indexRight src (width tokens) (countAt c tokens) t1 i1 && indexRight src (width rules) (countAt c rules) t7 i7
 
+-- document 02, request Five: each symbol has the row number that the search gives
+unfoldable pub knownTest : List ℕ → Counts → Tables → Bool
+knownTest src c T = below (countAt c symbols) (knowsTest (lexiconOf src c T) (T .t9))
+
 -- all ten tables by themselves
 unfoldable pub tablesTest : List ℕ → Counts → Tables → Bool
 tablesTest src c T =
@@ -148,4 +153,4 @@ tablesTest src c T =
 unfoldable pub soundTest : List ℕ → Counts → Singles → Tables → Indexes → Bool
 soundTest src c g T X =
     leb (length src) 65536
-    && (tablesTest src c T && (indexesTest src c (T .t1) (T .t7) (X .tokens) (X .rules) && (rangesTest (T .t8) (countAt c productions) (countAt c symbols) && singlesTest src g)))
+    && (tablesTest src c T && (indexesTest src c (T .t1) (T .t7) (X .tokens) (X .rules) && (knownTest src c T && (rangesTest (T .t8) (countAt c productions) (countAt c symbols) && singlesTest src g))))

@@ -8,7 +8,8 @@ use grammar::Singles;
 ghost use mathlib.Core.Path.{_≡_};
 ghost use Prim.Native.Nat.{_<_};
 ghost use Rattle.index.specs.Index.{Indexed, freshName};
-ghost use Rattle.tables.specs.Layout.{tokens, rules, width};
+ghost use Rattle.tables.specs.Layout.{tokens, rules, symbols, width};
+ghost use Rattle.symbols.specs.Symbols.{lexicon, knowsTest, Single};
 ghost use Rattle.grammar.specs.Sound.{Tables};
 ghost use Rattle.tables.specs.Below.{below};
 ghost use Rattle.sound.specs.Test.{zerosFrom, givenTest, actionTest, tokenTest, precTest, nameTest, eppTest, kindTest, ruleTest, productionTest, repeatTest, rowTest, Beside, widthOf, tableTest, rangeTest, rangesTest, partTest, expectTest, paramTest, singlesTest, countAt, indexRight, indexesTest, tablesTest, soundTest};
@@ -75,11 +76,10 @@ pub fn epp_sound(src: &[u8], t: &[u32], r: u32) -> bool
         & tables::is_place(src, tables::cell(t, w, r, 4), tables::cell(t, w, r, 5))
 }
 
-// Tables 6 and 9 have one width and one form.
-pub fn kind_sound(src: &[u8], t: &[u32], r: u32) -> bool
-    ensures { λ q. ⌜ q ≡ kindTest (now (src .entry)) (now (t .entry)) r ⌝ }
+// Tables 6 and 9 have one form, and rows of `w`.
+pub fn kind_sound(src: &[u8], w: u32, t: &[u32], r: u32) -> bool
+    ensures { λ q. ⌜ q ≡ kindTest (now (src .entry)) w (now (t .entry)) r ⌝ }
 {
-    let w = tables::SYMBOL_WIDTH;
     let k = tables::cell(t, w, r, 0);
     (1 <= k) & (k <= 2) & tables::is_place(src, tables::cell(t, w, r, 1), tables::cell(t, w, r, 2))
 }
@@ -144,10 +144,10 @@ pub fn row_sound(src: &[u8], k: u8, t: &[u32], r: u32, rules: u32) -> bool
         2 => name_sound(src, t, r),
         3 => name_sound(src, t, r),
         4 => epp_sound(src, t, r),
-        5 => kind_sound(src, t, r),
+        5 => kind_sound(src, tables::UNUSED_WIDTH, t, r),
         6 => rule_sound(src, t, r),
         7 => production_sound(src, t, r, rules),
-        8 => kind_sound(src, t, r),
+        8 => kind_sound(src, tables::SYMBOL_WIDTH, t, r),
         9 => repeat_sound(src, t, r),
         _ => true,
     }
@@ -430,6 +430,32 @@ pub fn tables_sound(
     )
 }
 
+// Whether each symbol has the row number that the search gives.
+pub fn symbols_known(
+    src: &[u8],
+    c: Counts,
+    t1: &[u32],
+    t7: &[u32],
+    t9: &[u32],
+    i1: &[u32],
+    i7: &[u32],
+) -> bool
+    requires { ⌜ (Indexed (now src) (width tokens) 0 (countAt c tokens) (now t1) (now i1) × Single (now src) (width tokens) (countAt c tokens) (now t1)) × (Indexed (now src) (width rules) 0 (countAt c rules) (now t7) (now i7) × Single (now src) (width rules) (countAt c rules) (now t7)) ⌝ }
+    ensures { λ q. ⌜ q ≡ below (countAt c symbols) (knowsTest (lexicon (now (src .entry)) (now (t1 .entry)) (countAt c tokens) (now (t7 .entry)) (countAt c rules)) (now (t9 .entry))) ⌝ }
+{
+    let n = rows_of(c, tables::TOKENS);
+    let m = rows_of(c, tables::RULES);
+    let count = rows_of(c, tables::SYMBOLS);
+    let mut s = 0;
+    while s < count {
+        if !symbols::symbol_knows(src, t1, n, i1, t7, m, i7, t9, s) {
+            return false;
+        }
+        s += 1;
+    }
+    true
+}
+
 // Whether all of it is sound.
 pub fn sound(
     src: &[u8],
@@ -457,6 +483,9 @@ pub fn sound(
         return false;
     }
     if !tables_sound(src, c, t1, t2, t3, t4, t5, t6, t7, t8, t9, t10, i1, i7) {
+        return false;
+    }
+    if !symbols_known(src, c, t1, t7, t9, i1, i7) {
         return false;
     }
     ranges_sound(

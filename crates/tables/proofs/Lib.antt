@@ -2,4 +2,5 @@ pub mod Below
 pub mod Tells
 pub mod Laws
 pub mod Rows
+pub mod Ends
 pub mod Cases

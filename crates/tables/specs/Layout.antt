@@ -70,9 +70,16 @@ prec = 5
 abbrev pub action : ℕ
 action = 8
 
--- "9 symbols (kind, place)"
+-- "9 symbols (kind, place)", and by document 02, request Five, "the row number of its rule or token"
 abbrev pub symbols : ℕ
 symbols = 8
+
+abbrev pub knownRow : ℕ
+knownRow = 3
+
+-- "or 4294967295 where no such row exists"
+abbrev pub noRow : ℕ
+noRow = 4294967295
 
 -- "10 repeats (number, first place, repeated place)"
 abbrev pub repeats : ℕ
@@ -94,7 +101,7 @@ rowPlace k = getD (0 ∷ 0 ∷ 0 ∷ 0 ∷ 0 ∷ kindName ∷ 0 ∷ place ∷ ki
 
 -- the widths in number order; no table is nowhere wide
 abbrev pub width : ℕ → ℕ
-width k = getD (3 ∷ 4 ∷ 2 ∷ 2 ∷ 6 ∷ 3 ∷ 5 ∷ 13 ∷ 3 ∷ 5 ∷ []) k 1
+width k = getD (3 ∷ 4 ∷ 2 ∷ 2 ∷ 6 ∷ 3 ∷ 5 ∷ 13 ∷ 4 ∷ 5 ∷ []) k 1
 
 -- Document 02, request One, "table 14": number and place of a fault
 abbrev pub faultWidth : ℕ

@@ -42,7 +42,7 @@ pub const RULE_WIDTH: u32 = 5;
 
 pub const PRODUCTION_WIDTH: u32 = 13;
 
-pub const SYMBOL_WIDTH: u32 = 3;
+pub const SYMBOL_WIDTH: u32 = 4;
 
 pub const REPEAT_WIDTH: u32 = 5;
 
@@ -85,9 +85,14 @@ pub const SPAN_FROM: u32 = 11;
 
 pub const SPAN_TO: u32 = 12;
 
+pub const KNOWN_ROW: u32 = 3;
+
 pub const FIRST_PLACE: u32 = 1;
 
 pub const REPEATED_PLACE: u32 = 3;
+
+// The row that a symbol has where there is no such rule or token.
+pub const NO_ROW: u32 = 4294967295;
 
 pub enum Found {
     RowAt(u32),

@@ -15,8 +15,10 @@ use Rattle.tables.specs.Layout.{faultWidth, ruleRow}
 use Rattle.productions.specs.Cells.{cellOf}
 use Rattle.tables.proofs.Laws.{put-length}
 use Rattle.tables.proofs.Rows.{put-append, put-zeros}
+use Rattle.links.specs.Links.{isOfRule, nextOfRule}
+use Rattle.links.proofs.Laws.{next-cases}
 use Rattle.validation.specs.Faults.{faultCells, first, upto, ofRule}
-use Rattle.validation.specs.Walk.{failing, Walked, fits, noted, isOfRule, nextOfRule, faultRows, AllFaults, allFaults}
+use Rattle.validation.specs.Walk.{failing, Walked, fits, noted, faultRows, AllFaults, allFaults}
 use Rattle.validation.specs.declared.Flaw.{Flaw}
 use Rattle.validation.specs.declared.Flaw.the-variants.{NoStartRule, InvalidStartRule, UnknownRuleRef, UnknownTokenRef, UnknownPrecToken, NoPrecForToken, UnknownEppKey}
 use Rattle.validation.specs.declared.Validity.{Validity}
@@ -26,7 +28,7 @@ use Rattle.validation.specs.declared.Test.the-variants.{Met, Failed}
 use Rattle.validation.specs.declared.Walk.{Walk}
 use Rattle.validation.specs.declared.Walk.the-variants.{NextRow, Unwritten}
 use Rattle.validation.specs.declared.FaultListing.the-variants.{Faulted, FaultsNoRoom}
-use Rattle.validation.proofs.Laws.{of-other, next-cases}
+use Rattle.validation.proofs.Laws.{of-other}
 
 abbrev pub walked : Walk → List ℕ → Walked
 walked w t = record { answer = w; cells = t }

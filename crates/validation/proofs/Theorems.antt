@@ -58,9 +58,9 @@ name-one src t1 t7 kind a b n m = go (eqb kind 1)
     go true = unless-one (known src t7 (width rules) m a b) (UnknownRuleRef a b)
     go false = unless-one (known src t1 (width tokens) n a b) (UnknownTokenRef a b)
 
-kind-one : (src t t1 t7 : List ℕ) (n m r : ℕ) → length (kindFaults src t t1 n t7 m r) ≤ 1
+kind-one : (src : List ℕ) (w : ℕ) (t t1 t7 : List ℕ) (n m r : ℕ) → length (kindFaults src w t t1 n t7 m r) ≤ 1
 unfolding kindFaults
-kind-one src t t1 t7 n m r = name-one src t1 t7 _ _ _ n m
+kind-one src w t t1 t7 n m r = name-one src t1 t7 _ _ _ n m
 
 epp-one : (src t1 t4 t5 : List ℕ) (n m r : ℕ) → length (eppFaults src t1 n t4 m t5 r) ≤ 1
 unfolding eppFaults
@@ -118,9 +118,9 @@ module _ (src t1 t2 t7 t8 t9 : List ℕ) (n m l : ℕ) where
   production-most r =
       omega (
         arith,
-        length-append (precFaults src (productionAt t8 r .prec) t1 n t2 m) (kindsFaults src t9 t1 n t7 l (productionAt t8 r .first) (productionAt t8 r .last)),
+        length-append (precFaults src (productionAt t8 r .prec) t1 n t2 m) (kindsFaults src (width symbols) t9 t1 n t7 l (productionAt t8 r .first) (productionAt t8 r .last)),
         prec-one src t1 t2 (productionAt t8 r .prec) n m,
-        upto-most (λ i. kindFaults src t9 t1 n t7 l (cellOf t8 r symbolsFrom + i)) (λ i. kind-one src t9 t1 t7 n l (cellOf t8 r symbolsFrom + i)) (cellOf t8 r symbolsTo - cellOf t8 r symbolsFrom),
+        upto-most (λ i. kindFaults src (width symbols) t9 t1 n t7 l (cellOf t8 r symbolsFrom + i)) (λ i. kind-one src (width symbols) t9 t1 t7 n l (cellOf t8 r symbolsFrom + i)) (cellOf t8 r symbolsTo - cellOf t8 r symbolsFrom),
       )
 
   productions-most : (c e : ℕ) → Chained (width productions) symbolsFrom symbolsTo c t8 e → (k : ℕ) → k ≤ c → length (upto k (productionFaults src t1 n t2 m t7 l t8 t9)) ≤ k + endBefore (width productions) symbolsTo t8 k
@@ -202,7 +202,7 @@ module _ (src : List ℕ) (c : Counts) (g : Singles) (T : Tables) (X : Indexes) 
       let x = sound-iff src c g T X .0 s .ranges in
       let rs = rulesFaults src (T .t1) (countAt c tokens) (T .t2) (countAt c precedences) (T .t7) (countAt c rules) (T .t8) (T .t9) (countAt c productions) in
       let es = eppsFaults src (T .t1) (countAt c tokens) (T .t4) (countAt c implicit) (T .t5) (countAt c epps) in
-      let us = kindsFaults src (T .t6) (T .t1) (countAt c tokens) (T .t7) (countAt c rules) 0 (countAt c unused) in
+      let us = kindsFaults src (width unused) (T .t6) (T .t1) (countAt c tokens) (T .t7) (countAt c rules) 0 (countAt c unused) in
       omega (
         arith,
         length-append (startFaults src (g .start) (T .t7) (countAt c rules)) (rs ++ (es ++ us)),
@@ -211,7 +211,7 @@ module _ (src : List ℕ) (c : Counts) (g : Singles) (T : Tables) (X : Indexes) 
         start-one src (T .t7) (g .start) (countAt c rules),
         rules-most src (T .t1) (T .t2) (T .t7) (T .t8) (T .t9) (countAt c tokens) (countAt c precedences) (countAt c rules) (countAt c productions) (countAt c symbols) x,
         upto-most (eppFaults src (T .t1) (countAt c tokens) (T .t4) (countAt c implicit) (T .t5)) (epp-one src (T .t1) (T .t4) (T .t5) (countAt c tokens) (countAt c implicit)) (countAt c epps),
-        upto-most (λ i. kindFaults src (T .t6) (T .t1) (countAt c tokens) (T .t7) (countAt c rules) (0 + i)) (λ i. kind-one src (T .t6) (T .t1) (T .t7) (countAt c tokens) (countAt c rules) (0 + i)) (countAt c unused - 0),
+        upto-most (λ i. kindFaults src (width unused) (T .t6) (T .t1) (countAt c tokens) (T .t7) (countAt c rules) (0 + i)) (λ i. kind-one src (width unused) (T .t6) (T .t1) (T .t7) (countAt c tokens) (countAt c rules) (0 + i)) (countAt c unused - 0),
       )
 
   module _ (t : List ℕ) where

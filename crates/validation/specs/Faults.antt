@@ -106,17 +106,17 @@ nameFaults src kind a b t1 n t7 m =
       | false ↦ unless (known src t1 (width tokens) n a b) (UnknownTokenRef a b)
     ]
 
--- row r of table 6 or 9, and rows from one up to another
-unfoldable pub kindFaults : List ℕ → List ℕ → List ℕ → ℕ → List ℕ → ℕ → ℕ → List Flaw
-kindFaults src t t1 n t7 m r = nameFaults src (cell (width symbols) t r 0) (cell (width symbols) t r kindName) (cell (width symbols) t r (kindName + 1)) t1 n t7 m
+-- row r of table 6 or 9, whose rows are w wide, and rows from one up to another
+unfoldable pub kindFaults : List ℕ → ℕ → List ℕ → List ℕ → ℕ → List ℕ → ℕ → ℕ → List Flaw
+kindFaults src w t t1 n t7 m r = nameFaults src (cell w t r 0) (cell w t r kindName) (cell w t r (kindName + 1)) t1 n t7 m
 
-unfoldable pub kindsFaults : List ℕ → List ℕ → List ℕ → ℕ → List ℕ → ℕ → ℕ → ℕ → List Flaw
-kindsFaults src t t1 n t7 m from to = upto (to - from) (λ i. kindFaults src t t1 n t7 m (from + i))
+unfoldable pub kindsFaults : List ℕ → ℕ → List ℕ → List ℕ → ℕ → List ℕ → ℕ → ℕ → ℕ → List Flaw
+kindsFaults src w t t1 n t7 m from to = upto (to - from) (λ i. kindFaults src w t t1 n t7 m (from + i))
 
 -- production r: "`%prec` (33, then 34), symbols left to right"
 unfoldable pub productionFaults : List ℕ → List ℕ → ℕ → List ℕ → ℕ → List ℕ → ℕ → List ℕ → List ℕ → ℕ → List Flaw
 productionFaults src t1 n t2 m t7 l t8 t9 r =
-    precFaults src (productionAt t8 r .prec) t1 n t2 m ++ kindsFaults src t9 t1 n t7 l (productionAt t8 r .first) (productionAt t8 r .last)
+    precFaults src (productionAt t8 r .prec) t1 n t2 m ++ kindsFaults src (width symbols) t9 t1 n t7 l (productionAt t8 r .first) (productionAt t8 r .last)
 
 -- "rules in order, their productions in order": those of rule k among the c productions
 abbrev pub ofRule : Bool → List Flaw → List Flaw
@@ -145,7 +145,7 @@ unfoldable pub faults : List ℕ → Counts → Singles → List ℕ → List �
 faults src c g t1 t2 t4 t5 t6 t7 t8 t9 =
     startFaults src (g .start) t7 (countAt c rules)
     ++ (rulesFaults src t1 (countAt c tokens) t2 (countAt c precedences) t7 (countAt c rules) t8 t9 (countAt c productions)
-    ++ (eppsFaults src t1 (countAt c tokens) t4 (countAt c implicit) t5 (countAt c epps) ++ kindsFaults src t6 t1 (countAt c tokens) t7 (countAt c rules) 0 (countAt c unused)))
+    ++ (eppsFaults src t1 (countAt c tokens) t4 (countAt c implicit) t5 (countAt c epps) ++ kindsFaults src (width unused) t6 t1 (countAt c tokens) t7 (countAt c rules) 0 (countAt c unused)))
 
 -- "44 unsound tables" first, then the first fault
 unfoldable pub validity : List ℕ → Counts → Singles → Tables → Indexes → Validity

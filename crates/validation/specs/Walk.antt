@@ -1,22 +1,22 @@
 -- Document 02, request One: "a list of all faults it tests for: number and place, one entry for each test that fails, in validation's own order". The walk over the tests
 -- that writes each fault as a row of table 14, and what the list of all faults gives.
-use Prim.Native.Nat.{ℕ, _+_, _*_, _-_, _/_}
+use Prim.Native.Nat.{ℕ, _+_, _*_, _-_, _/_, _<_, _≤_}
 use mathlib.Core.List.{List, [], _∷_, _++_}
 use mathlib.Core.Bool.{Bool, true, false}
 use lib.Dec.{eqb, ltb, leb}
 use lib.ListN.{length, replicate}
-use Rattle.tables.specs.Table.{put, zeroed, firstRow}
-use Rattle.tables.specs.declared.Found.{Found}
-use Rattle.tables.specs.declared.Found.the-variants.{RowAt, NoRow}
-use Rattle.tables.specs.Layout.{tokens, rules, productions, symbols, epps, unused, width, faultWidth, ruleRow}
+use Rattle.tables.specs.Table.{cell, put, zeroed}
+use Rattle.tables.specs.Layout.{tokens, rules, productions, symbols, epps, unused, width, faultWidth, kindName, knownRow, noRow}
 use Rattle.index.specs.Index.{Indexed}
-use Rattle.productions.specs.Cells.{cellOf}
+use Rattle.symbols.specs.Symbols.{lexicon, Knows}
+use Rattle.productions.specs.Cells.{productionAt}
 use Rattle.grammar.specs.declared.Counts.{Counts}
 use Rattle.grammar.specs.declared.Singles.{Singles}
 use Rattle.grammar.specs.Sound.{Tables, Indexes}
 use Rattle.sound.specs.Test.{countAt, soundTest}
-use Rattle.validation.specs.Faults.{faultCells, faults}
+use Rattle.validation.specs.Faults.{faultCells, upto, faults}
 use Rattle.validation.specs.declared.Flaw.{Flaw}
+use Rattle.validation.specs.declared.Flaw.the-variants.{UnknownRuleRef, UnknownTokenRef}
 use Rattle.validation.specs.declared.Test.{Test}
 use Rattle.validation.specs.declared.Test.the-variants.{Met, Failed}
 use Rattle.validation.specs.declared.Walk.{Walk}
@@ -33,10 +33,27 @@ TokenNames src n t1 i1 = Indexed src (width tokens) 0 n t1 i1
 abbrev pub RuleNames : List ℕ → ℕ → List ℕ → List ℕ → Type 0
 RuleNames src n t7 i7 = Indexed src (width rules) 0 n t7 i7
 
--- those of all tokens and rules
-pub record NamesIndexed (src : List ℕ) (c : Counts) (t1 t7 i1 i7 : List ℕ) : Type 0 where
+-- document 02, request Five, "The report, validation and the fault list each look a symbol up again": the symbols of the first n productions know their rows
+pub record SymbolsKnown (src t1 : List ℕ) (tokens : ℕ) (t7 : List ℕ) (rules : ℕ) (t8 t9 : List ℕ) (n : ℕ) : Type 0 where
+  pub count : ℕ
+  pub rows : Knows (lexicon src t1 tokens t7 rules) count t9
+  pub inside : (r : ℕ) → r < n → productionAt t8 r .last ≤ count
+
+-- what the walk goes by: the indexes of all tokens and rules, and the rows of all symbols
+pub record Walkable (src : List ℕ) (c : Counts) (t1 t7 t8 t9 i1 i7 : List ℕ) : Type 0 where
+  pub symbols : SymbolsKnown src t1 (countAt c tokens) t7 (countAt c rules) t8 t9 (countAt c productions)
   pub tokens : Indexed src (width tokens) 0 (countAt c tokens) t1 i1
   pub rules : Indexed src (width rules) 0 (countAt c rules) t7 i7
+
+-- the fault of a symbol by its own cell, and those of symbols from one up to another
+unfoldable pub symbolFaults : List ℕ → ℕ → List Flaw
+symbolFaults t9 s = elim (eqb (at knownRow) noRow) [ true ↦ elim (eqb (at 0) 1) [ true ↦ UnknownRuleRef (at kindName) (at (kindName + 1)) ∷ [] | false ↦ UnknownTokenRef (at kindName) (at (kindName + 1)) ∷ [] ] | false ↦ [] ]
+  where
+    at : ℕ → ℕ
+    at k = cell (width symbols) t9 s k
+
+unfoldable pub symbolsFaults : List ℕ → ℕ → ℕ → List Flaw
+symbolsFaults t9 from to = upto (to - from) (λ i. symbolFaults t9 (from + i))
 
 -- ---- the walk: how far it came, and table 14
 
@@ -57,19 +74,6 @@ fits at t = ltb at (length t / faultWidth)
 unfoldable pub noted : List Flaw → ℕ → List ℕ → Walked
 noted [] at t = record { answer = NextRow at; cells = t }
 noted (f ∷ fs) at t = elim (fits at t) [ true ↦ noted fs (at + 1) (put t (at * faultWidth) (faultCells f)) | false ↦ record { answer = Unwritten f; cells = t } ]
-
--- whether production r is one of rule k
-unfoldable pub isOfRule : List ℕ → ℕ → ℕ → Bool
-isOfRule t8 k r = eqb (cellOf t8 r ruleRow) k
-
--- the row that was found, or n
-abbrev pub rowOr : ℕ → Found → ℕ
-rowOr n (RowAt r) = r
-rowOr n NoRow = n
-
--- the first production of rule k from a row on, or n, behind the last
-unfoldable pub nextOfRule : List ℕ → ℕ → ℕ → ℕ → ℕ
-nextOfRule t8 from n k = rowOr n (firstRow (isOfRule t8 k) (n - from) from)
 
 -- ---- the list of all faults
 

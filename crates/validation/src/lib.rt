@@ -6,12 +6,23 @@ use productions::Prec;
 use tables::Found;
 ghost use mathlib.Core.Path.{_≡_};
 ghost use mathlib.Core.List.{_++_};
-ghost use Rattle.tables.specs.Layout.{tokens, precedences, implicit, epps, unused, rules, productions};
+ghost use Prim.Native.Nat.{_+_};
+ghost use Rattle.tables.specs.Layout.{tokens, precedences, implicit, epps, unused, rules, productions, width};
 ghost use Rattle.index.specs.Index.{Indexed};
 ghost use Rattle.sound.specs.Test.{countAt};
 ghost use Rattle.grammar.specs.Sound.{Tables};
 ghost use Rattle.validation.specs.Faults.{faultCells, known, first, startFaults, precFaults, nameFaults, kindFaults, kindsFaults, productionFaults, ruleFaults, rulesFaults, eppFaults, eppsFaults, faults, validity};
-ghost use Rattle.validation.specs.Walk.{TokenNames, RuleNames, NamesIndexed, failing, Walked, noted, nextOfRule, AllFaults, faultListing};
+ghost use Rattle.links.specs.Links.{Linked};
+ghost use Rattle.validation.specs.Walk.{TokenNames, RuleNames, SymbolsKnown, Walkable, symbolFaults, symbolsFaults, failing, Walked, noted, AllFaults, faultListing};
+
+// Rules and productions that links are kept for: those of a large dialect, and the most that 65,536 bytes can hold.
+const FEW_RULES: usize = 1024;
+
+const FEW_PRODUCTIONS: usize = 4096;
+
+const MANY_RULES: usize = 16384;
+
+const MANY_PRODUCTIONS: usize = 65536;
 
 // What a reading lacks, by the place of the name.
 pub enum Flaw {
@@ -147,10 +158,10 @@ pub fn name_fault(
     Test::Failed(Flaw::UnknownTokenRef(a, b))
 }
 
-// Row `r` of table 6 or 9.
-pub fn kind_fault(
+// Row `r` of table 6.
+pub fn unused_fault(
     src: &[u8],
-    t: &[u32],
+    t6: &[u32],
     r: u32,
     t1: &[u32],
     tokens: u32,
@@ -160,14 +171,14 @@ pub fn kind_fault(
     i7: &[u32],
 ) -> Test
     requires { ⌜ TokenNames (now src) tokens (now t1) (now i1) × RuleNames (now src) rules (now t7) (now i7) ⌝ }
-    ensures { λ q. ⌜ failing q ≡ kindFaults (now (src .entry)) (now (t .entry)) (now (t1 .entry)) tokens (now (t7 .entry)) rules r ⌝ }
+    ensures { λ q. ⌜ failing q ≡ kindFaults (now (src .entry)) (width unused) (now (t6 .entry)) (now (t1 .entry)) tokens (now (t7 .entry)) rules r ⌝ }
 {
-    let w = tables::SYMBOL_WIDTH;
+    let w = tables::UNUSED_WIDTH;
     name_fault(
         src,
-        tables::cell(t, w, r, 0),
-        tables::cell(t, w, r, 1),
-        tables::cell(t, w, r, 2),
+        tables::cell(t6, w, r, 0),
+        tables::cell(t6, w, r, 1),
+        tables::cell(t6, w, r, 2),
         t1,
         tokens,
         t7,
@@ -175,6 +186,22 @@ pub fn kind_fault(
         i1,
         i7,
     )
+}
+
+// Symbol `s` of table 9 says itself whether there is a row for it.
+pub fn symbol_fault(t9: &[u32], s: u32) -> Test
+    ensures { λ q. ⌜ failing q ≡ symbolFaults (now (t9 .entry)) s ⌝ }
+{
+    let w = tables::SYMBOL_WIDTH;
+    if tables::cell(t9, w, s, tables::KNOWN_ROW) != tables::NO_ROW {
+        return Test::Met;
+    }
+    let a = tables::cell(t9, w, s, 1);
+    let b = tables::cell(t9, w, s, 2);
+    if tables::cell(t9, w, s, 0) == 1 {
+        return Test::Failed(Flaw::UnknownRuleRef(a, b));
+    }
+    Test::Failed(Flaw::UnknownTokenRef(a, b))
 }
 
 // The key of row `r` of table 5 is a token, or an implicit one.
@@ -239,12 +266,11 @@ pub fn note(v: Test, at: usize, t14: &mut [u32]) -> Walk
     }
 }
 
-// The rows of table 6 or 9 from `from` up to `to`.
-pub fn note_kinds(
+// The `n` rows of table 6.
+pub fn note_unused(
     src: &[u8],
-    t: &[u32],
-    from: u32,
-    to: u32,
+    t6: &[u32],
+    n: u32,
     t1: &[u32],
     tokens: u32,
     t7: &[u32],
@@ -255,15 +281,15 @@ pub fn note_kinds(
     t14: &mut [u32],
 ) -> Walk
     requires { ⌜ TokenNames (now src) tokens (now t1) (now i1) × RuleNames (now src) rules (now t7) (now i7) ⌝ }
-    ensures { λ q. ⌜ _≡_ {A = Walked} (record { answer = q; cells = now (t14 .exit) }) (noted (kindsFaults (now (src .entry)) (now (t .entry)) (now (t1 .entry)) tokens (now (t7 .entry)) rules from to) at (now (t14 .entry))) ⌝ }
+    ensures { λ q. ⌜ _≡_ {A = Walked} (record { answer = q; cells = now (t14 .exit) }) (noted (kindsFaults (now (src .entry)) (width unused) (now (t6 .entry)) (now (t1 .entry)) tokens (now (t7 .entry)) rules 0 n) at (now (t14 .entry))) ⌝ }
 {
     let mut next = at;
-    let mut r = from;
-    while r < to {
-        let v = kind_fault(src, t, r, t1, tokens, t7, rules, i1, i7);
+    let mut r = 0;
+    while r < n {
+        let v = unused_fault(src, t6, r, t1, tokens, t7, rules, i1, i7);
         match note(v, next, t14) {
-            Walk::NextRow(n) => {
-                next = n;
+            Walk::NextRow(m) => {
+                next = m;
                 r += 1;
             }
             Walk::Unwritten(f) => {
@@ -274,7 +300,28 @@ pub fn note_kinds(
     Walk::NextRow(next)
 }
 
-// Row `r` of table 8: its `%prec`, then its symbols.
+// The symbols from `from` up to `to`.
+pub fn note_symbols(t9: &[u32], from: u32, to: u32, at: usize, t14: &mut [u32]) -> Walk
+    ensures { λ q. ⌜ _≡_ {A = Walked} (record { answer = q; cells = now (t14 .exit) }) (noted (symbolsFaults (now (t9 .entry)) from to) at (now (t14 .entry))) ⌝ }
+{
+    let mut next = at;
+    let mut s = from;
+    while s < to {
+        let v = symbol_fault(t9, s);
+        match note(v, next, t14) {
+            Walk::NextRow(n) => {
+                next = n;
+                s += 1;
+            }
+            Walk::Unwritten(f) => {
+                return Walk::Unwritten(f);
+            }
+        }
+    }
+    Walk::NextRow(next)
+}
+
+// Row `r` of table 8: its `%prec`, then its symbols. What table 7 has to do with them stands in their rows.
 pub fn note_production(
     src: &[u8],
     t1: &[u32],
@@ -287,47 +334,19 @@ pub fn note_production(
     t9: &[u32],
     r: u32,
     i1: &[u32],
-    i7: &[u32],
     at: usize,
     t14: &mut [u32],
 ) -> Walk
-    requires { ⌜ TokenNames (now src) tokens (now t1) (now i1) × RuleNames (now src) rules (now t7) (now i7) ⌝ }
+    requires { ⌜ TokenNames (now src) tokens (now t1) (now i1) × SymbolsKnown (now src) (now t1) tokens (now t7) rules (now t8) (now t9) (r + 1) ⌝ }
     ensures { λ q. ⌜ _≡_ {A = Walked} (record { answer = q; cells = now (t14 .exit) }) (noted (productionFaults (now (src .entry)) (now (t1 .entry)) tokens (now (t2 .entry)) precedences (now (t7 .entry)) rules (now (t8 .entry)) (now (t9 .entry)) r) at (now (t14 .entry))) ⌝ }
 {
     let p = productions::load_production(t8, r);
     let q = p.prec;
     let v = prec_fault(src, q, t1, tokens, t2, precedences, i1);
     match note(v, at, t14) {
-        Walk::NextRow(n) => note_kinds(
-            src,
-            t9,
-            p.first,
-            p.last,
-            t1,
-            tokens,
-            t7,
-            rules,
-            i1,
-            i7,
-            n,
-            t14,
-        ),
+        Walk::NextRow(n) => note_symbols(t9, p.first, p.last, n, t14),
         Walk::Unwritten(f) => Walk::Unwritten(f),
     }
-}
-
-// The first production of rule `k` from row `from` of table 8 on, or `n`, behind the last.
-pub fn next_of_rule(t8: &[u32], from: u32, n: u32, k: u32) -> u32
-    ensures { λ r. ⌜ r ≡ nextOfRule (now (t8 .entry)) from n k ⌝ }
-{
-    let mut r = from;
-    while r < n {
-        if tables::cell(t8, tables::PRODUCTION_WIDTH, r, tables::RULE_ROW) == k {
-            return r;
-        }
-        r += 1;
-    }
-    n
 }
 
 // The productions of rule `k`, among the `n` of table 8.
@@ -344,15 +363,16 @@ pub fn note_rule(
     n: u32,
     k: u32,
     i1: &[u32],
-    i7: &[u32],
+    heads: &[u32],
+    nexts: &[u32],
     at: usize,
     t14: &mut [u32],
 ) -> Walk
-    requires { ⌜ TokenNames (now src) tokens (now t1) (now i1) × RuleNames (now src) rules (now t7) (now i7) ⌝ }
+    requires { ⌜ TokenNames (now src) tokens (now t1) (now i1) × SymbolsKnown (now src) (now t1) tokens (now t7) rules (now t8) (now t9) n × Linked (now t8) 0 n (now heads) (now nexts) ⌝ }
     ensures { λ q. ⌜ _≡_ {A = Walked} (record { answer = q; cells = now (t14 .exit) }) (noted (ruleFaults (now (src .entry)) (now (t1 .entry)) tokens (now (t2 .entry)) precedences (now (t7 .entry)) rules (now (t8 .entry)) (now (t9 .entry)) n k) at (now (t14 .entry))) ⌝ }
 {
     let mut next = at;
-    let mut r = next_of_rule(t8, 0, n, k);
+    let mut r = links::first_of(t8, heads, 0, n, k);
     while r < n {
         match note_production(
             src,
@@ -366,13 +386,12 @@ pub fn note_rule(
             t9,
             r,
             i1,
-            i7,
             next,
             t14,
         ) {
             Walk::NextRow(m) => {
                 next = m;
-                r = next_of_rule(t8, r + 1, n, k);
+                r = links::next_of(t8, nexts, n, r, k);
             }
             Walk::Unwritten(f) => {
                 return Walk::Unwritten(f);
@@ -382,8 +401,8 @@ pub fn note_rule(
     Walk::NextRow(next)
 }
 
-// Rules in order, their productions in order.
-pub fn note_rules(
+// Rules in order, their productions in order, which are linked.
+pub fn note_linked(
     src: &[u8],
     t1: &[u32],
     tokens: u32,
@@ -395,11 +414,12 @@ pub fn note_rules(
     t9: &[u32],
     n: u32,
     i1: &[u32],
-    i7: &[u32],
+    heads: &[u32],
+    nexts: &[u32],
     at: usize,
     t14: &mut [u32],
 ) -> Walk
-    requires { ⌜ TokenNames (now src) tokens (now t1) (now i1) × RuleNames (now src) rules (now t7) (now i7) ⌝ }
+    requires { ⌜ TokenNames (now src) tokens (now t1) (now i1) × SymbolsKnown (now src) (now t1) tokens (now t7) rules (now t8) (now t9) n × Linked (now t8) 0 n (now heads) (now nexts) ⌝ }
     ensures { λ q. ⌜ _≡_ {A = Walked} (record { answer = q; cells = now (t14 .exit) }) (noted (rulesFaults (now (src .entry)) (now (t1 .entry)) tokens (now (t2 .entry)) precedences (now (t7 .entry)) rules (now (t8 .entry)) (now (t9 .entry)) n) at (now (t14 .entry))) ⌝ }
 {
     let mut next = at;
@@ -418,7 +438,8 @@ pub fn note_rules(
             n,
             k,
             i1,
-            i7,
+            heads,
+            nexts,
             next,
             t14,
         ) {
@@ -432,6 +453,143 @@ pub fn note_rules(
         }
     }
     Walk::NextRow(next)
+}
+
+// The same with links for as many rules and productions as a large dialect has.
+pub fn note_few(
+    src: &[u8],
+    t1: &[u32],
+    tokens: u32,
+    t2: &[u32],
+    precedences: u32,
+    t7: &[u32],
+    rules: u32,
+    t8: &[u32],
+    t9: &[u32],
+    n: u32,
+    i1: &[u32],
+    at: usize,
+    t14: &mut [u32],
+) -> Walk
+    requires { ⌜ TokenNames (now src) tokens (now t1) (now i1) × SymbolsKnown (now src) (now t1) tokens (now t7) rules (now t8) (now t9) n ⌝ }
+    ensures { λ q. ⌜ _≡_ {A = Walked} (record { answer = q; cells = now (t14 .exit) }) (noted (rulesFaults (now (src .entry)) (now (t1 .entry)) tokens (now (t2 .entry)) precedences (now (t7 .entry)) rules (now (t8 .entry)) (now (t9 .entry)) n) at (now (t14 .entry))) ⌝ }
+{
+    let mut heads = [0u32; FEW_RULES];
+    let mut nexts = [0u32; FEW_PRODUCTIONS];
+    links::link(t8, n, &mut heads, &mut nexts);
+    note_linked(
+        src,
+        t1,
+        tokens,
+        t2,
+        precedences,
+        t7,
+        rules,
+        t8,
+        t9,
+        n,
+        i1,
+        &heads,
+        &nexts,
+        at,
+        t14,
+    )
+}
+
+// And for as many as a source can have.
+pub fn note_many(
+    src: &[u8],
+    t1: &[u32],
+    tokens: u32,
+    t2: &[u32],
+    precedences: u32,
+    t7: &[u32],
+    rules: u32,
+    t8: &[u32],
+    t9: &[u32],
+    n: u32,
+    i1: &[u32],
+    at: usize,
+    t14: &mut [u32],
+) -> Walk
+    requires { ⌜ TokenNames (now src) tokens (now t1) (now i1) × SymbolsKnown (now src) (now t1) tokens (now t7) rules (now t8) (now t9) n ⌝ }
+    ensures { λ q. ⌜ _≡_ {A = Walked} (record { answer = q; cells = now (t14 .exit) }) (noted (rulesFaults (now (src .entry)) (now (t1 .entry)) tokens (now (t2 .entry)) precedences (now (t7 .entry)) rules (now (t8 .entry)) (now (t9 .entry)) n) at (now (t14 .entry))) ⌝ }
+{
+    let mut heads = [0u32; MANY_RULES];
+    let mut nexts = [0u32; MANY_PRODUCTIONS];
+    links::link(t8, n, &mut heads, &mut nexts);
+    note_linked(
+        src,
+        t1,
+        tokens,
+        t2,
+        precedences,
+        t7,
+        rules,
+        t8,
+        t9,
+        n,
+        i1,
+        &heads,
+        &nexts,
+        at,
+        t14,
+    )
+}
+
+// Rules in order, their productions in order.
+pub fn note_rules(
+    src: &[u8],
+    t1: &[u32],
+    tokens: u32,
+    t2: &[u32],
+    precedences: u32,
+    t7: &[u32],
+    rules: u32,
+    t8: &[u32],
+    t9: &[u32],
+    n: u32,
+    i1: &[u32],
+    at: usize,
+    t14: &mut [u32],
+) -> Walk
+    requires { ⌜ TokenNames (now src) tokens (now t1) (now i1) × SymbolsKnown (now src) (now t1) tokens (now t7) rules (now t8) (now t9) n ⌝ }
+    ensures { λ q. ⌜ _≡_ {A = Walked} (record { answer = q; cells = now (t14 .exit) }) (noted (rulesFaults (now (src .entry)) (now (t1 .entry)) tokens (now (t2 .entry)) precedences (now (t7 .entry)) rules (now (t8 .entry)) (now (t9 .entry)) n) at (now (t14 .entry))) ⌝ }
+{
+    if (rules as usize) < FEW_RULES {
+        if (n as usize) < FEW_PRODUCTIONS {
+            return note_few(
+                src,
+                t1,
+                tokens,
+                t2,
+                precedences,
+                t7,
+                rules,
+                t8,
+                t9,
+                n,
+                i1,
+                at,
+                t14,
+            );
+        }
+    }
+    note_many(
+        src,
+        t1,
+        tokens,
+        t2,
+        precedences,
+        t7,
+        rules,
+        t8,
+        t9,
+        n,
+        i1,
+        at,
+        t14,
+    )
 }
 
 pub fn note_epps(
@@ -480,7 +638,7 @@ pub fn note_start_rules(
     i7: &[u32],
     t14: &mut [u32],
 ) -> Walk
-    requires { ⌜ NamesIndexed (now src) c (now t1) (now t7) (now i1) (now i7) ⌝ }
+    requires { ⌜ Walkable (now src) c (now t1) (now t7) (now t8) (now t9) (now i1) (now i7) ⌝ }
     ensures { λ q. ⌜ _≡_ {A = Walked} (record { answer = q; cells = now (t14 .exit) }) (noted (startFaults (now (src .entry)) start (now (t7 .entry)) (countAt c rules) ++ rulesFaults (now (src .entry)) (now (t1 .entry)) (countAt c tokens) (now (t2 .entry)) (countAt c precedences) (now (t7 .entry)) (countAt c rules) (now (t8 .entry)) (now (t9 .entry)) (countAt c productions)) 0 (now (t14 .entry))) ⌝ }
 {
     let tokens = sound::rows_of(c, tables::TOKENS);
@@ -501,7 +659,6 @@ pub fn note_start_rules(
             t9,
             n,
             i1,
-            i7,
             at,
             t14,
         ),
@@ -523,8 +680,8 @@ pub fn note_epps_unused(
     at: usize,
     t14: &mut [u32],
 ) -> Walk
-    requires { ⌜ NamesIndexed (now src) c (now t1) (now t7) (now i1) (now i7) ⌝ }
-    ensures { λ q. ⌜ _≡_ {A = Walked} (record { answer = q; cells = now (t14 .exit) }) (noted (eppsFaults (now (src .entry)) (now (t1 .entry)) (countAt c tokens) (now (t4 .entry)) (countAt c implicit) (now (t5 .entry)) (countAt c epps) ++ kindsFaults (now (src .entry)) (now (t6 .entry)) (now (t1 .entry)) (countAt c tokens) (now (t7 .entry)) (countAt c rules) 0 (countAt c unused)) at (now (t14 .entry))) ⌝ }
+    requires { ⌜ TokenNames (now src) (countAt c tokens) (now t1) (now i1) × RuleNames (now src) (countAt c rules) (now t7) (now i7) ⌝ }
+    ensures { λ q. ⌜ _≡_ {A = Walked} (record { answer = q; cells = now (t14 .exit) }) (noted (eppsFaults (now (src .entry)) (now (t1 .entry)) (countAt c tokens) (now (t4 .entry)) (countAt c implicit) (now (t5 .entry)) (countAt c epps) ++ kindsFaults (now (src .entry)) (width unused) (now (t6 .entry)) (now (t1 .entry)) (countAt c tokens) (now (t7 .entry)) (countAt c rules) 0 (countAt c unused)) at (now (t14 .entry))) ⌝ }
 {
     let tokens = sound::rows_of(c, tables::TOKENS);
     let implicit = sound::rows_of(c, tables::IMPLICIT);
@@ -532,7 +689,7 @@ pub fn note_epps_unused(
     let unused = sound::rows_of(c, tables::UNUSED);
     let rules = sound::rows_of(c, tables::RULES);
     match note_epps(src, t1, tokens, t4, implicit, t5, epps, i1, at, t14) {
-        Walk::NextRow(n) => note_kinds(src, t6, 0, unused, t1, tokens, t7, rules, i1, i7, n, t14),
+        Walk::NextRow(n) => note_unused(src, t6, unused, t1, tokens, t7, rules, i1, i7, n, t14),
         Walk::Unwritten(f) => Walk::Unwritten(f),
     }
 }
@@ -554,7 +711,7 @@ pub fn note_faults(
     i7: &[u32],
     t14: &mut [u32],
 ) -> Walk
-    requires { ⌜ NamesIndexed (now src) c (now t1) (now t7) (now i1) (now i7) ⌝ }
+    requires { ⌜ Walkable (now src) c (now t1) (now t7) (now t8) (now t9) (now i1) (now i7) ⌝ }
     ensures { λ q. ⌜ _≡_ {A = Walked} (record { answer = q; cells = now (t14 .exit) }) (noted (faults (now (src .entry)) c g (now (t1 .entry)) (now (t2 .entry)) (now (t4 .entry)) (now (t5 .entry)) (now (t6 .entry)) (now (t7 .entry)) (now (t8 .entry)) (now (t9 .entry))) 0 (now (t14 .entry))) ⌝ }
 {
     let start = g.start;
@@ -580,7 +737,7 @@ pub fn find_fault(
     i1: &[u32],
     i7: &[u32],
 ) -> Validity
-    requires { ⌜ NamesIndexed (now src) c (now t1) (now t7) (now i1) (now i7) ⌝ }
+    requires { ⌜ Walkable (now src) c (now t1) (now t7) (now t8) (now t9) (now i1) (now i7) ⌝ }
     ensures { λ q. ⌜ q ≡ first (faults (now (src .entry)) c g (now (t1 .entry)) (now (t2 .entry)) (now (t4 .entry)) (now (t5 .entry)) (now (t6 .entry)) (now (t7 .entry)) (now (t8 .entry)) (now (t9 .entry))) ⌝ }
 {
     let mut none = [0u32; 1];

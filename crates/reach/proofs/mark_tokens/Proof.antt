@@ -20,13 +20,13 @@ begin : tie.Need-loop-holds Inv-loop μ-loop
 begin c = (omega arith, tokens-none _ _ _)
 
 ready : tie.Need-mark-production-requires Inv-loop μ-loop
-ready c κs = rw (c .before .before .before .before .token-sort .ensures) (fits-on _ (now (c .before .before .before .before .before .before .before .before .before .before .before .args .w)) _ (c .before .before .loop .inv .1 .size) (c .before .before .before .before .before .before .before .before .before .before .before .pre .0), c .before .before .before .before .before .before .before .before .before .before .before .pre .1, c .before .before .before .before .before .before .before .before .before .before .before .pre .3)
+ready c κs = rw (c .before .before .before .before .token-sort .ensures) (fits-on _ (now (c .before .before .before .before .before .before .before .before .before .before .before .args .w)) _ (c .before .before .loop .inv .1 .size) (c .before .before .before .before .before .before .before .before .before .before .before .pre .0), c .before .before .before .before .before .before .before .before .before .before .before .pre .2, rw (c .before .before .before .rows-of .ensures) at (c .before .loop-test .taken))
 
 prec-ready : tie.Need-mark-prec-requires Inv-loop μ-loop
 prec-ready c κs =
     let e = c .before .before .before .before .before .before .before .before .token-sort .ensures in
     let q = rw e at (c .before .before .before .mark-production .ensures) in
-    rw e (fits-on _ (now (c .before .before .before .before .before .before .before .before .before .before .before .before .before .before .before .args .w)) _ (q .adds .size ∙ c .before .before .before .before .before .before .loop .inv .1 .size) (c .before .before .before .before .before .before .before .before .before .before .before .before .before .before .before .pre .0), c .before .before .before .before .before .before .before .before .before .before .before .before .before .before .before .pre .1, c .before .before .before .before .before .before .before .before .before .before .before .before .before .before .before .pre .3)
+    rw e (fits-on _ (now (c .before .before .before .before .before .before .before .before .before .before .before .before .before .before .before .args .w)) _ (q .adds .size ∙ c .before .before .before .before .before .before .loop .inv .1 .size) (c .before .before .before .before .before .before .before .before .before .before .before .before .before .before .before .pre .0), c .before .before .before .before .before .before .before .before .before .before .before .before .before .before .before .pre .1, c .before .before .before .before .before .before .before .before .before .before .before .before .before .before .before .pre .4)
 
 again : tie.Need-loop-again Inv-loop μ-loop
 again c =
@@ -34,7 +34,7 @@ again c =
     let l = c .before .before .before .before .before .before .before .before .before .loop in
     let e = c .before .before .before .before .before .before .before .before .before .before .before .token-sort .ensures in (
       omega arith,
-      tokens-more (net (now (a .src)) (a .c) (now (a .prods)) (now (a .syms))) (named (now (a .tokens)) (tokenSort (a .c))) (ruleSort (a .c) .count) (omega arith) (c .before .before .before .before .before .before .before .before .before .before .before .before .before .before .before .before .before .before .pre .2) (l .p) (now (a .w)) (l .w) _ _ _ _
+      tokens-more (net (now (a .src)) (a .c) (now (a .prods)) (now (a .syms))) (named (now (a .tokens)) (tokenSort (a .c))) (ruleSort (a .c) .count) (omega arith) (c .before .before .before .before .before .before .before .before .before .before .before .before .before .before .before .before .before .before .pre .3) (l .p) (now (a .w)) (l .w) _ _ _ _
           (rw (c .before .before .before .before .before .before .before .before .before .before .rows-of .ensures) at (c .before .before .before .before .before .before .before .before .loop-test .taken)) (l .inv .1) (rw e at (c .before .before .before .before .before .before .mark-production .ensures)) (rw e at (c .before .before .mark-prec .ensures)),
     )
 

@@ -13,17 +13,17 @@ use Rattle.reach.proofs.spread.Statement.{statement}
 use Rattle.reach.proofs.spread.Tie as tie
 
 abbrev Inv-loop : tie.InvT-loop
-Inv-loop w₀ src c rules ix prods syms done₀ w done = Sweeping (net src c prods syms) (named rules (ruleSort c)) w₀ w × Done (net src c prods syms) (named rules (ruleSort c)) done w × (length done ≡ 512)
+Inv-loop w₀ src c rules prods syms done₀ w done = Sweeping (net src c prods syms) (named rules (ruleSort c)) w₀ w × Done (net src c prods syms) (named rules (ruleSort c)) done w × (length done ≡ 512)
 
 -- how many bits are 0
 abbrev μ-loop : tie.MeasureT-loop
-μ-loop w₀ src c rules ix prods syms done₀ w done = length w * 32 - ones w
+μ-loop w₀ src c rules prods syms done₀ w done = length w * 32 - ones w
 
 begin : tie.Need-loop-holds Inv-loop μ-loop
 begin c = (sweeping-none _ _ _, λ a b e n. absurd (omega (arith, bit-zeros 512 a)), refl)
 
 ready : tie.Need-round-requires Inv-loop μ-loop
-ready c κs = (fits-on _ (now (c .before .before .before .before .before .before .before .before .before .args .w)) _ (c .before .before .loop .inv .0 .size) (c .before .before .before .before .before .before .before .before .before .pre .0), c .before .before .before .before .before .before .before .before .before .pre .1, c .before .before .loop .inv .1, c .before .before .before .before .before .before .before .before .before .pre .2)
+ready c κs = (fits-on _ (now (c .before .before .before .before .before .before .before .before .args .w)) _ (c .before .before .loop .inv .0 .size) (c .before .before .before .before .before .before .before .before .pre .0), c .before .before .before .before .before .before .before .before .pre .1, c .before .before .loop .inv .1)
 
 less : tie.Need-loop-less Inv-loop μ-loop
 less c = fewer (c .before .before .before .before .before .before .before .loop .w) (c .before .before .before .before .round .last .0) (c .before .before .before .before .round .result) (c .before .before .before .before .round .ensures .0 .size) (c .if1 .taken) (c .before .before .before .before .round .ensures .0 .grew)

@@ -8,7 +8,7 @@ use Rattle.reach.proofs.visit.Tie as tie
 
 done : tie.Need-returns
 done c =
-    let a = c .before .before .before .before .before .before .before .before .before .before .args in
+    let a = c .before .before .before .before .before .before .before .before .before .args in
     visit-done (net (now (a .src)) (a .c) (now (a .prods)) (now (a .syms))) (named (now (a .names)) (a .z)) (a .p) _ (c .before .before .cell .ensures) (now (a .w)) (now (a .done)) _ (c .before .test-bit .ensures) (c .if1 .taken)
 
 held : tie.Need-returns-2

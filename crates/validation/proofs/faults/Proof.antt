@@ -2,7 +2,7 @@
 use mathlib.Core.Path.{_∙_}
 use denote.Ref.{now}
 use borrow.Author.Needs.{needs}
-use Rattle.validation.proofs.Laws.{sound-names, listing-unsound, listing-sound}
+use Rattle.validation.proofs.Laws.{tested-walkable, listing-unsound, listing-sound}
 use Rattle.validation.proofs.Noted.{listed-all, listed-crowded}
 use Rattle.validation.proofs.faults.Statement.{statement}
 use Rattle.validation.proofs.faults.Tie as tie
@@ -28,7 +28,7 @@ faults-spec =
     (λ c κs. search needs)
     (λ c. search needs)
     unsound
-    (λ c κs. sound-names _ _ _ _ _ _ (c .before .before .sound .ensures) (c .before .if1 .left))
+    (λ c κs. tested-walkable _ _ _ _ _ _ (c .before .before .sound .ensures) (c .before .if1 .left))
     (λ c. search needs)
     (λ c. search needs)
     (λ c κs. search needs)

@@ -8,15 +8,15 @@ use Rattle.validation.proofs.note_epps_unused.Statement.{statement}
 use Rattle.validation.proofs.note_epps_unused.Tie as tie
 
 epps-ready : tie.Need-note-epps-requires
-epps-ready c κs = rw (c .before .before .before .before .before .rows-of .ensures) (c .before .before .before .before .before .before .before .before .before .before .before .before .before .before .before .pre .tokens)
+epps-ready c κs = rw (c .before .before .before .before .before .rows-of .ensures) (c .before .before .before .before .before .before .before .before .before .before .before .before .before .before .before .pre .0)
 
-unused-ready : tie.Need-note-kinds-requires
+unused-ready : tie.Need-note-unused-requires
 unused-ready c κs =
     let given = c .before .before .before .before .before .before .before .before .before .before .before .before .before .before .before .before .before .before .before .before .before .before .pre in
-    rw (c .before .before .before .before .before .before .before .before .before .before .before .before .rows-of .ensures, c .before .before .before .before .before .before .before .before .rows-of5 .ensures) (given .tokens, given .rules)
+    rw (c .before .before .before .before .before .before .before .before .before .before .before .before .rows-of .ensures, c .before .before .before .before .before .before .before .before .rows-of5 .ensures) (given .0, given .1)
 
 same-length : tie.Need-same-length
-same-length c = walked-length _ _ _ _ _ (c .before .before .note-kinds .ensures) ∙ walked-length _ _ _ _ _ (c .before .before .before .before .before .before .before .before .before .note-epps .ensures)
+same-length c = walked-length _ _ _ _ _ (c .before .before .note-unused .ensures) ∙ walked-length _ _ _ _ _ (c .before .before .before .before .before .before .before .before .before .note-epps .ensures)
 
 same-length-2 : tie.Need-same-length-2
 same-length-2 c = walked-length _ _ _ _ _ (c .before .before .before .before .before .note-epps .ensures)
@@ -26,7 +26,7 @@ unused c =
     let m = c .before .before .before .before .before .before .before .before .before in
     let s = m .before .before in
     let a = s .before .before .before .before .before .before .before .before .before .before .before .before .before .before in
-    part-on _ _ _ (epps-unused-are (now (a .args .src)) (a .args .c) _ _ (s .before .before .before .before .rows-of .ensures) (s .rows-of5 .ensures) (now (a .args .t1)) (now (a .args .t4)) (now (a .args .t5)) (now (a .args .t6)) (now (a .args .t7)) _ _ _ (s .before .before .before .rows-of2 .ensures) (s .before .before .rows-of3 .ensures) (s .before .rows-of4 .ensures)) _ _ _ _ (m .note-epps .ensures) _ (c .before .before .before .before .before .n .given .1) _ _ (c .before .before .note-kinds .ensures)
+    part-on _ _ _ (epps-unused-are (now (a .args .src)) (a .args .c) _ _ (s .before .before .before .before .rows-of .ensures) (s .rows-of5 .ensures) (now (a .args .t1)) (now (a .args .t4)) (now (a .args .t5)) (now (a .args .t6)) (now (a .args .t7)) _ _ _ (s .before .before .before .rows-of2 .ensures) (s .before .before .rows-of3 .ensures) (s .before .rows-of4 .ensures)) _ _ _ _ (m .note-epps .ensures) _ (c .before .before .before .before .before .n .given .1) _ _ (c .before .before .note-unused .ensures)
 
 epps : tie.Need-returns-2
 epps c =

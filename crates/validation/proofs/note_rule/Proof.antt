@@ -7,32 +7,47 @@ use native.Mathlib.Omega.{arith}
 use borrow.Author.Needs.{needs}
 use Rattle.tables.specs.Layout.{ruleRow}
 use Rattle.productions.specs.Cells.{cellOf}
+use Rattle.links.specs.Links.{isOfRule}
+use Rattle.links.proofs.Laws.{next-less}
 use Rattle.validation.specs.Faults.{upto, ofRule, productionFaults, ruleFaults}
-use Rattle.validation.specs.Walk.{noted, isOfRule}
+use Rattle.validation.specs.Walk.{noted}
 use Rattle.validation.specs.declared.Walk.the-variants.{NextRow}
-use Rattle.validation.proofs.Laws.{of-rule, next-less}
+use Rattle.validation.proofs.Laws.{of-rule, fewer-known}
 use Rattle.validation.proofs.Noted.{walked, walked-length, walk-start, walk-on, walk-over, walk-all, walk-next}
 use Rattle.validation.proofs.note_rule.Statement.{statement}
 use Rattle.validation.proofs.note_rule.Tie as tie
 
 abbrev Inv-loop : tie.InvT-loop
-Inv-loop src t1 tokens t2 precedences t7 rules t8 t9 n k i1 i7 at t14₀ next₀ r₀ t14 next r =
+Inv-loop src t1 tokens t2 precedences t7 rules t8 t9 n k i1 heads nexts at t14₀ next₀ r₀ t14 next r =
     (r ≤ n)
     × (r < n → isOfRule t8 k r ≡ true)
     × (walked (NextRow next) t14 ≡ noted (upto r (λ i. ofRule (eqb (cellOf t8 i ruleRow) k) (productionFaults src t1 tokens t2 precedences t7 rules t8 t9 i))) at t14₀)
 
 abbrev μ-loop : tie.MeasureT-loop
-μ-loop src t1 tokens t2 precedences t7 rules t8 t9 n k i1 i7 at t14₀ next₀ r₀ t14 next r = n - r
+μ-loop src t1 tokens t2 precedences t7 rules t8 t9 n k i1 heads nexts at t14₀ next₀ r₀ t14 next r = n - r
 
 loop-holds : tie.Need-loop-holds Inv-loop μ-loop
-loop-holds c = walk-next _ _ _ _ _ (c .next-of-rule .ensures) (omega arith) _ _ _ _ _ (walk-start _ _ _)
+loop-holds c = walk-next _ _ _ _ _ (c .first-of .ensures) (omega arith) _ _ _ _ _ (walk-start _ _ _)
+
+first-ready : tie.Need-first-of-requires Inv-loop μ-loop
+first-ready c κs = c .before .before .before .before .before .before .before .before .before .before .pre .2 .first
+
+production-ready : tie.Need-note-production-requires Inv-loop μ-loop
+production-ready c κs =
+    let given = c .before .before .before .before .before .before .before .before .before .before .before .before .before .before .pre in
+    (given .0, fewer-known _ _ _ _ _ _ _ _ _ (c .before .loop-test .taken) (given .1))
+
+next-ready : tie.Need-next-of-requires Inv-loop μ-loop
+next-ready c κs =
+    let t = c .before .before .before .before .before .before .before .loop-test .taken in
+    (c .before .before .before .before .before .before .before .before .before .before .before .before .before .before .before .before .before .before .before .before .pre .2 .later, t, c .before .before .before .before .before .before .before .before .loop .inv .1 t)
 
 loop-again : tie.Need-loop-again Inv-loop μ-loop
 loop-again c =
     let m = c .before .before .before .before .before .before in
     let l = m .before .before .before .loop in
     let t = m .before .before .loop-test .taken in
-    walk-next _ _ _ _ _ (c .next-of-rule2 .ensures) (omega arith) _ _ _ _ _
+    walk-next _ _ _ _ _ (c .next-of .ensures) (omega arith) _ _ _ _ _
     (walk-on _ _ _ (l .r) _ _ (l .inv .2) _ (of-rule _ _ _ _ (l .inv .1 t)) _ _ (m .note-production .ensures) _ (c .before .before .m .given .1))
 
 same-length : tie.Need-same-length Inv-loop μ-loop
@@ -51,7 +66,7 @@ returns c =
 loop-less : tie.Need-loop-less Inv-loop μ-loop
 loop-less c =
     let m = c .before .before .before .before .before .before in
-    next-less _ _ (m .before .before .before .loop .r) _ _ (c .next-of-rule2 .ensures) (m .before .before .loop-test .taken)
+    next-less _ _ (m .before .before .before .loop .r) _ _ (c .next-of .ensures) (m .before .before .loop-test .taken)
 
 same-length-2 : tie.Need-same-length-2 Inv-loop μ-loop
 same-length-2 c = walked-length _ _ _ _ _ (c .before .loop .inv .2)
@@ -68,12 +83,11 @@ note-rule-spec =
     (tie.spec
     Inv-loop
     μ-loop
-    (λ c κs. search needs)
+    first-ready
     loop-holds
-    (λ c κs. search needs)
+    production-ready
     (λ c. search needs)
-    (λ c. search needs)
-    (λ c κs. search needs)
+    next-ready
     loop-less
     loop-again
     (λ c. search needs)

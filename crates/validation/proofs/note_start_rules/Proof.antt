@@ -13,7 +13,7 @@ start-ready c κs = rw (c .before .rows-of3 .ensures) (c .before .before .before
 rules-ready : tie.Need-note-rules-requires
 rules-ready c κs =
     let given = c .before .before .before .before .before .before .before .before .before .before .before .before .before .before .before .before .before .before .before .before .before .before .pre in
-    rw (c .before .before .before .before .before .before .before .before .before .before .before .before .rows-of .ensures, c .before .before .before .before .before .before .before .before .before .before .rows-of3 .ensures) (given .tokens, given .rules)
+    rw (c .before .before .before .before .before .before .before .before .before .before .before .before .rows-of .ensures, c .before .before .before .before .before .before .before .before .before .before .rows-of3 .ensures, c .before .before .before .before .before .before .before .before .before .rows-of4 .ensures) (given .tokens, given .symbols)
 
 same-length : tie.Need-same-length
 same-length c = walked-length _ _ _ _ _ (c .before .before .note-rules .ensures) ∙ walked-length _ _ _ _ _ (c .before .before .before .before .before .before .before .before .before .note .ensures)

@@ -1,7 +1,7 @@
 -- `validation::validate` meets its contract: soundness first, then the first fault. Assumes nothing.
 use mathlib.Core.Path.{_∙_}
 use borrow.Author.Needs.{needs}
-use Rattle.validation.proofs.Laws.{sound-names, unsound, sound}
+use Rattle.validation.proofs.Laws.{tested-walkable, unsound, sound}
 use Rattle.validation.proofs.validate.Statement.{statement}
 use Rattle.validation.proofs.validate.Tie as tie
 
@@ -11,5 +11,5 @@ validate-spec =
     (tie.spec
     (λ c κs. search needs)
     (λ c. unsound _ _ _ _ _ _ (c .before .sound .ensures) (c .if1 .taken))
-    (λ c κs. sound-names _ _ _ _ _ _ (c .before .sound .ensures) (c .if1 .left))
+    (λ c κs. tested-walkable _ _ _ _ _ _ (c .before .sound .ensures) (c .if1 .left))
     (λ c. c .find-fault .ensures ∙ sound _ _ _ _ _ _ (c .before .before .sound .ensures) (c .before .if1 .left)))

@@ -1,4 +1,4 @@
--- `validation::note_rules` meets its contract: the faults of the rules so far are noted. Assumes nothing.
+-- `validation::note_linked` meets its contract: the faults of the rules so far are noted. Assumes nothing.
 use Prim.Native.Nat.{_≤_, _-_}
 use mathlib.Core.Path.{_≡_, refl, _∙_}
 use native.Mathlib.Omega.{arith}
@@ -7,14 +7,14 @@ use Rattle.validation.specs.Faults.{upto, ruleFaults, rulesFaults}
 use Rattle.validation.specs.Walk.{noted}
 use Rattle.validation.specs.declared.Walk.the-variants.{NextRow}
 use Rattle.validation.proofs.Noted.{walked, walked-length, walk-start, walk-on, walk-over, walk-all}
-use Rattle.validation.proofs.note_rules.Statement.{statement}
-use Rattle.validation.proofs.note_rules.Tie as tie
+use Rattle.validation.proofs.note_linked.Statement.{statement}
+use Rattle.validation.proofs.note_linked.Tie as tie
 
 abbrev Inv-loop : tie.InvT-loop
-Inv-loop src t1 tokens t2 precedences t7 rules t8 t9 n i1 i7 at t14₀ next₀ k₀ t14 next k = (k ≤ rules) × (walked (NextRow next) t14 ≡ noted (upto k (ruleFaults src t1 tokens t2 precedences t7 rules t8 t9 n)) at t14₀)
+Inv-loop src t1 tokens t2 precedences t7 rules t8 t9 n i1 heads nexts at t14₀ next₀ k₀ t14 next k = (k ≤ rules) × (walked (NextRow next) t14 ≡ noted (upto k (ruleFaults src t1 tokens t2 precedences t7 rules t8 t9 n)) at t14₀)
 
 abbrev μ-loop : tie.MeasureT-loop
-μ-loop src t1 tokens t2 precedences t7 rules t8 t9 n i1 i7 at t14₀ next₀ k₀ t14 next k = rules - k
+μ-loop src t1 tokens t2 precedences t7 rules t8 t9 n i1 heads nexts at t14₀ next₀ k₀ t14 next k = rules - k
 
 loop-again : tie.Need-loop-again Inv-loop μ-loop
 loop-again c =
@@ -43,8 +43,8 @@ returns-2 c =
     let l = c .before .loop in
     walk-all _ _ _ _ _ _ (l .inv .1) _ (l .inv .0) (c .loop-test .left)
 
-pub note-rules-spec : {M : Type 1} → statement M
-note-rules-spec =
+pub note-linked-spec : {M : Type 1} → statement M
+note-linked-spec =
     tie.close
     (tie.spec
     Inv-loop

@@ -1,14 +1,14 @@
--- `validation::next_of_rule` meets its contract: what is found in the rows that are left is found from the first on. Assumes nothing.
+-- `links::next_of_rule` meets its contract: what is found in the rows that are left is found from the first on. Assumes nothing.
 use Prim.Native.Nat.{_-_}
 use mathlib.Core.Path.{_≡_, refl}
 use native.Mathlib.Omega.{arith}
 use borrow.Author.Needs.{needs}
 use Rattle.tables.specs.Table.{firstRow}
 use Rattle.tables.proofs.Laws.{first-hit, first-on, first-end}
-use Rattle.validation.specs.Walk.{isOfRule}
-use Rattle.validation.proofs.Laws.{is-of-rule, is-of-other, next-is}
-use Rattle.validation.proofs.next_of_rule.Statement.{statement}
-use Rattle.validation.proofs.next_of_rule.Tie as tie
+use Rattle.links.specs.Links.{isOfRule}
+use Rattle.links.proofs.Laws.{is-of-rule, is-of-other, next-is}
+use Rattle.links.proofs.next_of_rule.Statement.{statement}
+use Rattle.links.proofs.next_of_rule.Tie as tie
 
 abbrev Inv-loop : tie.InvT-loop
 Inv-loop t8 from n k r₀ r = firstRow (isOfRule t8 k) (n - r) r ≡ firstRow (isOfRule t8 k) (n - from) from
