@@ -3,7 +3,7 @@
  *
  * A slice is a pointer and a length, the length counted in elements. A pointer is never null, also where the length is 0, and no memory that a
  * function writes overlaps any other that it is lent. That is all a caller owes: every function takes any bytes, numbers and lengths, and ends. It
- * keeps nothing, allocates nothing, and touches nothing but what it is lent.
+ * keeps nothing, allocates nothing, and touches nothing but what it is lent and the stack, of which it takes less than half a megabyte.
  *
  * Places are byte offsets into the source, half open: from, to. */
 #ifndef QUILTRUDDER_H
