@@ -65,8 +65,8 @@ next-less t8 k r n q e h =
     omega (arith, e, x .0)
 
 -- all cells stored as one value
-pub filled : (v i : ℕ) (t : List ℕ) → i ≤ length t → length t ≤ i → replicate i v ++ drop i t ≡ replicate (length t) v
-filled v i t h k =
+pub all-filled : (v i : ℕ) (t : List ℕ) → i ≤ length t → length t ≤ i → replicate i v ++ drop i t ≡ replicate (length t) v
+all-filled v i t h k =
     let e : i ≡ length t = omega arith in
     rw (drop-of-length-le t k, append-nil, e)
 

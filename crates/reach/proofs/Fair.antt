@@ -19,7 +19,7 @@ use Rattle.grammar.specs.declared.Counts.{Counts}
 use Rattle.grammar.specs.declared.Singles.{Singles}
 use Rattle.grammar.specs.Sound.{Indexes, Tables, Sound, Differ, lexiconOf}
 use Rattle.sound.specs.Test.{countAt}
-use Rattle.reach.specs.Reach.{Named, Calls, Apart, Told, net, grammarOf, named, ruleSort, tokenSort, Fair}
+use Rattle.reach.specs.Reach.{Named, Calls, Apart, Informed, net, grammarOf, named, ruleSort, tokenSort, Fair}
 
 -- rows whose names are pairwise different have no name in common
 module _ (src : List ℕ) (d : Named) (two : 1 < d .sort .wide) (differ : (q r : ℕ) → q < r → r < d .sort .count → Differ src (rowAt (d .sort .wide) (d .cells) q) (rowAt (d .sort .wide) (d .cells) r)) where
@@ -67,7 +67,7 @@ module _ (src : List ℕ) (c : Counts) (g : Singles) (T : Tables) (X : Indexes) 
   symbol-in : (p i : ℕ) → p < countAt c productions → i < cell (width productions) (T .t8) p symbolsTo → i < countAt c symbols
   symbol-in p i h l = omega (arith, chained-inside (width productions) symbolsFrom symbolsTo (countAt c productions) (T .t8) (countAt c symbols) (s .ranges) p h (omega arith))
 
-  told : (d : Named) → (d ≡ named (T .t7) (ruleSort c)) ⊎ (d ≡ named (T .t1) (tokenSort c)) → Told (net src c (T .t8) (T .t9)) d
+  told : (d : Named) → (d ≡ named (T .t7) (ruleSort c)) ⊎ (d ≡ named (T .t1) (tokenSort c)) → Informed (net src c (T .t8) (T .t9)) d
   told d w p i h l k = record {
     calls = λ n. symbol-calls d w i (symbol-in p i h l) k _ .1 (refl, n);
     only = λ r x. symbol-calls d w i (symbol-in p i h l) k r .0 x .0;

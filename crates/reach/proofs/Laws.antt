@@ -20,7 +20,7 @@ use Rattle.tables.proofs.Cases.{find-iff, none-iff}
 use Rattle.grammar.specs.declared.Part.{Part}
 use Rattle.grammar.specs.declared.Part.the-variants.{Absent, At}
 use Rattle.reach.specs.declared.Sort.{Sort}
-use Rattle.reach.specs.Reach.{Named, Net, Calls, Begins, Apart, Grew, Adds, Added, Fits, Called, Knowing, Told, InRow, Among, Held, HeldPrec, Within, Visited}
+use Rattle.reach.specs.Reach.{Named, Net, Calls, Begins, Apart, Grew, Adds, Added, Fits, Called, Knowing, Informed, InRow, Among, Held, HeldPrec, Within, Visited}
 
 -- ---- what a step adds, and whether something is new
 
@@ -187,7 +187,7 @@ module _ (g : Net) (d : Named) (p rule : ℕ) (e : rule ≡ cell (width producti
   rule-unmarked ws b t h =
       added-none ws (λ k q. absurd (omega (arith, q .marked, ap (bit ws) e, is-zero ws rule b t h)))
 
-  pub rule-marked : (ws vs : List ℕ) (from to : ℕ) (b r : Bool) → Told g d → p < g .count → b ≡ eqb (bit ws rule) 1 → b ≡ true → from ≡ cell (width productions) (g .prods) p symbolsFrom → to ≡ cell (width productions) (g .prods) p symbolsTo
+  pub rule-marked : (ws vs : List ℕ) (from to : ℕ) (b r : Bool) → Informed g d → p < g .count → b ≡ eqb (bit ws rule) 1 → b ≡ true → from ≡ cell (width productions) (g .prods) p symbolsFrom → to ≡ cell (width productions) (g .prods) p symbolsTo
       → Added (InRow (g .syms) (d .sort) from to) ws vs r → Added (Held g d ws p) ws vs r
   rule-marked ws vs from to b r told there t h ef et x =
       let on : bit ws (cell (width productions) (g .prods) p ruleRow) ≡ 1 = sym (ap (bit ws) e) ∙ is-one ws rule b t h in

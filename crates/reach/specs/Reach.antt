@@ -144,15 +144,15 @@ pub record Knowing (src ss : List ℕ) (d : Named) (s : ℕ) : Type 0 where
   pub only : (r : ℕ) → Calls src d (cell (width symbols) ss s kindName) (cell (width symbols) ss s (kindName + 1)) r → cell (width symbols) ss s knownRow ≡ r
 
 -- the symbols of all productions do that are of the sort
-abbrev pub Told : Net → Named → Type 0
-Told g d = (p s : ℕ) → p < g .count → s < cell (width productions) (g .prods) p symbolsTo → cell (width symbols) (g .syms) s 0 ≡ d .sort .kind → Knowing (g .src) (g .syms) d s
+abbrev pub Informed : Net → Named → Type 0
+Informed g d = (p s : ℕ) → p < g .count → s < cell (width productions) (g .prods) p symbolsTo → cell (width symbols) (g .syms) s 0 ≡ d .sort .kind → Knowing (g .src) (g .syms) d s
 
 pub record Fair (g : Grammar) : Type 0 where
   pub rules-apart : Apart (g .net .src) (g .rules)
   pub tokens-apart : Apart (g .net .src) (g .tokens)
   pub owned : Owned (g .net) (g .rules .sort .count)
-  pub rules-told : Told (g .net) (g .rules)
-  pub tokens-told : Told (g .net) (g .tokens)
+  pub rules-told : Informed (g .net) (g .rules)
+  pub tokens-told : Informed (g .net) (g .tokens)
 
 -- ---- what the steps promise
 

@@ -10,7 +10,7 @@ ghost use Rattle.bits.specs.Bits.{bit};
 ghost use Rattle.tables.specs.Layout.{tokens, rules, productions, width};
 ghost use Rattle.sound.specs.Test.{countAt};
 ghost use Rattle.index.specs.Index.{Indexed};
-ghost use Rattle.reach.specs.Reach.{wordsFor, ruleSort, tokenSort, named, net, grammarOf, Begins, Apart, Owned, Fair, Adds, Added, Fits, Called, InRow, Told, Held, HeldPrec, Swept, Within, Done, Visited, Spread, TokenOf, Marks};
+ghost use Rattle.reach.specs.Reach.{wordsFor, ruleSort, tokenSort, named, net, grammarOf, Begins, Apart, Owned, Fair, Adds, Added, Fits, Called, InRow, Informed, Held, HeldPrec, Swept, Within, Done, Visited, Spread, TokenOf, Marks};
 
 // One sort of rows: its code, the width of its rows, their count, and the bit of row 0.
 pub struct Sort {
@@ -121,7 +121,7 @@ fn mark_production(
     syms: &[u32],
     p: u32,
 ) -> bool
-    requires { ⌜ Fits z (now w) × Told (net (now src) c (now prods) (now syms)) (named (now names) z) × (p < countAt c productions) ⌝ }
+    requires { ⌜ Fits z (now w) × Informed (net (now src) c (now prods) (now syms)) (named (now names) z) × (p < countAt c productions) ⌝ }
     ensures { λ r. ⌜ Added (Held (net (now (src .entry)) c (now (prods .entry)) (now (syms .entry))) (named (now (names .entry)) z) (now (w .entry)) p) (now (w .entry)) (now (w .exit)) r ⌝ }
 {
     let wide = tables::PRODUCTION_WIDTH;
@@ -189,7 +189,7 @@ fn visit(
     syms: &[u32],
     p: u32,
 ) -> bool
-    requires { ⌜ Fits z (now w) × Told (net (now src) c (now prods) (now syms)) (named (now names) z) × (p < countAt c productions) ⌝ }
+    requires { ⌜ Fits z (now w) × Informed (net (now src) c (now prods) (now syms)) (named (now names) z) × (p < countAt c productions) ⌝ }
     ensures { λ r. ⌜ Visited (net (now (src .entry)) c (now (prods .entry)) (now (syms .entry))) (named (now (names .entry)) z) (now (done .entry)) p (now (w .entry)) (now (w .exit)) r ⌝ }
 {
     let rule = tables::cell(prods, tables::PRODUCTION_WIDTH, p, tables::RULE_ROW);
@@ -209,7 +209,7 @@ fn sweep(
     prods: &[u32],
     syms: &[u32],
 ) -> bool
-    requires { ⌜ Fits (ruleSort c) (now w) × Told (net (now src) c (now prods) (now syms)) (named (now rules) (ruleSort c)) × Done (net (now src) c (now prods) (now syms)) (named (now rules) (ruleSort c)) (now done) (now w) ⌝ }
+    requires { ⌜ Fits (ruleSort c) (now w) × Informed (net (now src) c (now prods) (now syms)) (named (now rules) (ruleSort c)) × Done (net (now src) c (now prods) (now syms)) (named (now rules) (ruleSort c)) (now done) (now w) ⌝ }
     ensures { λ r. ⌜ Swept (net (now (src .entry)) c (now (prods .entry)) (now (syms .entry))) (named (now (rules .entry)) (ruleSort c)) (now (w .entry)) (now (w .exit)) r ⌝ }
 {
     let z = rule_sort(c);
@@ -234,7 +234,7 @@ fn round(
     prods: &[u32],
     syms: &[u32],
 ) -> bool
-    requires { ⌜ Fits (ruleSort c) (now w) × Told (net (now src) c (now prods) (now syms)) (named (now rules) (ruleSort c)) × Done (net (now src) c (now prods) (now syms)) (named (now rules) (ruleSort c)) (now done) (now w) ⌝ }
+    requires { ⌜ Fits (ruleSort c) (now w) × Informed (net (now src) c (now prods) (now syms)) (named (now rules) (ruleSort c)) × Done (net (now src) c (now prods) (now syms)) (named (now rules) (ruleSort c)) (now done) (now w) ⌝ }
     ensures { λ r. ⌜ Swept (net (now (src .entry)) c (now (prods .entry)) (now (syms .entry))) (named (now (rules .entry)) (ruleSort c)) (now (w .entry)) (now (w .exit)) r × Done (net (now (src .entry)) c (now (prods .entry)) (now (syms .entry))) (named (now (rules .entry)) (ruleSort c)) (now (done .exit)) (now (w .exit)) ⌝ }
 {
     let mut before = [0u32; 512];
@@ -246,7 +246,7 @@ fn round(
 
 // Passes until no mark is new. Rows past 16,384 are never done, which costs time alone: no source has so many rules.
 fn spread(w: &mut [u32], src: &[u8], c: Counts, rules: &[u32], prods: &[u32], syms: &[u32])
-    requires { ⌜ Fits (ruleSort c) (now w) × Told (net (now src) c (now prods) (now syms)) (named (now rules) (ruleSort c)) ⌝ }
+    requires { ⌜ Fits (ruleSort c) (now w) × Informed (net (now src) c (now prods) (now syms)) (named (now rules) (ruleSort c)) ⌝ }
     ensures { λ r. ⌜ Spread (net (now (src .entry)) c (now (prods .entry)) (now (syms .entry))) (named (now (rules .entry)) (ruleSort c)) (now (w .entry)) (now (w .exit)) ⌝ }
 {
     let mut done = [0u32; 512];
@@ -263,7 +263,7 @@ fn mark_tokens(
     prods: &[u32],
     syms: &[u32],
 )
-    requires { ⌜ Fits (tokenSort c) (now w) × Apart (now src) (named (now tokens) (tokenSort c)) × Told (net (now src) c (now prods) (now syms)) (named (now tokens) (tokenSort c)) × Owned (net (now src) c (now prods) (now syms)) (ruleSort c .count) × Indexed (now src) (tokenSort c .wide) 0 (tokenSort c .count) (now tokens) (now ix) ⌝ }
+    requires { ⌜ Fits (tokenSort c) (now w) × Apart (now src) (named (now tokens) (tokenSort c)) × Informed (net (now src) c (now prods) (now syms)) (named (now tokens) (tokenSort c)) × Owned (net (now src) c (now prods) (now syms)) (ruleSort c .count) × Indexed (now src) (tokenSort c .wide) 0 (tokenSort c .count) (now tokens) (now ix) ⌝ }
     ensures { λ r. ⌜ Adds (TokenOf (net (now (src .entry)) c (now (prods .entry)) (now (syms .entry))) (named (now (tokens .entry)) (tokenSort c)) (now (w .entry))) (now (w .entry)) (now (w .exit)) ⌝ }
 {
     let z = token_sort(c);

@@ -6,7 +6,7 @@ use native.Mathlib.Omega.{arith}
 use lib.ListN.{length, set, drop, replicate, length-set}
 use borrow.Author.Needs.{needs}
 use borrow.Author.Fill.{fill-none, fill-more}
-use Rattle.links.proofs.Laws.{filled}
+use Rattle.links.proofs.Laws.{all-filled}
 use Rattle.links.proofs.fill.Statement.{statement}
 use Rattle.links.proofs.fill.Tie as tie
 
@@ -25,7 +25,7 @@ loop-again c =
 returns : tie.Need-returns Inv-loop μ-loop
 returns c =
     let l = c .before .loop in
-    l .inv .2 ∙ filled _ (l .i) _ (omega arith) (omega arith)
+    l .inv .2 ∙ all-filled _ (l .i) _ (omega arith) (omega arith)
 
 pub fill-spec : {M : Type 1} → statement M
 fill-spec =
