@@ -1,6 +1,6 @@
-//! Times the crate against the library, in one process: parse, `complete_and_validate` and `unused_symbols` against read, validate and report.
-//! bench KIND:FILE.. prints, for each file, the best of several runs of each in microseconds, of parse and read alone and of all three, the ratio, and for a file that follows its half the growth of both; tables are
-//! lent with a row more than the reading needs and the smallest indexes that go with them, and are cleared by `read` itself, which counts.
+//! Times the crate against the library, in one process: parse, `complete_and_validate` and `unused_symbols` against load and report.
+//! bench KIND:FILE.. prints, for each file, the best of several runs of each in microseconds, of parse and `complete_and_validate` against load and of all of it, the ratio, and for a file that follows its half the growth of both; tables are
+//! lent with a row more than the reading needs and the smallest indexes that go with them, and are cleared by `load` itself, which counts.
 
 mod header;
 mod span;
@@ -31,30 +31,27 @@ type P = *const u32;
 
 #[rustfmt::skip]
 unsafe extern "C" {
-    fn quiltrudder_read(src: *const u8, len: usize, kind: u32, a: P, an: usize, b: P, bn: usize, c: P, cn: usize, d: P, dn: usize, e: P, en: usize,
-        f: P, fn_: usize, g: P, gn: usize, h: P, hn: usize, i: P, in_: usize, j: P, jn: usize, k: P, kn: usize, l: P, ln: usize, answer: *mut u32);
-    fn quiltrudder_validate(src: *const u8, len: usize, reading: *const u32, a: P, an: usize, b: P, bn: usize, c: P, cn: usize, d: P, dn: usize, e: P, en: usize,
+    fn quiltrudder_load(src: *const u8, len: usize, kind: u32, a: P, an: usize, b: P, bn: usize, c: P, cn: usize, d: P, dn: usize, e: P, en: usize,
         f: P, fn_: usize, g: P, gn: usize, h: P, hn: usize, i: P, in_: usize, j: P, jn: usize, k: P, kn: usize, l: P, ln: usize, answer: *mut u32);
     fn quiltrudder_report(src: *const u8, len: usize, reading: *const u32, a: P, an: usize, b: P, bn: usize, c: P, cn: usize, d: P, dn: usize, e: P, en: usize,
         f: P, fn_: usize, g: P, gn: usize, h: P, hn: usize, i: P, in_: usize, j: P, jn: usize, k: P, kn: usize, l: P, ln: usize, work: *mut u32, wn: usize, out: *mut u32, on: usize, answer: *mut u32);
 }
 
-fn read(kind: u32, src: &[u8], t: &mut Lent) -> u32 {
+fn load(kind: u32, src: &[u8], t: &mut Lent) -> u32 {
     let mut o = [0u32; 38];
-    unsafe { lent!(quiltrudder_read t (src.as_ptr(), src.len(), kind) (o.as_mut_ptr())) };
+    unsafe { lent!(quiltrudder_load t (src.as_ptr(), src.len(), kind) (o.as_mut_ptr())) };
     o[0]
 }
 
-fn ours(kind: u32, src: &[u8], t: &mut Lent, work: &mut [u32], out: &mut [u32]) -> (u32, u32, u32, u32) {
-    let (mut o, mut v, mut r) = ([0u32; 38], [0u32; 4], [0u32; 6]);
+fn ours(kind: u32, src: &[u8], t: &mut Lent, work: &mut [u32], out: &mut [u32]) -> (u32, u32, u32) {
+    let (mut o, mut r) = ([0u32; 38], [0u32; 6]);
     unsafe {
-        lent!(quiltrudder_read t (src.as_ptr(), src.len(), kind) (o.as_mut_ptr()));
+        lent!(quiltrudder_load t (src.as_ptr(), src.len(), kind) (o.as_mut_ptr()));
         if o[0] == 0 {
-            lent!(quiltrudder_validate t (src.as_ptr(), src.len(), o.as_ptr()) (v.as_mut_ptr()));
             lent!(quiltrudder_report t (src.as_ptr(), src.len(), o.as_ptr()) (work.as_mut_ptr(), work.len(), out.as_mut_ptr(), out.len(), r.as_mut_ptr()));
         }
     }
-    (o[0], v[0], r[0], r[4])
+    (o[0], r[0], r[4])
 }
 
 fn which(kind: u32) -> YaccKind {
@@ -65,8 +62,11 @@ fn which(kind: u32) -> YaccKind {
     }
 }
 
-fn parse(kind: u32, src: &str) -> bool {
-    YaccParser::new(which(kind), src).parse().is_ok()
+fn validated(kind: u32, src: &str) -> bool {
+    let mut parser = YaccParser::new(which(kind), src);
+    let read = parser.parse().is_ok();
+    let mut ast = parser.build();
+    read && ast.complete_and_validate().is_ok()
 }
 
 fn crates(kind: u32, src: &str) -> (bool, bool, usize) {
@@ -95,7 +95,7 @@ fn best(mut f: impl FnMut()) -> f64 {
 }
 
 fn main() {
-    println!("| Source | Bytes | parse, µs | read, µs | read / parse | growth from half, parse | read | crate, µs | library, µs | library / crate | growth from half, crate | library |");
+    println!("| Source | Bytes | parse and validate, µs | load, µs | load / crate | growth from half, crate | load | crate, µs | library, µs | library / crate | growth from half, crate | library |");
     println!("|---|---|---|---|---|---|---|---|---|---|---|---|");
     let mut half = (String::new(), [0.0; 4]);
     for word in std::env::args().skip(1) {
@@ -114,13 +114,13 @@ fn main() {
         for (k, of) in [(10, 0), (11, 6)] {
             t[k].truncate((2 * (t[of].len() / WIDTH[of])).next_power_of_two());
         }
-        let agree = a.0 == (b.0 == 0) && (!a.0 || a.1 == (b.1 == 0)) && (!a.1 || a.2 as u32 == b.3);
+        let agree = (a.0 && a.1) == (b.0 == 0) && (!a.1 || a.2 as u32 == b.2);
         let times = [
             best(|| {
-                std::hint::black_box(parse(kind, &src));
+                std::hint::black_box(validated(kind, &src));
             }),
             best(|| {
-                std::hint::black_box(read(kind, src.as_bytes(), &mut t));
+                std::hint::black_box(load(kind, src.as_bytes(), &mut t));
             }),
             best(|| {
                 std::hint::black_box(crates(kind, &src));
@@ -138,5 +138,5 @@ fn main() {
         println!("| {name}{} | {} | {} | {} |", if agree { "" } else { " (ANSWERS DIFFER)" }, src.len(), pair(0), pair(2));
         half = (name.to_string(), times);
     }
-    println!("\nTables are lent as the last call left them, with a row more than the reading needs; read clears them itself, and that counts.");
+    println!("\nTables are lent as the last call left them, with a row more than the reading needs; load clears them itself, and that counts.");
 }

@@ -136,9 +136,9 @@ int main(int argc, char **argv) {
             for (size_t i = 0; i < n[k]; i++) t[k][i] = 0xdeadbeef;
         }
         lend_indexes();
-        quiltrudder_read(src, len, kind, TABLES, o);
+        quiltrudder_load(src, len, kind, TABLES, o);
         int fatal = is_fatal();
-        printf("input %ld %u %u\nread %u %u %u", index, kind, len, o[0], o[1], o[2]);
+        printf("input %ld %u %u\nload %u %u %u", index, kind, len, o[0], o[1], o[2]);
         if (o[0] == 42) printf(" %u", o[3]);
         printf("\n");
         errors();

@@ -41,7 +41,7 @@ static void lend_indexes(void) {
     }
 }
 
-/* Whether the read stopped early. */
+/* Whether the reading stopped early. */
 static int is_fatal(void) { return (o[0] >= 1 && o[0] <= 19) || o[0] >= 40; }
 
 #endif

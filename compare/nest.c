@@ -1,4 +1,4 @@
-/* nest BOX: reads every input of a box by the C name and looks whether places nest in each full reading, as request Fourteen says it in its strict form. Its last line counts the readings, their
+/* nest BOX: loads every input of a box by the C name and looks whether places nest in each full reading, as request Fourteen says it in its strict form. Its last line counts the readings, their
    productions, symbols and actions, and what is out of place. */
 #include "lent.h"
 
@@ -38,7 +38,7 @@ int main(int argc, char **argv) {
             t[k] = malloc(n[k] * sizeof **t);
         }
         lend_indexes();
-        quiltrudder_read(src, len, kind, TABLES, o);
+        quiltrudder_load(src, len, kind, TABLES, o);
         if (!is_fatal()) {
             uint32_t end = 0;
             readings++;

@@ -1,4 +1,4 @@
-/* embed KIND FILE: reads a specification, validates it, and prints the rules and tokens that nothing uses; or the answer that refuses it, and every fault
+/* embed KIND FILE: loads a specification and prints the rules and tokens that nothing uses; or the answer that refuses it, and every fault
    of a file that does not validate. */
 #include <stdio.h>
 #include <stdlib.h>
@@ -49,7 +49,6 @@ static void print_faults(size_t length, const uint32_t *reading)
 int main(int count, char **args)
 {
     uint32_t reading[QUILTRUDDER_READING_CELLS];
-    uint32_t validity[QUILTRUDDER_VALIDITY_CELLS];
     uint32_t listing[QUILTRUDDER_LISTING_CELLS];
     FILE *file = count == 3 ? fopen(args[2], "rb") : NULL;
 
@@ -60,15 +59,10 @@ int main(int count, char **args)
     size_t length = fread(src, 1, sizeof src, file);
     fclose(file);
 
-    quiltrudder_read(src, length, (uint32_t)atoi(args[1]), TABLES, reading);
+    quiltrudder_load(src, length, (uint32_t)atoi(args[1]), TABLES, reading);
     if (reading[QUILTRUDDER_NUMBER] != 0) {
         print_answer(reading);
-        return 0;
-    }
-    quiltrudder_validate(src, length, reading, TABLES, validity);
-    if (validity[QUILTRUDDER_NUMBER] != 0) {
-        print_answer(validity);
-        print_faults(length, reading);
+        if (reading[QUILTRUDDER_NUMBER] >= QUILTRUDDER_NO_START_RULE && reading[QUILTRUDDER_NUMBER] <= QUILTRUDDER_UNKNOWN_EPP) print_faults(length, reading);
         return 0;
     }
     quiltrudder_report(src, length, reading, TABLES, WHOLE(work), WHOLE(out), listing);

@@ -1,4 +1,4 @@
-//! embed KIND FILE: reads a specification, validates it, and prints the rules and tokens that nothing uses; or the answer that refuses it, and every fault of a
+//! embed KIND FILE: loads a specification and prints the rules and tokens that nothing uses; or the answer that refuses it, and every fault of a
 //! file that does not validate.
 
 /// Quiltrudder for Rust. Every function of the library takes any bytes, numbers and lengths, so the wrapper tests nothing: it makes the slices, and
@@ -31,7 +31,7 @@ mod quiltrudder {
             };
         }
         declare! {
-            quiltrudder_read(kind: u32; *mut u32; answer: *mut [u32; 38]);
+            quiltrudder_load(kind: u32; *mut u32; answer: *mut [u32; 38]);
             quiltrudder_validate(reading: *const [u32; 38]; *const u32; answer: *mut [u32; 4]);
             quiltrudder_faults(reading: *const [u32; 38]; *const u32; t14: *mut u32, t14_length: usize, answer: *mut [u32; 6]);
             quiltrudder_report(reading: *const [u32; 38]; *const u32; work: *mut u32, work_length: usize, out: *mut u32, out_length: usize, answer: *mut [u32; 6]);
@@ -98,13 +98,13 @@ mod quiltrudder {
         }};
     }
 
-    /// Reads a source of kind 1, 2 or 3, with room for so many rows in each table, and indexes that are large enough.
-    pub fn read(src: &[u8], kind: u32, rows: usize) -> Reading<'_> {
+    /// Reads a source of kind 1, 2 or 3 and validates what was read, with room for so many rows in each table, and indexes that are large enough.
+    pub fn load(src: &[u8], kind: u32, rows: usize) -> Reading<'_> {
         let mut cells = [0; 38];
         let slots = (2 * rows).next_power_of_two();
         let lengths = WIDTHS.map(|width| rows * width).into_iter().chain([slots, slots]);
         let mut lent: [Vec<u32>; 12] = lengths.map(|length| vec![0; length]).collect::<Vec<_>>().try_into().unwrap();
-        call!(quiltrudder_read, src, (kind), &mut lent, as_mut_ptr, (&mut cells));
+        call!(quiltrudder_load, src, (kind), &mut lent, as_mut_ptr, (&mut cells));
         Reading { src, cells, lent }
     }
 
@@ -118,6 +118,7 @@ mod quiltrudder {
             self.cells[3 + table]
         }
 
+        /// Validation by itself, as for tables from elsewhere.
         pub fn validate(&self) -> Answer {
             let mut cells = [0; 4];
             call!(quiltrudder_validate, self.src, (&self.cells), &self.lent, as_ptr, (&mut cells));
@@ -188,22 +189,21 @@ fn print_answer(a: Answer) {
 }
 
 fn print_report(src: &[u8], kind: u32) {
-    let reading = quiltrudder::read(src, kind, 1024);
-    if reading.answer().number != 0 {
-        return print_answer(reading.answer());
-    }
-    let validity = reading.validate();
-    if validity.number != 0 {
-        print_answer(validity);
-        for fault in reading.faults().unwrap_or_default() {
-            println!("fault {} {} {}", fault.number, fault.from, fault.to);
+    let reading = quiltrudder::load(src, kind, 1024);
+    let answer = reading.answer();
+    if answer.number != 0 {
+        print_answer(answer);
+        if (30..=35).contains(&answer.number) {
+            for fault in reading.faults().unwrap_or_default() {
+                println!("fault {} {} {}", fault.number, fault.from, fault.to);
+            }
         }
         return;
     }
     match reading.report() {
         Err(refused) => print_answer(refused),
         Ok(unused) => {
-            print_answer(reading.answer());
+            print_answer(answer);
             for row in unused {
                 let (word, (from, to)) = match row {
                     Unused::Rule(r) => ("rule", reading.name_place(7, r)),
@@ -229,12 +229,12 @@ fn main() {
 
 #[cfg(test)]
 mod tests {
-    use super::quiltrudder::read;
+    use super::quiltrudder::load;
 
     #[test]
     fn names_are_parts_of_the_source() {
         let src = b"%token A%%s:A 'b c';";
-        let reading = read(src, 1, 8);
+        let reading = load(src, 1, 8);
         assert_eq!(reading.validate().number, 0);
         assert_eq!(reading.name(1, 0), b"A");
         assert_eq!(reading.name(1, 1), b"b c");
@@ -246,7 +246,7 @@ mod tests {
     #[test]
     fn values_are_without_quotes_and_escapes() {
         let src = b"%epp A \"x\\\"y\"%%s:'A';";
-        let reading = read(src, 1, 8);
+        let reading = load(src, 1, 8);
         assert_eq!(reading.rows(5), 1);
         assert_eq!(reading.epp_value(0).unwrap(), b"x\"y");
         assert_eq!(reading.epp_value(1).unwrap_err().number, 44);
@@ -255,14 +255,14 @@ mod tests {
     #[test]
     fn faults_are_listed_in_the_order_of_the_tests() {
         let src = b"%start q%%s:x %prec P;";
-        let numbers: Vec<u32> = read(src, 1, 8).faults().unwrap().iter().map(|fault| fault.number).collect();
+        let numbers: Vec<u32> = load(src, 1, 8).faults().unwrap().iter().map(|fault| fault.number).collect();
         assert_eq!(numbers, [31, 34, 32]);
-        assert!(read(b"%%s:;", 1, 8).faults().unwrap().is_empty());
+        assert!(load(b"%%s:;", 1, 8).faults().unwrap().is_empty());
     }
 
     #[test]
     fn a_table_without_room_is_named() {
-        let full = read(b"%%s:'a';", 1, 0).answer();
+        let full = load(b"%%s:'a';", 1, 0).answer();
         assert_eq!((full.number, full.table), (42, 7));
     }
 }

@@ -1,5 +1,5 @@
-/* Quiltrudder for C: reading a Yacc specification, validating what was read, the list of all its faults, the unused report, the name of a row and the value of an
- * `%epp` row. Each function's contract is proved; the comments here say what the contracts say.
+/* Quiltrudder for C: loading a Yacc specification (it is read, and what was read is validated), validating tables from elsewhere, the list of all faults, the unused report, the name of a row and
+ * the value of an `%epp` row. Each function's contract is proved; the comments here say what the contracts say.
  *
  * A slice is a pointer and a length, the length counted in elements. A pointer is never null, also where the length is 0, and no memory that a
  * function writes overlaps any other that it is lent. That is all a caller owes: every function takes any bytes, numbers and lengths, and ends. It
@@ -121,14 +121,14 @@ extern "C" {
 #define QUILTRUDDER_COUNT_LOW 4
 #define QUILTRUDDER_COUNT_HIGH 5
 
-/* Reads a source of kind 1, 2 or 3 into the lent tables and indexes, whatever they held. `i1` is the index of table 1 and `i7` that of table 7: slots by which a name is
+/* Reads a source of kind 1, 2 or 3 into the lent tables and indexes, whatever they held, and where that is accepted validates what was read. `i1` is the index of table 1 and `i7` that of table 7: slots by which a name is
  * found, each 0 or a row number plus one.
  *
- * Number 0: accepted, and the place is the end reached, twice. 20 to 27: all of it was read and something was given twice; the place is the
+ * Number 0: read and valid, and the place is the end reached, twice. 30 to 35: all of it was read and it is not valid; the place is validate's, and the tables hold the full reading. 20 to 27: all of it was read and something was given twice; the place is the
  * first one's, table 10 lists the repeats, and the tables hold the full reading. 1 to 19, 40, 41, 43, 45: refused at the place. 42: the table
- * that is named has no room for the row at the place. After a refusal but 20 to 27, tables 1 to 9, both indexes and the counts of 1 to 9 are zero and the singles
+ * that is named has no room for the row at the place. It never answers 44. After a refusal but 20 to 27 and 30 to 35, tables 1 to 9, both indexes and the counts of 1 to 9 are zero and the singles
  * absent, and repeats met before stay listed. */
-void quiltrudder_read(
+void quiltrudder_load(
     const uint8_t *src, size_t src_length,
     uint32_t kind,
     uint32_t *t1, size_t t1_length,
@@ -145,11 +145,11 @@ void quiltrudder_read(
     uint32_t *i7, size_t i7_length,
     uint32_t answer[QUILTRUDDER_READING_CELLS]);
 
-/* The functions below take a reading: the numbers that quiltrudder_read wrote, and the tables and indexes as it left them. Of the numbers they look at the
+/* The functions below take a reading: the numbers that quiltrudder_load wrote, and the tables and indexes as it left them. Of the numbers they look at the
  * counts and the singles only; a flag of 0 is absent, any other is given. They test first whether these are sound, so numbers, tables and indexes
  * made by hand are safe too: where they are not sound, number 44, or for a name an empty place. They change nothing lent but what is named. */
 
-/* Whether a reading is valid, or the first that it lacks: number 0, 30 to 35 or 44, with its place. The fourth number is 0. */
+/* Whether a reading is valid, or the first that it lacks: number 0, 30 to 35 or 44, with its place. The fourth number is 0. For tables from elsewhere: what quiltrudder_load answers 0 for is valid. */
 void quiltrudder_validate(
     const uint8_t *src, size_t src_length,
     const uint32_t reading[QUILTRUDDER_READING_CELLS],

@@ -6,7 +6,7 @@ use grammar::Param;
 use grammar::Part;
 use grammar::Singles;
 use grammar::Told;
-use reader::Verdict;
+use loading::Judgement;
 use usage::Listing;
 use values::Valuation;
 ghost use Rattle.io.specs.Counts.{Counts as Leading};
@@ -468,12 +468,12 @@ fn put_errors(o: &mut [u8], at: usize, told: Told, t10: &[u32], n: u32) -> usize
     put(o, q, b'\n')
 }
 
-// ---- The answer of a read. ----
+// ---- The answer of a load. ----
 
 // A refusal after which tables 1 to 9 are empty.
 fn is_fatal(number: u32) -> bool {
     match number {
-        1..=19 | 40..=43 => true,
+        1..=19 | 40..=43 | 45 => true,
         _ => false,
     }
 }
@@ -509,8 +509,8 @@ fn put_counts(o: &mut [u8], at: usize, c: Counts) -> usize {
     p
 }
 
-fn put_reading(o: &mut [u8], at: usize, told: Told, c: Counts, t10: &[u32]) -> usize {
-    let p = put_answer(o, at, b"read", told);
+fn put_loading(o: &mut [u8], at: usize, told: Told, c: Counts, t10: &[u32]) -> usize {
+    let p = put_answer(o, at, b"load", told);
     let q = put_errors(o, p, told, t10, sound::rows_of(c, tables::REPEATS));
     let r = put_word(o, q, b"counts");
     let s = put_counts(o, r, c);
@@ -1169,7 +1169,7 @@ fn put_validity(
 
 // ---- An input. ----
 
-// What is left to print after a read that came to its end.
+// What is left to print of a full reading.
 fn put_ended(
     o: &mut [u8],
     at: usize,
@@ -1240,7 +1240,7 @@ fn put_outcome(
     o: &mut [u8],
     at: usize,
     src: &[u8],
-    v: Verdict,
+    j: Judgement,
     c: Counts,
     g: Singles,
     t1: &[u32],
@@ -1259,8 +1259,8 @@ fn put_outcome(
     out: &mut [u32],
     value: &mut [u8],
 ) -> usize {
-    let told = numbers::of_verdict(v);
-    let p = put_reading(o, at, told, c, t10);
+    let told = numbers::of_judgement(j);
+    let p = put_loading(o, at, told, c, t10);
     if is_fatal(told.number) {
         return put_repeats(o, p, src, c, t10);
     }
@@ -1309,15 +1309,15 @@ fn dump(
     out: &mut [u32],
     value: &mut [u8],
 ) -> usize {
-    let r = quiltrudder::read(src, kind, t1, t2, t3, t4, t5, t6, t7, t8, t9, t10, i1, i7);
-    let v = r.answer;
+    let r = quiltrudder::load(src, kind, t1, t2, t3, t4, t5, t6, t7, t8, t9, t10, i1, i7);
+    let j = r.answer;
     let c = r.counts;
     let g = r.singles;
     put_outcome(
         o,
         at,
         src,
-        v,
+        j,
         c,
         g,
         t1,

@@ -1,6 +1,6 @@
 // Each operation's answer as document 01's number, place and table number.
 use grammar::Told;
-use reader::Verdict;
+use loading::Judgement;
 use usage::Listing;
 use validation::FaultListing;
 use validation::Flaw;
@@ -9,26 +9,12 @@ use values::Valuation;
 ghost use mathlib.Core.Path.{_≡_};
 ghost use mathlib.Core.List.{List, [], _∷_, _++_};
 ghost use lib.ListN.{take, getD};
-ghost use Rattle.reader.specs.Read.{verdictNumbers};
 ghost use Rattle.validation.specs.Faults.{flawNumbers, validityNumbers};
 ghost use Rattle.validation.specs.Walk.{faultListingNumbers};
 ghost use Rattle.usage.specs.Report.{listingNumbers};
 ghost use Rattle.values.specs.Value.{valuationNumbers};
+ghost use Rattle.loading.specs.Load.{judgementNumbers};
 ghost use Rattle.numbers.specs.Numbers.{toldNumbers};
-
-pub fn of_verdict(v: Verdict) -> Told
-    ensures { λ r. ⌜ toldNumbers r ≡ verdictNumbers v ⌝ }
-{
-    match v {
-        Verdict::Accepted(i) => Told {
-            number: 0,
-            from: i,
-            to: i,
-            table: 0,
-        },
-        Verdict::Rejected(f) => grammar::tell(f),
-    }
-}
 
 pub fn of_flaw(f: Flaw) -> Told
     ensures { λ r. ⌜ toldNumbers r ≡ flawNumbers f ++ (0 ∷ []) ⌝ }
@@ -76,6 +62,21 @@ pub fn of_flaw(f: Flaw) -> Told
             to: b,
             table: 0,
         },
+    }
+}
+
+pub fn of_judgement(j: Judgement) -> Told
+    ensures { λ r. ⌜ toldNumbers r ≡ judgementNumbers j ⌝ }
+{
+    match j {
+        Judgement::Loaded(i) => Told {
+            number: 0,
+            from: i,
+            to: i,
+            table: 0,
+        },
+        Judgement::NotRead(f) => grammar::tell(f),
+        Judgement::NotValid(f) => of_flaw(f),
     }
 }
 

@@ -22,7 +22,7 @@ use Rattle.grammar.specs.declared.Singles.{Singles}
 use Rattle.grammar.specs.declared.Told.{Told}
 use Rattle.grammar.specs.State.{Passed}
 use Rattle.grammar.specs.Sound.{Tables, Indexes, Sound}
-use Rattle.reader.specs.Read.{Result, readAll}
+use Rattle.loading.specs.Load.{LoadResult, loadAll}
 use Rattle.sound.specs.Test.{countAt, soundTest}
 use Rattle.sound.proofs.Iff.{sound-iff}
 use Rattle.validation.specs.declared.Validity.{Validity}
@@ -35,7 +35,7 @@ use Rattle.names.specs.Name.{nowhere, rowPlace, namePlace}
 use Rattle.values.specs.declared.Valuation.{Valuation}
 use Rattle.values.specs.Value.{valuationNumbers, Valued, eppValue}
 use Rattle.numbers.specs.Numbers.{toldNumbers}
-use Rattle.quiltrudder.specs.Face.{halves, readingNumbers, ReadFace, readFaceOf, readFace, countsOf, partOf, expectOf, paramOf, singlesOf, validateFace, FaultsFace, faultListingCells, faultsFaceOf, faultsFace, ReportFace, nameAt, placeCells, nameFace, ValueFace, valuationCells, valueFaceOf, valueFace}
+use Rattle.quiltrudder.specs.Face.{halves, loadingNumbers, LoadFace, loadFaceOf, loadFace, countsOf, partOf, expectOf, paramOf, singlesOf, validateFace, FaultsFace, faultListingCells, faultsFaceOf, faultsFace, ReportFace, nameAt, placeCells, nameFace, ValueFace, valuationCells, valueFaceOf, valueFace}
 
 -- a single by its flag
 module _ (f a b : ℕ) where
@@ -71,9 +71,9 @@ module _ (m : List ℕ) (s n r : Part) (e f : Expect) (p : Param) where
       → _≡_ {A = Singles} (record { start = s; expect = e; «expect_rr» = f; param = p; generics = n; programs = r }) (singlesOf m)
   singles-are hs he hf hp hn hr = rw (hs, he, hf, hp, hn, hr)
 
--- a read
-pub face-read : (src : List ℕ) (kind : ℕ) (T : Tables) (X : Indexes) (o : Result) (m : List ℕ) → m ≡ readingNumbers o → o ≡ readAll src kind T X → _≡_ {A = ReadFace} (record { answer = m; tables = o .tables; indexes = o .indexes }) (readFace src kind T X)
-face-read src kind T X o m h e = rw h (ap readFaceOf e)
+-- a load
+pub face-load : (src : List ℕ) (kind : ℕ) (T : Tables) (X : Indexes) (o : LoadResult) (m : List ℕ) → m ≡ loadingNumbers o → o ≡ loadAll src kind T X → _≡_ {A = LoadFace} (record { answer = m; tables = o .tables; indexes = o .indexes }) (loadFace src kind T X)
+face-load src kind T X o m h e = rw h (ap loadFaceOf e)
 
 -- an answer with a count
 counted : (t : Told) (told : List ℕ) (n count : ℕ) (a : List ℕ) → toldNumbers t ≡ told → n ≡ count → a ≡ toldNumbers t ++ halves n → a ≡ told ++ halves count

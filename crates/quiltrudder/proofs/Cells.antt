@@ -1,4 +1,4 @@
--- What the C names' proofs cite: cells stored as far as there is room, and the numbers of a reading put together. Assumes nothing.
+-- What the C names' proofs cite: cells stored as far as there is room, and the numbers of a load put together. Assumes nothing.
 use Prim.Native.Nat.{ℕ, zero, suc, _+_, _≤_, _<_}
 use mathlib.Core.Path.{_≡_, refl, sym, ap, _∙_}
 use mathlib.Core.List.{List, [], _∷_, _++_}
@@ -17,10 +17,10 @@ use Rattle.grammar.specs.declared.Counts.{Counts}
 use Rattle.grammar.specs.declared.Singles.{Singles}
 use Rattle.grammar.specs.declared.Told.{Told}
 use Rattle.grammar.specs.Numbers.{partNumbers, paramNumbers}
-use Rattle.reader.specs.declared.Verdict.{Verdict}
-use Rattle.reader.specs.Read.{verdictNumbers}
+use Rattle.loading.specs.declared.Judgement.{Judgement}
+use Rattle.loading.specs.Load.{judgementNumbers}
 use Rattle.numbers.specs.Numbers.{toldNumbers}
-use Rattle.quiltrudder.specs.Face.{expectCells, singlesCells, countsCells, readingCells}
+use Rattle.quiltrudder.specs.Face.{expectCells, singlesCells, countsCells, loadingCells}
 
 -- past the end nothing is stored
 pub put-past : (vs t : List ℕ) (at : ℕ) → length t ≤ at → put t at vs ≡ t
@@ -88,12 +88,12 @@ put-behind : (pre t vs : List ℕ) → put (pre ++ t) (length pre) vs ≡ pre ++
 put-behind [] t vs = refl
 put-behind (x ∷ pre) t vs = rw (← add-one (length pre)) (put-cons x vs (pre ++ t) (length pre) ∙ ap (λ (l : List ℕ). x ∷ l) (put-behind pre t vs))
 
--- a reading's numbers, stored one behind the other
-module _ (v : Verdict) (c : Counts) (g : Singles) (t : Told) (s m1 m2 m3 : List ℕ) where
-  pub reading-put : toldNumbers t ≡ verdictNumbers v → s ≡ singlesCells g → m1 ≡ put (replicate 38 0) 0 (toldNumbers t) → m2 ≡ put m1 4 (countsCells c) → m3 ≡ put m2 14 s → m3 ≡ readingCells v c g
-  unfolding readingCells
-  reading-put ht hs k1 k2 k3 =
+-- a load's numbers, stored one behind the other
+module _ (j : Judgement) (c : Counts) (g : Singles) (t : Told) (s m1 m2 m3 : List ℕ) where
+  pub loading-put : toldNumbers t ≡ judgementNumbers j → s ≡ singlesCells g → m1 ≡ put (replicate 38 0) 0 (toldNumbers t) → m2 ≡ put m1 4 (countsCells c) → m3 ≡ put m2 14 s → m3 ≡ loadingCells j c g
+  unfolding loadingCells
+  loading-put ht hs k1 k2 k3 =
       let e : m2 ≡ (toldNumbers t ++ countsCells c) ++ replicate 24 0 = rw (k2, k1) in
       let f : put ((toldNumbers t ++ countsCells c) ++ replicate 24 0) 14 s ≡ (toldNumbers t ++ countsCells c) ++ s =
       put-behind (toldNumbers t ++ countsCells c) (replicate 24 0) s ∙ ap (λ (l : List ℕ). (toldNumbers t ++ countsCells c) ++ l) (put-all (replicate 24 0) s (ap length hs ∙ singles-length g)) in
-      k3 ∙ ap (λ (l : List ℕ). put l 14 s) e ∙ f ∙ ap (λ (l : List ℕ). l ++ countsCells c ++ s) ht ∙ ap (λ (l : List ℕ). verdictNumbers v ++ countsCells c ++ l) hs
+      k3 ∙ ap (λ (l : List ℕ). put l 14 s) e ∙ f ∙ ap (λ (l : List ℕ). l ++ countsCells c ++ s) ht ∙ ap (λ (l : List ℕ). judgementNumbers j ++ countsCells c ++ l) hs

@@ -17,14 +17,17 @@ use Rattle.grammar.specs.declared.Counts.{Counts}
 use Rattle.grammar.specs.declared.Singles.{Singles}
 use Rattle.grammar.specs.Numbers.{partNumbers, paramNumbers}
 use Rattle.grammar.specs.Sound.{Tables, Indexes}
-use Rattle.reader.specs.declared.Verdict.{Verdict}
-use Rattle.reader.specs.declared.Verdict.the-variants.{Accepted, Rejected}
-use Rattle.reader.specs.Read.{Result, verdictNumbers}
+use Rattle.validation.specs.declared.Flaw.{Flaw}
+use Rattle.validation.specs.declared.Flaw.the-variants.{NoStartRule, InvalidStartRule, UnknownRuleRef, UnknownTokenRef, UnknownPrecToken, NoPrecForToken, UnknownEppKey}
+use Rattle.loading.specs.declared.Judgement.{Judgement}
+use Rattle.loading.specs.declared.Judgement.the-variants.{Loaded, NotRead, NotValid}
+use Rattle.validation.specs.Faults.{flawNumbers}
+use Rattle.loading.specs.Load.{judgementNumbers, LoadResult}
 use Rattle.sound.specs.Test.{soundTest}
 use Rattle.usage.proofs.Outcome.{Outcome, reported-one}
 use Rattle.names.specs.Name.{nowhere, namePlace, partAt, nameOf}
 use Rattle.names.proofs.Laws.{part-none}
-use Rattle.quiltrudder.specs.Face.{expectCells, singlesCells, countsCells, readingCells, readingNumbers, countsOf, partOf, expectOf, paramOf, singlesOf, listingCells, ReportFace, nameAt}
+use Rattle.quiltrudder.specs.Face.{expectCells, singlesCells, countsCells, loadingCells, loadingNumbers, countsOf, partOf, expectOf, paramOf, singlesOf, listingCells, ReportFace, nameAt}
 use Rattle.quiltrudder.proofs.Cells.{three, five, part-three, expect-five, param-five}
 
 -- each single by itself
@@ -47,9 +50,19 @@ param-back (ParamAt a b c d) = refl
 abbrev four : List ℕ → List ℕ
 four l = getD l 0 0 ∷ getD l 1 0 ∷ getD l 2 0 ∷ getD l 3 0 ∷ []
 
-verdict-four : (v : Verdict) → verdictNumbers v ≡ four (verdictNumbers v)
-verdict-four (Accepted i) = refl
-verdict-four (Rejected f) = refl
+flaw-four : (f : Flaw) → let l = flawNumbers f ++ (0 ∷ []) in l ≡ four l
+flaw-four NoStartRule = refl
+flaw-four (InvalidStartRule a b) = refl
+flaw-four (UnknownRuleRef a b) = refl
+flaw-four (UnknownTokenRef a b) = refl
+flaw-four (UnknownPrecToken a b) = refl
+flaw-four (NoPrecForToken a b) = refl
+flaw-four (UnknownEppKey a b) = refl
+
+judgement-four : (j : Judgement) → judgementNumbers j ≡ four (judgementNumbers j)
+judgement-four (Loaded i) = refl
+judgement-four (NotRead f) = refl
+judgement-four (NotValid f) = flaw-four f
 
 -- where each number is looked for
 module _ (h a e r p n q : List ℕ) (c : Counts) (hh : h ≡ four h) where
@@ -79,22 +92,22 @@ cells-at c (suc (suc (suc (suc (suc (suc (suc (suc zero)))))))) h = refl
 cells-at c (suc (suc (suc (suc (suc (suc (suc (suc (suc zero))))))))) h = refl
 cells-at c (suc (suc (suc (suc (suc (suc (suc (suc (suc (suc k)))))))))) h = absurd (omega arith)
 
--- What a read wrote is what the others take: the singles,
-pub singles-back : (o : Result) → singlesOf (readingNumbers o) ≡ o .singles
-unfolding readingCells
+-- What a load wrote is what the others take: the singles,
+pub singles-back : (o : LoadResult) → singlesOf (loadingNumbers o) ≡ o .singles
+unfolding loadingCells
 singles-back o =
     let g = o .singles in
-    looked-singles (verdictNumbers (o .answer)) (partNumbers (g .start)) (expectCells (g .expect)) (expectCells (g .«expect_rr»)) (paramNumbers (g .param)) (partNumbers (g .generics)) (partNumbers (g .programs)) (o .counts) (verdict-four (o .answer)) (part-three (g .start)) (expect-five (g .expect)) (expect-five (g .«expect_rr»)) (param-five (g .param)) (part-three (g .generics)) (part-three (g .programs)) g (part-back (g .start)) (expect-back (g .expect)) (expect-back (g .«expect_rr»)) (param-back (g .param)) (part-back (g .generics)) (part-back (g .programs))
+    looked-singles (judgementNumbers (o .answer)) (partNumbers (g .start)) (expectCells (g .expect)) (expectCells (g .«expect_rr»)) (paramNumbers (g .param)) (partNumbers (g .generics)) (partNumbers (g .programs)) (o .counts) (judgement-four (o .answer)) (part-three (g .start)) (expect-five (g .expect)) (expect-five (g .«expect_rr»)) (param-five (g .param)) (part-three (g .generics)) (part-three (g .programs)) g (part-back (g .start)) (expect-back (g .expect)) (expect-back (g .«expect_rr»)) (param-back (g .param)) (part-back (g .generics)) (part-back (g .programs))
 
 -- each of the ten counts,
-pub counts-back : (o : Result) (k : ℕ) → k < 10 → getD (countsOf (readingNumbers o) .n) k 0 ≡ getD (o .counts .n) k 0
-unfolding readingCells
-counts-back o k h = ap (λ (l : List ℕ). getD l k 0) (looked-counts _ [] [] [] [] [] [] (o .counts) (verdict-four (o .answer)) (singlesCells (o .singles))) ∙ cells-at (o .counts) k h
+pub counts-back : (o : LoadResult) (k : ℕ) → k < 10 → getD (countsOf (loadingNumbers o) .n) k 0 ≡ getD (o .counts .n) k 0
+unfolding loadingCells
+counts-back o k h = ap (λ (l : List ℕ). getD l k 0) (looked-counts _ [] [] [] [] [] [] (o .counts) (judgement-four (o .answer)) (singlesCells (o .singles))) ∙ cells-at (o .counts) k h
 
 -- and all together, being ten.
-pub all-counts-back : (o : Result) → length (o .counts .n) ≡ 10 → countsOf (readingNumbers o) ≡ o .counts
+pub all-counts-back : (o : LoadResult) → length (o .counts .n) ≡ 10 → countsOf (loadingNumbers o) ≡ o .counts
 all-counts-back o ten =
-    let e : countsOf (readingNumbers o) .n ≡ o .counts .n = ext-getD 0 _ _ (sym ten) (λ k h. counts-back o k h) in
+    let e : countsOf (loadingNumbers o) .n ≡ o .counts .n = ext-getD 0 _ _ (sym ten) (λ k h. counts-back o k h) in
     ap (λ (l : List ℕ). record { n = l }) e
 
 -- The source's part at the place that `quiltrudder_name` gives is the row's name.

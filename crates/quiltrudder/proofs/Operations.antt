@@ -1,4 +1,4 @@
--- The operations together: what they answer on what a read left, and that each contract allows one outcome. Assumes nothing.
+-- The operations together: what they answer on what a load left, and that each contract allows one outcome. Assumes nothing.
 use Prim.Native.Nat.{ℕ, _*_, _≤_, _<_}
 use mathlib.Core.Path.{_≡_, refl, sym, _∙_}
 use mathlib.Core.List.{List}
@@ -7,13 +7,14 @@ use mathlib.Core.Logic.{_↔_, _⊎_, inl, inr, ⊎-elim}
 use native.Mathlib.Omega.{arith}
 use lib.Dec.{leb}
 use lib.ListN.{length, getD}
+use Rattle.scan.proofs.Bytes.{told}
 use Rattle.tables.specs.Layout.{epps, faultWidth}
 use Rattle.grammar.specs.declared.Counts.{Counts}
 use Rattle.grammar.specs.declared.Singles.{Singles}
 use Rattle.grammar.specs.Sound.{Tables, Indexes}
-use Rattle.reader.specs.Read.{Result, readAll}
-use Rattle.reader.specs.Allowed.{Full}
-use Rattle.reader.proofs.Sound.{read-sound, read-values}
+use Rattle.loading.specs.declared.Judgement.the-variants.{Loaded}
+use Rattle.loading.specs.Load.{LoadResult, loadAll, FullLoad}
+use Rattle.loading.proofs.Theorems.{load-sound, load-values, load-valid}
 use Rattle.sound.specs.Test.{countAt, soundTest}
 use Rattle.sound.proofs.Iff.{sound-iff}
 use Rattle.validation.specs.declared.Validity.{Validity}
@@ -35,22 +36,22 @@ use Rattle.values.specs.Value.{valuationNumbers, eppValue}
 use Rattle.values.proofs.Meaning.{value-not-44}
 use Rattle.quiltrudder.specs.Report.{grammarRead, excusesRead, Roomy, Exactly}
 
--- What an accepted read left, or one refused for repeats only, passes the test of soundness,
-module _ (src : List ℕ) (kind : ℕ) (T : Tables) (X : Indexes) (full : Full (readAll src kind T X .answer)) where
-  abbrev o : Result
-  o = readAll src kind T X
+-- A full reading that a load left, valid or not, or refused for repeats only, passes the test of soundness,
+module _ (src : List ℕ) (kind : ℕ) (T : Tables) (X : Indexes) (full : FullLoad (loadAll src kind T X .answer)) where
+  abbrev o : LoadResult
+  o = loadAll src kind T X
 
-  pub read-passes : soundTest src (o .counts) (o .singles) (o .tables) (o .indexes) ≡ true
-  read-passes = sound-iff src (o .counts) (o .singles) (o .tables) (o .indexes) .1 (read-sound src kind T X full)
+  pub load-passes : soundTest src (o .counts) (o .singles) (o .tables) (o .indexes) ≡ true
+  load-passes = sound-iff src (o .counts) (o .singles) (o .tables) (o .indexes) .1 (load-sound src kind T X full)
 
   -- so that validation never answers 44 on it,
   pub validate-not-44 : validity src (o .counts) (o .singles) (o .tables) (o .indexes) ≡ UnsoundTables → ⊥
-  validate-not-44 e = false≢true (sym (validity-unsound src (o .counts) (o .singles) (o .tables) (o .indexes) .0 e) ∙ read-passes)
+  validate-not-44 e = false≢true (sym (validity-unsound src (o .counts) (o .singles) (o .tables) (o .indexes) .0 e) ∙ load-passes)
 
   -- nor does the list of all faults,
   pub faults-not-44 : (t : List ℕ) → faultListing src (o .counts) (o .singles) (o .tables) (o .indexes) t .answer ≡ FaultsUnsound → ⊥
   unfolding faultListing
-  faults-not-44 t e = go (leb (length all * faultWidth) (length t)) (rw (faultListing, read-passes) at e)
+  faults-not-44 t e = go (leb (length all * faultWidth) (length t)) (rw (faultListing, load-passes) at e)
     where
       all : List Flaw
       all = faults src (o .counts) (o .singles) (o .tables .t1) (o .tables .t2) (o .tables .t4) (o .tables .t5) (o .tables .t6) (o .tables .t7) (o .tables .t8) (o .tables .t9)
@@ -70,7 +71,7 @@ module _ (src : List ℕ) (kind : ℕ) (T : Tables) (X : Indexes) (full : Full (
 
   -- nor the value of an `%epp` row.
   pub value-row-not-44 : (row : ℕ) (out : List ℕ) → row < countAt (o .counts) epps → getD (valuationNumbers (eppValue src (o .counts) (o .singles) (o .tables) (o .indexes) row out .answer)) 0 0 ≡ 44 → ⊥
-  value-row-not-44 row out h = value-not-44 src (o .counts) (o .singles) (o .tables) (o .indexes) row out read-passes h (read-values src kind T X row h)
+  value-row-not-44 row out h = value-not-44 src (o .counts) (o .singles) (o .tables) (o .indexes) row out load-passes h (load-values src kind T X row h)
 
   -- The third demand, where it validates: what use and excuses go by.
   abbrev grammar : Grammar
@@ -100,6 +101,12 @@ module _ (src : List ℕ) (kind : ℕ) (T : Tables) (X : Indexes) (full : Full (
     pub report-exactly : Roomy grammar ws₀ out₀ → Reported src (o .counts) (o .singles) (o .tables) (o .indexes) l ws₀ ws out₀ out → Exactly grammar excuses l out
     report-exactly room p = let r = report-room src (o .counts) (o .singles) (o .tables) (o .indexes) l ws₀ ws out₀ out v (room .words) (room .rows) p in given (room .words) p (r .0) (r .1)
 
--- "Any two outcomes allowed by it are proved equal": of a name. `one-reading`, `validity-first`, `faults-one`, `reported-one` and `valued-one` say it of the other operations.
+-- The third demand of what a load accepted, in one theorem: where load's answer is Loaded, the report lists exactly the unused rows, each once, in order; words and rows enough being lent.
+pub load-report-exactly : (src : List ℕ) (kind : ℕ) (T : Tables) (X : Indexes) (i : ℕ) (l : Listing) (ws₀ ws out₀ out : List ℕ) → let o = loadAll src kind T X in o .answer ≡ Loaded i
+    → Roomy (grammarRead src o) ws₀ out₀ → Reported src (o .counts) (o .singles) (o .tables) (o .indexes) l ws₀ ws out₀ out → Exactly (grammarRead src o) (excusesRead src o) l out
+load-report-exactly src kind T X i l ws₀ ws out₀ out e room p =
+    report-exactly src kind T X (told FullLoad (sym e) tt) l ws₀ ws out₀ out (load-valid src kind T X i e) room p
+
+-- "Any two outcomes allowed by it are proved equal": of a name. `load-one`, `validity-first`, `faults-one`, `reported-one` and `valued-one` say it of the other operations.
 pub name-one : (src : List ℕ) (c : Counts) (g : Singles) (T : Tables) (X : Indexes) (table row : ℕ) (a b : List ℕ) → a ≡ nameOf src c g T X table row → b ≡ nameOf src c g T X table row → a ≡ b
 name-one src c g T X table row a b p q = p ∙ sym q

@@ -1,4 +1,4 @@
--- The promises through the C names: on what the C name of read wrote, the others give what the operations give on the reading; so the third demand holds of them,
+-- The promises through the C names: on what the C name of load wrote, the others give what the operations give on the reading; so the third demand holds of them,
 -- and none answers 44 on a full reading. Assumes nothing.
 use Prim.Native.Nat.{ℕ, _*_, _≤_, _<_}
 use mathlib.Core.Path.{_≡_, refl, sym, ap, _∙_}
@@ -10,25 +10,22 @@ use Rattle.scan.proofs.Bytes.{told}
 use Rattle.tables.specs.Layout.{epps}
 use Rattle.grammar.specs.declared.Counts.{Counts}
 use Rattle.grammar.specs.declared.Singles.{Singles}
-use Rattle.grammar.specs.declared.Cause.{Cause}
-use Rattle.grammar.specs.declared.Cause.the-variants.{IntegerEmpty, IntegerTooLarge, IllegalName, IllegalString, IncompleteRule, IncompleteComment, IncompleteAction, MissingColon, MissingRightArrow, NonEmptyProduction, PrematureEnd, NotTerminated, UnknownDeclaration, ReachedEol, ReachedEnd, StringNotOpened, StringLineEnd, StringEscape, StringNotClosed, UnknownSymbol, NotUtf8}
 use Rattle.grammar.specs.declared.Refusal.the-variants.{Fault, Repeated, NoRoom as no-room, TooLong, BadKind, BadIndex}
 use Rattle.grammar.specs.Refusals.{numberOfCause}
+use Rattle.grammar.proofs.Repeats.{repeat-least}
+use Rattle.refusals.proofs.Read.{cause-number}
 use Rattle.grammar.specs.Sound.{Tables, Indexes}
-use Rattle.reader.specs.declared.Verdict.{Verdict}
-use Rattle.reader.specs.declared.Verdict.the-variants.{Accepted, Rejected}
-use Rattle.reader.specs.Read.{Result, verdictNumbers, readAll}
-use Rattle.reader.specs.Allowed.{Full}
-use Rattle.reader.proofs.Sound.{read-ten}
+use Rattle.loading.specs.declared.Judgement.{Judgement}
+use Rattle.loading.specs.declared.Judgement.the-variants.{Loaded, NotRead, NotValid}
+use Rattle.loading.specs.Load.{judgementNumbers, LoadResult, loadAll, FullLoad}
+use Rattle.loading.proofs.Theorems.{flaw-number, load-ten, load-valid}
 use Rattle.sound.specs.Test.{countAt}
-use Rattle.validation.specs.declared.Flaw.{Flaw}
-use Rattle.validation.specs.declared.Flaw.the-variants.{NoStartRule, InvalidStartRule, UnknownRuleRef, UnknownTokenRef, UnknownPrecToken, NoPrecForToken, UnknownEppKey}
 use Rattle.validation.specs.declared.Validity.{Validity}
 use Rattle.validation.specs.declared.Validity.the-variants.{Valid, UnsoundTables, Invalid}
 use Rattle.validation.specs.declared.FaultListing.{FaultListing}
 use Rattle.validation.specs.declared.FaultListing.the-variants.{Faulted, FaultsUnsound, FaultsNoRoom}
 use Rattle.validation.specs.Walk.{faultListing}
-use Rattle.validation.specs.Faults.{flawNumber, flawNumbers, validityNumbers, validity}
+use Rattle.validation.specs.Faults.{validityNumbers, validity}
 use Rattle.reach.specs.Reach.{Grammar, need}
 use Rattle.usage.specs.declared.Listing.{Listing}
 use Rattle.usage.specs.declared.Listing.the-variants.{Unused, OfUnsound, OfInvalid, NoWords, NoRoom}
@@ -39,45 +36,20 @@ use Rattle.values.specs.declared.Valuation.{Valuation}
 use Rattle.values.specs.declared.Valuation.the-variants.{Written, OfUnsoundTables, PastCount, NotString, NoTextRoom}
 use Rattle.values.specs.Value.{valuationNumbers, eppValue}
 use Rattle.quiltrudder.specs.Report.{grammarRead, excusesRead, Roomy, Exactly}
-use Rattle.quiltrudder.specs.Face.{singlesCells, countsCells, readingCells, readFace, FullNumber, countsOf, singlesOf, validateFace, FaultsFace, faultListingCells, faultsFaceOf, faultsFace, listingCells, ReportFace, ExactlyFace, CrowdedFace, nameAt, placeCells, nameFace, ValueFace, valuationCells, valueFaceOf, valueFace}
+use Rattle.quiltrudder.specs.Face.{singlesCells, countsCells, loadingCells, loadFace, FullNumber, countsOf, singlesOf, validateFace, FaultsFace, faultListingCells, faultsFaceOf, faultsFace, listingCells, ReportFace, ExactlyFace, CrowdedFace, nameAt, placeCells, nameFace, ValueFace, valuationCells, valueFaceOf, valueFace}
 use Rattle.quiltrudder.proofs.Face.{singles-back, all-counts-back, name-part}
 use Rattle.quiltrudder.proofs.Operations.{validate-not-44, faults-not-44, report-not-44, value-row-not-44, report-either, report-fits, report-exactly}
 
 -- ---- which answer has which number
 
--- a cause's number is none of a full read
-cause-number : (c : Cause) → FullNumber (numberOfCause c) → ⊥
-cause-number IntegerEmpty = ⊎-elim (λ e. omega arith) (λ e. omega arith)
-cause-number IntegerTooLarge = ⊎-elim (λ e. omega arith) (λ e. omega arith)
-cause-number IllegalName = ⊎-elim (λ e. omega arith) (λ e. omega arith)
-cause-number IllegalString = ⊎-elim (λ e. omega arith) (λ e. omega arith)
-cause-number IncompleteRule = ⊎-elim (λ e. omega arith) (λ e. omega arith)
-cause-number IncompleteComment = ⊎-elim (λ e. omega arith) (λ e. omega arith)
-cause-number IncompleteAction = ⊎-elim (λ e. omega arith) (λ e. omega arith)
-cause-number MissingColon = ⊎-elim (λ e. omega arith) (λ e. omega arith)
-cause-number MissingRightArrow = ⊎-elim (λ e. omega arith) (λ e. omega arith)
-cause-number NonEmptyProduction = ⊎-elim (λ e. omega arith) (λ e. omega arith)
-cause-number PrematureEnd = ⊎-elim (λ e. omega arith) (λ e. omega arith)
-cause-number NotTerminated = ⊎-elim (λ e. omega arith) (λ e. omega arith)
-cause-number UnknownDeclaration = ⊎-elim (λ e. omega arith) (λ e. omega arith)
-cause-number ReachedEol = ⊎-elim (λ e. omega arith) (λ e. omega arith)
-cause-number ReachedEnd = ⊎-elim (λ e. omega arith) (λ e. omega arith)
-cause-number StringNotOpened = ⊎-elim (λ e. omega arith) (λ e. omega arith)
-cause-number StringLineEnd = ⊎-elim (λ e. omega arith) (λ e. omega arith)
-cause-number StringEscape = ⊎-elim (λ e. omega arith) (λ e. omega arith)
-cause-number StringNotClosed = ⊎-elim (λ e. omega arith) (λ e. omega arith)
-cause-number UnknownSymbol = ⊎-elim (λ e. omega arith) (λ e. omega arith)
-cause-number NotUtf8 = ⊎-elim (λ e. omega arith) (λ e. omega arith)
-
--- a flaw has three numbers, and its first is neither 0 nor 44
-flaw-number : (f : Flaw) → (flawNumbers f ≡ flawNumber f ∷ getD (flawNumbers f) 1 0 ∷ getD (flawNumbers f) 2 0 ∷ []) × (0 < flawNumber f) × (flawNumber f < 44)
-flaw-number NoStartRule = (refl, omega arith, omega arith)
-flaw-number (InvalidStartRule a b) = (refl, omega arith, omega arith)
-flaw-number (UnknownRuleRef a b) = (refl, omega arith, omega arith)
-flaw-number (UnknownTokenRef a b) = (refl, omega arith, omega arith)
-flaw-number (UnknownPrecToken a b) = (refl, omega arith, omega arith)
-flaw-number (NoPrecForToken a b) = (refl, omega arith, omega arith)
-flaw-number (UnknownEppKey a b) = (refl, omega arith, omega arith)
+-- the number of a fatal cause is none of a full reading
+no-full : (n : ℕ) → ((1 ≤ n) × (n ≤ 19)) ⊎ (n ≡ 40) → FullNumber n → ⊥
+no-full n (inl h) (inl e) = omega arith
+no-full n (inl h) (inr (inl e)) = omega arith
+no-full n (inl h) (inr (inr e)) = omega arith
+no-full n (inr h) (inl e) = omega arith
+no-full n (inr h) (inr (inl e)) = omega arith
+no-full n (inr h) (inr (inr e)) = omega arith
 
 validity-0 : (v : Validity) → getD (validityNumbers v ++ (0 ∷ [])) 0 0 ≡ 0 → v ≡ Valid
 validity-0 Valid e = refl
@@ -109,22 +81,22 @@ valuation-number NotString = refl
 valuation-number NoTextRoom = refl
 
 module _ (src : List ℕ) (kind : ℕ) (T : Tables) (X : Indexes) where
-  abbrev o : Result
-  o = readAll src kind T X
+  abbrev o : LoadResult
+  o = loadAll src kind T X
 
-  -- the numbers that the C name of read wrote, and the tables and indexes that it left
+  -- the numbers that the C name of load wrote, and the tables and indexes that it left
   abbrev m : List ℕ
-  m = readFace src kind T X .answer
+  m = loadFace src kind T X .answer
 
   abbrev left : Tables
-  left = readFace src kind T X .tables
+  left = loadFace src kind T X .tables
 
   abbrev slots : Indexes
-  slots = readFace src kind T X .indexes
+  slots = loadFace src kind T X .indexes
 
   -- What the others take out of those numbers is what was read.
   pub face-back : (countsOf m ≡ o .counts) × (singlesOf m ≡ o .singles)
-  face-back = (all-counts-back o (read-ten src kind T X), singles-back o)
+  face-back = (all-counts-back o (load-ten src kind T X), singles-back o)
 
   forth : (P : Counts → Singles → Type 0) → P (countsOf m) (singlesOf m) → P (o .counts) (o .singles)
   forth P p = told (λ (c : Counts). P c (o .singles)) (face-back .0) (told (P (countsOf m)) (face-back .1) p)
@@ -160,22 +132,26 @@ module _ (src : List ℕ) (kind : ℕ) (T : Tables) (X : Indexes) where
   pub same-value : (row : ℕ) (out : List ℕ) → valueFace src m left slots row out ≡ valueFaceOf (eppValue src (o .counts) (o .singles) (o .tables) (o .indexes) row out)
   same-value row out = forth (λ c g. valueFace src m left slots row out ≡ valueFaceOf (eppValue src c g left slots row out)) refl
 
-  -- A read is full where its number says so.
-  pub face-full : FullNumber (getD m 0 0) → Full (o .answer)
-  unfolding readingCells
+  -- The tables hold a full reading where load's number says so.
+  pub face-full : FullNumber (getD m 0 0) → FullLoad (o .answer)
+  unfolding loadingCells
   face-full = go (o .answer) (countsCells (o .counts)) (singlesCells (o .singles))
     where
-      go : (v : Verdict) (xs ys : List ℕ) → FullNumber (getD (verdictNumbers v ++ xs ++ ys) 0 0) → Full v
-      go (Accepted i) xs ys n = tt
-      go (Rejected (Fault c i)) xs ys n = cause-number c n
-      go (Rejected (Repeated k a b)) xs ys n = tt
-      go (Rejected (no-room t a b)) xs ys n = ⊎-elim (λ e. omega arith) (λ e. omega arith) n
-      go (Rejected TooLong) xs ys n = ⊎-elim (λ e. omega arith) (λ e. omega arith) n
-      go (Rejected BadKind) xs ys n = ⊎-elim (λ e. omega arith) (λ e. omega arith) n
-      go (Rejected BadIndex) xs ys n = ⊎-elim (λ e. omega arith) (λ e. omega arith) n
+      other : (n : ℕ) → 40 ≤ n → FullNumber n → ⊥
+      other n h = ⊎-elim (λ e. omega arith) (⊎-elim (λ e. omega arith) (λ e. omega arith))
 
-  -- After a full read none of them answers 44;
-  module _ (full : Full (o .answer)) where
+      go : (j : Judgement) (xs ys : List ℕ) → FullNumber (getD (judgementNumbers j ++ xs ++ ys) 0 0) → FullLoad j
+      go (Loaded i) xs ys n = tt
+      go (NotRead (Fault c i)) xs ys n = no-full (numberOfCause c) (cause-number c) n
+      go (NotRead (Repeated k a b)) xs ys n = tt
+      go (NotRead (no-room t a b)) xs ys n = absurd (other 42 (omega arith) n)
+      go (NotRead TooLong) xs ys n = absurd (other 41 (omega arith) n)
+      go (NotRead BadKind) xs ys n = absurd (other 43 (omega arith) n)
+      go (NotRead BadIndex) xs ys n = absurd (other 45 (omega arith) n)
+      go (NotValid f) xs ys n = tt
+
+  -- After a full reading none of them answers 44;
+  module _ (full : FullLoad (o .answer)) where
     pub face-validate-not-44 : getD (validateFace src m left slots) 0 0 ≡ 44 → ⊥
     face-validate-not-44 e = validate-not-44 src kind T X full (validity-44 _ (rw same-validity at e))
 
@@ -221,3 +197,25 @@ module _ (src : List ℕ) (kind : ℕ) (T : Tables) (X : Indexes) where
 
       pub face-report-exactly : Roomy grammar ws₀ out₀ → ExactlyFace grammar excuses out a
       face-report-exactly room = told-by (λ l p e. in-numbers l e (report-exactly src kind T X full l ws₀ ws out₀ out reading-valid room p))
+
+  -- The third demand from load's own number: it is 0 exactly where the source was read and what was read is valid,
+  pub face-loaded : getD m 0 0 ≡ 0 → (i : ℕ) × (o .answer ≡ Loaded i)
+  unfolding loadingCells
+  face-loaded = go (o .answer) (countsCells (o .counts)) (singlesCells (o .singles))
+    where
+      go : (j : Judgement) (xs ys : List ℕ) → getD (judgementNumbers j ++ xs ++ ys) 0 0 ≡ 0 → (i : ℕ) × (j ≡ Loaded i)
+      go (Loaded i) xs ys e = (i, refl)
+      go (NotRead (Fault c i)) xs ys e = absurd (no-full (numberOfCause c) (cause-number c) (inl e))
+      go (NotRead (Repeated k a b)) xs ys e = absurd (omega (arith, e, repeat-least k))
+      go (NotRead (no-room t a b)) xs ys e = absurd (omega arith)
+      go (NotRead TooLong) xs ys e = absurd (omega arith)
+      go (NotRead BadKind) xs ys e = absurd (omega arith)
+      go (NotRead BadIndex) xs ys e = absurd (omega arith)
+      go (NotValid f) xs ys e = let q = flaw-number f in absurd (omega (arith, rw (q .0) at e, q .1))
+
+  -- and then the report that the C name wrote is exactly the unused rows.
+  pub face-load-exactly : (ws₀ ws out₀ out a : List ℕ) → getD m 0 0 ≡ 0 → Roomy (grammarRead src o) ws₀ out₀ → ReportFace src m left slots ws₀ ws out₀ out a → ExactlyFace (grammarRead src o) (excusesRead src o) out a
+  face-load-exactly ws₀ ws out₀ out a e room r =
+      let j = face-loaded e in
+      let v = load-valid src kind T X (j .0) (j .1) in
+      face-report-exactly (told FullLoad (sym (j .1)) tt) ws₀ ws out₀ out a (rw (same-validity, v)) r room

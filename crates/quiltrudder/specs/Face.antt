@@ -17,8 +17,8 @@ use Rattle.grammar.specs.declared.Counts.{Counts}
 use Rattle.grammar.specs.declared.Singles.{Singles}
 use Rattle.grammar.specs.Numbers.{partNumbers, paramNumbers}
 use Rattle.grammar.specs.Sound.{Tables, Indexes}
-use Rattle.reader.specs.declared.Verdict.{Verdict}
-use Rattle.reader.specs.Read.{Result, verdictNumbers, readAll}
+use Rattle.loading.specs.declared.Judgement.{Judgement}
+use Rattle.loading.specs.Load.{judgementNumbers, LoadResult, loadAll}
 use Rattle.sound.specs.Test.{soundTest}
 use Rattle.validation.specs.Faults.{validityNumbers, validity}
 use Rattle.validation.specs.declared.FaultListing.{FaultListing}
@@ -35,7 +35,7 @@ use Rattle.values.specs.Value.{valuationNumbers, Valued, eppValue}
 abbrev pub halves : ℕ → List ℕ
 halves v = v % 4294967296 ∷ v / 4294967296 ∷ []
 
--- ---- what a read answers
+-- ---- what a load answers
 
 -- each single is led by 0 or 1; `%expect` and `%expect-rr` are five numbers: the value in halves, and the place
 abbrev pub expectCells : Expect → List ℕ
@@ -53,27 +53,27 @@ countsCells c =
     getD (c .n) 0 0 ∷ getD (c .n) 1 0 ∷ getD (c .n) 2 0 ∷ getD (c .n) 3 0 ∷ getD (c .n) 4 0 ∷ getD (c .n) 5 0 ∷ getD (c .n) 6 0 ∷ getD (c .n) 7 0 ∷ getD (c .n) 8 0 ∷ getD (c .n) 9 0 ∷ []
 
 -- in the order number, from, to, table, the ten counts, then each single
-unfoldable pub readingCells : Verdict → Counts → Singles → List ℕ
-readingCells v c g = verdictNumbers v ++ countsCells c ++ singlesCells g
+unfoldable pub loadingCells : Judgement → Counts → Singles → List ℕ
+loadingCells j c g = judgementNumbers j ++ countsCells c ++ singlesCells g
 
-abbrev pub readingNumbers : Result → List ℕ
-readingNumbers o = readingCells (o .answer) (o .counts) (o .singles)
+abbrev pub loadingNumbers : LoadResult → List ℕ
+loadingNumbers o = loadingCells (o .answer) (o .counts) (o .singles)
 
--- a read's answer, and what it left in the tables and the indexes
-pub record ReadFace : Type 0 where
+-- a load's answer, and what it left in the tables and the indexes
+pub record LoadFace : Type 0 where
   pub answer : List ℕ
   pub tables : Tables
   pub indexes : Indexes
 
-abbrev pub readFaceOf : Result → ReadFace
-readFaceOf o = record { answer = readingNumbers o; tables = o .tables; indexes = o .indexes }
+abbrev pub loadFaceOf : LoadResult → LoadFace
+loadFaceOf o = record { answer = loadingNumbers o; tables = o .tables; indexes = o .indexes }
 
-abbrev pub readFace : List ℕ → ℕ → Tables → Indexes → ReadFace
-readFace src kind T X = readFaceOf (readAll src kind T X)
+abbrev pub loadFace : List ℕ → ℕ → Tables → Indexes → LoadFace
+loadFace src kind T X = loadFaceOf (loadAll src kind T X)
 
--- "0 accepted", or "20 Precedence, [..] 27 EPP repeated": the numbers after which "all tables hold the full reading"
+-- "0 accepted", or "20 Precedence, [..] 27 EPP repeated", or validation's 30 to 35: the numbers after which "all tables hold the full reading"
 abbrev pub FullNumber : ℕ → Type 0
-FullNumber n = (n ≡ 0) ⊎ ((20 ≤ n) × (n ≤ 27))
+FullNumber n = (n ≡ 0) ⊎ (((20 ≤ n) × (n ≤ 27)) ⊎ ((30 ≤ n) × (n ≤ 35)))
 
 -- ---- what the others take: such an array, of which the counts and singles alone are looked at
 

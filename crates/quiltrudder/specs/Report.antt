@@ -6,7 +6,7 @@ use mathlib.Core.List.{List}
 use lib.ListN.{length}
 use Rattle.grammar.specs.declared.Counts.{Counts}
 use Rattle.grammar.specs.Sound.{Tables, Indexes}
-use Rattle.reader.specs.Read.{Result}
+use Rattle.loading.specs.Load.{LoadResult}
 use Rattle.reach.specs.Reach.{Grammar, grammarOf, need}
 use Rattle.usage.specs.declared.Listing.{Listing}
 use Rattle.usage.specs.declared.Listing.the-variants.{Unused}
@@ -14,10 +14,10 @@ use Rattle.usage.specs.Report.{Excuses, excusesOf}
 use Rattle.usage.specs.Standing.{UnusedRows}
 
 -- what use and excuses go by in a reading
-abbrev pub grammarRead : List ℕ → Result → Grammar
+abbrev pub grammarRead : List ℕ → LoadResult → Grammar
 grammarRead src o = grammarOf src (o .counts) (o .singles .start) (o .tables .t1) (o .tables .t7) (o .tables .t8) (o .tables .t9)
 
-abbrev pub excusesRead : List ℕ → Result → Excuses
+abbrev pub excusesRead : List ℕ → LoadResult → Excuses
 excusesRead src o = excusesOf src (o .counts) (o .tables .t4) (o .tables .t6)
 
 -- words and room enough for every row

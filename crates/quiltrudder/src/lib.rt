@@ -1,13 +1,13 @@
-// Quiltrudder's operations: reading a Yacc specification, validating what was read, the list of all its faults, the unused report, the name of a row and the value
-// of an `%epp` row. None of them requires anything.
+// Quiltrudder's operations: loading a Yacc specification (it is read, and what was read is validated), validating tables from elsewhere, the list of all faults, the unused report, the name of a row and
+// the value of an `%epp` row. None of them requires anything.
 use grammar::Counts;
 use grammar::Expect;
 use grammar::Param;
 use grammar::Part;
 use grammar::Singles;
 use grammar::Told;
-use reader::Reading;
-use reader::Verdict;
+use loading::Judgement;
+use loading::Loading;
 use usage::Listing;
 use validation::FaultListing;
 use validation::Validity;
@@ -17,17 +17,17 @@ ghost use mathlib.Core.List.{List, _++_};
 ghost use Rattle.tables.specs.Table.{put};
 ghost use Rattle.grammar.specs.Numbers.{paramNumbers};
 ghost use Rattle.grammar.specs.Sound.{Tables};
-ghost use Rattle.reader.specs.Read.{Result, readAll};
+ghost use Rattle.loading.specs.Load.{LoadResult, loadAll};
 ghost use Rattle.validation.specs.Faults.{validity};
 ghost use Rattle.validation.specs.Walk.{AllFaults, faultListing};
 ghost use Rattle.usage.specs.Report.{Reported};
 ghost use Rattle.names.specs.Name.{nameOf};
 ghost use Rattle.values.specs.Value.{Valued, eppValue};
 ghost use Rattle.numbers.specs.Numbers.{toldNumbers};
-ghost use Rattle.quiltrudder.specs.Face.{halves, expectCells, singlesCells, readingCells, ReadFace, readFace, countsOf, partOf, expectOf, paramOf, singlesOf, validateFace, FaultsFace, faultsFace, ReportFace, nameAt, placeCells, nameFace, ValueFace, valueFace};
+ghost use Rattle.quiltrudder.specs.Face.{halves, expectCells, singlesCells, loadingCells, LoadFace, loadFace, countsOf, partOf, expectOf, paramOf, singlesOf, validateFace, FaultsFace, faultsFace, ReportFace, nameAt, placeCells, nameFace, ValueFace, valueFace};
 
-// Reads a source of kind 1, 2 or 3 into the lent tables.
-pub fn read(
+// Reads a source of kind 1, 2 or 3 into the lent tables and, where that is accepted, validates what was read.
+pub fn load(
     src: &[u8],
     kind: u32,
     t1: &mut [u32],
@@ -42,10 +42,10 @@ pub fn read(
     t10: &mut [u32],
     i1: &mut [u32],
     i7: &mut [u32],
-) -> Reading
-    ensures { λ r. ⌜ _≡_ {A = Result} (record { answer = r .answer; counts = r .counts; singles = r .singles; tables = record { t1 = now (t1 .exit); t2 = now (t2 .exit); t3 = now (t3 .exit); t4 = now (t4 .exit); t5 = now (t5 .exit); t6 = now (t6 .exit); t7 = now (t7 .exit); t8 = now (t8 .exit); t9 = now (t9 .exit); t10 = now (t10 .exit) }; indexes = record { tokens = now (i1 .exit); rules = now (i7 .exit) } }) (readAll (now (src .entry)) kind (record { t1 = now (t1 .entry); t2 = now (t2 .entry); t3 = now (t3 .entry); t4 = now (t4 .entry); t5 = now (t5 .entry); t6 = now (t6 .entry); t7 = now (t7 .entry); t8 = now (t8 .entry); t9 = now (t9 .entry); t10 = now (t10 .entry) }) (record { tokens = now (i1 .entry); rules = now (i7 .entry) })) ⌝ }
+) -> Loading
+    ensures { λ r. ⌜ _≡_ {A = LoadResult} (record { answer = r .answer; counts = r .counts; singles = r .singles; tables = record { t1 = now (t1 .exit); t2 = now (t2 .exit); t3 = now (t3 .exit); t4 = now (t4 .exit); t5 = now (t5 .exit); t6 = now (t6 .exit); t7 = now (t7 .exit); t8 = now (t8 .exit); t9 = now (t9 .exit); t10 = now (t10 .exit) }; indexes = record { tokens = now (i1 .exit); rules = now (i7 .exit) } }) (loadAll (now (src .entry)) kind (record { t1 = now (t1 .entry); t2 = now (t2 .entry); t3 = now (t3 .entry); t4 = now (t4 .entry); t5 = now (t5 .entry); t6 = now (t6 .entry); t7 = now (t7 .entry); t8 = now (t8 .entry); t9 = now (t9 .entry); t10 = now (t10 .entry) }) (record { tokens = now (i1 .entry); rules = now (i7 .entry) })) ⌝ }
 {
-    reader::read(src, kind, t1, t2, t3, t4, t5, t6, t7, t8, t9, t10, i1, i7)
+    loading::load(src, kind, t1, t2, t3, t4, t5, t6, t7, t8, t9, t10, i1, i7)
 }
 
 // Whether a reading is valid, or the first that it lacks. Changes nothing lent.
@@ -293,11 +293,11 @@ fn single_cells(g: Singles) -> [u32; 24]
     m
 }
 
-// What a read answers: number, place and table, the ten counts, the singles.
-fn reading_cells(v: Verdict, c: Counts, g: Singles) -> [u32; 38]
-    ensures { λ r. ⌜ r ≡ readingCells v c g ⌝ }
+// What a load answers: number, place and table, the ten counts, the singles.
+fn loading_cells(j: Judgement, c: Counts, g: Singles) -> [u32; 38]
+    ensures { λ r. ⌜ r ≡ loadingCells j c g ⌝ }
 {
-    let t = numbers::of_verdict(v);
+    let t = numbers::of_judgement(j);
     let told = [t.number, t.from, t.to, t.table];
     let counts = [
         c.n[0],
@@ -423,9 +423,9 @@ fn name_cells(
     [p.from as u32, p.to as u32]
 }
 
-// Reads a source of kind 1, 2 or 3 into the lent tables.
+// Reads a source of kind 1, 2 or 3 into the lent tables and, where that is accepted, validates what was read.
 #[no_mangle]
-pub extern "C" fn quiltrudder_read(
+pub extern "C" fn quiltrudder_load(
     src: &[u8],
     kind: u32,
     t1: &mut [u32],
@@ -442,16 +442,16 @@ pub extern "C" fn quiltrudder_read(
     i7: &mut [u32],
     answer: &mut [u32; 38],
 )
-    ensures { λ r. ⌜ _≡_ {A = ReadFace} (record { answer = now (answer .exit); tables = record { t1 = now (t1 .exit); t2 = now (t2 .exit); t3 = now (t3 .exit); t4 = now (t4 .exit); t5 = now (t5 .exit); t6 = now (t6 .exit); t7 = now (t7 .exit); t8 = now (t8 .exit); t9 = now (t9 .exit); t10 = now (t10 .exit) }; indexes = record { tokens = now (i1 .exit); rules = now (i7 .exit) } }) (readFace (now (src .entry)) kind (record { t1 = now (t1 .entry); t2 = now (t2 .entry); t3 = now (t3 .entry); t4 = now (t4 .entry); t5 = now (t5 .entry); t6 = now (t6 .entry); t7 = now (t7 .entry); t8 = now (t8 .entry); t9 = now (t9 .entry); t10 = now (t10 .entry) }) (record { tokens = now (i1 .entry); rules = now (i7 .entry) })) ⌝ }
+    ensures { λ r. ⌜ _≡_ {A = LoadFace} (record { answer = now (answer .exit); tables = record { t1 = now (t1 .exit); t2 = now (t2 .exit); t3 = now (t3 .exit); t4 = now (t4 .exit); t5 = now (t5 .exit); t6 = now (t6 .exit); t7 = now (t7 .exit); t8 = now (t8 .exit); t9 = now (t9 .exit); t10 = now (t10 .exit) }; indexes = record { tokens = now (i1 .exit); rules = now (i7 .exit) } }) (loadFace (now (src .entry)) kind (record { t1 = now (t1 .entry); t2 = now (t2 .entry); t3 = now (t3 .entry); t4 = now (t4 .entry); t5 = now (t5 .entry); t6 = now (t6 .entry); t7 = now (t7 .entry); t8 = now (t8 .entry); t9 = now (t9 .entry); t10 = now (t10 .entry) }) (record { tokens = now (i1 .entry); rules = now (i7 .entry) })) ⌝ }
 {
-    let r = read(src, kind, t1, t2, t3, t4, t5, t6, t7, t8, t9, t10, i1, i7);
-    let v = r.answer;
+    let r = load(src, kind, t1, t2, t3, t4, t5, t6, t7, t8, t9, t10, i1, i7);
+    let j = r.answer;
     let c = r.counts;
     let g = r.singles;
-    *answer = reading_cells(v, c, g);
+    *answer = loading_cells(j, c, g);
 }
 
-// Whether a reading is valid, or the first that it lacks. `reading` is the array that `quiltrudder_read` wrote.
+// Whether a reading is valid, or the first that it lacks. `reading` is the array that `quiltrudder_load` wrote.
 #[no_mangle]
 pub extern "C" fn quiltrudder_validate(
     src: &[u8],

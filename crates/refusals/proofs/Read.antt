@@ -154,7 +154,7 @@ first-place o x y =
     (x .each 0 (y .some) .first)
 
 -- a cause's number is 1 to 19, or 40
-cause-number : (c : Cause) → ((1 ≤ numberOfCause c) × (numberOfCause c ≤ 19)) ⊎ (numberOfCause c ≡ 40)
+pub cause-number : (c : Cause) → ((1 ≤ numberOfCause c) × (numberOfCause c ≤ 19)) ⊎ (numberOfCause c ≡ 40)
 cause-number IntegerEmpty = inl (omega arith, omega arith)
 cause-number IntegerTooLarge = inl (omega arith, omega arith)
 cause-number IllegalName = inl (omega arith, omega arith)

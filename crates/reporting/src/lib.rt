@@ -1,9 +1,8 @@
-// What the program `specreport` does: it reads a specification of kind 1 from standard input and prints what read or validate answers, or the rules and tokens that
-// nothing uses.
+// What the program `specreport` does: it loads a specification of kind 1 from standard input and prints what load answers, and behind an accepted one the rules and tokens that nothing uses.
 use grammar::Counts;
 use grammar::Singles;
 use grammar::Told;
-use reader::Verdict;
+use loading::Judgement;
 use usage::Listing;
 
 // A word and two numbers, on a line of their own.
@@ -51,10 +50,10 @@ fn print_rows(t1: &[u32], t7: &[u32], out: &[u32], count: usize) {
     }
 }
 
-// What is left to say of a source that was read to its end.
+// What is left to say of a source that was loaded.
 fn print_report(
     src: &[u8],
-    v: Verdict,
+    j: Judgement,
     c: Counts,
     g: Singles,
     t1: &[u32],
@@ -93,7 +92,7 @@ fn print_report(
     );
     match l {
         Listing::Unused(n) => {
-            print_answer(numbers::of_verdict(v));
+            print_answer(numbers::of_judgement(j));
             print_rows(t1, t7, out, n);
         }
         Listing::OfUnsound => print_answer(numbers::of_listing(l)),
@@ -103,10 +102,10 @@ fn print_report(
     }
 }
 
-// Read's answer if it is a refusal, else what is left to say.
-fn print_reading(
+// Load's answer if it is a refusal, else what is left to say.
+fn print_loading(
     src: &[u8],
-    v: Verdict,
+    j: Judgement,
     c: Counts,
     g: Singles,
     t1: &[u32],
@@ -124,11 +123,11 @@ fn print_reading(
     work: &mut [u32],
     out: &mut [u32],
 ) {
-    match v {
-        Verdict::Accepted(_) => {
+    match j {
+        Judgement::Loaded(_) => {
             print_report(
                 src,
-                v,
+                j,
                 c,
                 g,
                 t1,
@@ -147,7 +146,8 @@ fn print_reading(
                 out,
             );
         }
-        Verdict::Rejected(_) => print_answer(numbers::of_verdict(v)),
+        Judgement::NotRead(_) => print_answer(numbers::of_judgement(j)),
+        Judgement::NotValid(_) => print_answer(numbers::of_judgement(j)),
     }
 }
 
@@ -168,13 +168,13 @@ fn run(
     work: &mut [u32],
     out: &mut [u32],
 ) {
-    let r = quiltrudder::read(src, 1, t1, t2, t3, t4, t5, t6, t7, t8, t9, t10, i1, i7);
-    let v = r.answer;
+    let r = quiltrudder::load(src, 1, t1, t2, t3, t4, t5, t6, t7, t8, t9, t10, i1, i7);
+    let j = r.answer;
     let c = r.counts;
     let g = r.singles;
-    print_reading(
+    print_loading(
         src,
-        v,
+        j,
         c,
         g,
         t1,

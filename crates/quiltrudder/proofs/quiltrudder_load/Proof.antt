@@ -1,0 +1,25 @@
+-- `quiltrudder::quiltrudder_load` meets its contract: the load, and its answer in numbers. Assumes nothing.
+use borrow.Author.Needs.{needs}
+use Rattle.quiltrudder.proofs.Answers.{face-load}
+use Rattle.quiltrudder.proofs.quiltrudder_load.Statement.{statement}
+use Rattle.quiltrudder.proofs.quiltrudder_load.Tie as tie
+
+pub quiltrudder-load-spec : {M : Type 1} → statement M
+quiltrudder-load-spec =
+    tie.close
+    (tie.spec
+    (λ c κs. search needs)
+    (λ c κs. search needs)
+    (λ c. search needs)
+    (λ c. search needs)
+    (λ c. search needs)
+    (λ c. search needs)
+    (λ c. search needs)
+    (λ c. search needs)
+    (λ c. search needs)
+    (λ c. search needs)
+    (λ c. search needs)
+    (λ c. search needs)
+    (λ c. search needs)
+    (λ c. search needs)
+    (λ c. face-load _ _ _ _ _ _ (c .loading-cells .ensures) (c .before .before .before .before .before .before .before .before .before .before .before .before .before .before .before .before .before .before .before .before .before .before .before .before .before .before .before .load .ensures)))
