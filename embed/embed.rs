@@ -43,6 +43,9 @@ mod quiltrudder {
     /// The widths of the rows of tables 1 to 10.
     const WIDTHS: [usize; 10] = [3, 4, 2, 2, 6, 3, 5, 13, 4, 5];
 
+    /// The row of a symbol whose name is that of no rule or token.
+    const NO_ROW: u32 = 4294967295;
+
     /// Number, place and table number; the number is 0 unless it is a refusal's.
     #[derive(Clone, Copy, Debug, PartialEq)]
     pub struct Answer {
@@ -68,9 +71,9 @@ mod quiltrudder {
         pub to: u32,
     }
 
-    /// What is unused: a row of table 7 or of table 1.
+    /// A row of table 7 or of table 1.
     #[derive(Clone, Copy, Debug, PartialEq)]
-    pub enum Unused {
+    pub enum Row {
         Rule(u32),
         Token(u32),
     }
@@ -118,6 +121,16 @@ mod quiltrudder {
             self.cells[3 + table]
         }
 
+        /// What a symbol names: its rule or its token, if there is one.
+        pub fn symbol(&self, symbol: u32) -> Option<Row> {
+            let row = self.lent[8].chunks(WIDTHS[8]).take(self.rows(9) as usize).nth(symbol as usize)?;
+            match (row[0], row[3]) {
+                (_, NO_ROW) => None,
+                (1, rule) => Some(Row::Rule(rule)),
+                (_, token) => Some(Row::Token(token)),
+            }
+        }
+
         /// Validation by itself, as for tables from elsewhere.
         pub fn validate(&self) -> Answer {
             let mut cells = [0; 4];
@@ -139,7 +152,7 @@ mod quiltrudder {
         }
 
         /// The rules and tokens that nothing uses, in order.
-        pub fn report(&self) -> Result<Vec<Unused>, Answer> {
+        pub fn report(&self) -> Result<Vec<Row>, Answer> {
             let (rules, tokens) = (self.rows(7) as usize, self.rows(1) as usize);
             let mut work = vec![0u32; rules.div_ceil(32) + tokens.div_ceil(32)];
             let mut out = vec![0u32; (rules + tokens) * 2];
@@ -151,7 +164,7 @@ mod quiltrudder {
             if cells[0] != 0 {
                 return Err(answer(&cells));
             }
-            let unused = |row: &[u32]| if row[0] == 1 { Unused::Rule(row[1]) } else { Unused::Token(row[1]) };
+            let unused = |row: &[u32]| if row[0] == 1 { Row::Rule(row[1]) } else { Row::Token(row[1]) };
             Ok(out.chunks(2).take(count(cells)).map(unused).collect())
         }
 
@@ -182,7 +195,7 @@ mod quiltrudder {
     }
 }
 
-use quiltrudder::{Answer, Unused};
+use quiltrudder::{Answer, Row};
 
 fn print_answer(a: Answer) {
     println!("answer {} {} {}", a.number, a.from, a.to);
@@ -206,8 +219,8 @@ fn print_report(src: &[u8], kind: u32) {
             print_answer(answer);
             for row in unused {
                 let (word, (from, to)) = match row {
-                    Unused::Rule(r) => ("rule", reading.name_place(7, r)),
-                    Unused::Token(r) => ("token", reading.name_place(1, r)),
+                    Row::Rule(r) => ("rule", reading.name_place(7, r)),
+                    Row::Token(r) => ("token", reading.name_place(1, r)),
                 };
                 println!("{word} {from} {to}");
             }
@@ -229,7 +242,7 @@ fn main() {
 
 #[cfg(test)]
 mod tests {
-    use super::quiltrudder::load;
+    use super::quiltrudder::{load, Row};
 
     #[test]
     fn names_are_parts_of_the_source() {
@@ -241,6 +254,13 @@ mod tests {
         assert_eq!(reading.name(7, 0), b"s");
         assert_eq!(reading.name(1, 2), b"");
         assert_eq!(reading.name(8, 0), b"");
+    }
+
+    #[test]
+    fn symbols_know_their_rows() {
+        let reading = load(b"%%s:t 'a' u;t:;", 1, 8);
+        let rows: Vec<_> = (0..4).map(|symbol| reading.symbol(symbol)).collect();
+        assert_eq!(rows, [Some(Row::Rule(1)), Some(Row::Token(0)), None, None]);
     }
 
     #[test]
