@@ -38,13 +38,13 @@ unsafe extern "C" {
 }
 
 fn load(kind: u32, src: &[u8], t: &mut Lent) -> u32 {
-    let mut o = [0u32; 38];
+    let mut o = [0u32; 40];
     unsafe { lent!(quiltrudder_load t (src.as_ptr(), src.len(), kind) (o.as_mut_ptr())) };
     o[0]
 }
 
 fn ours(kind: u32, src: &[u8], t: &mut Lent, work: &mut [u32], out: &mut [u32]) -> (u32, u32, u32) {
-    let (mut o, mut r) = ([0u32; 38], [0u32; 6]);
+    let (mut o, mut r) = ([0u32; 40], [0u32; 8]);
     unsafe {
         lent!(quiltrudder_load t (src.as_ptr(), src.len(), kind) (o.as_mut_ptr()));
         if o[0] == 0 {

@@ -27,7 +27,7 @@ static void errors(void) {
 }
 
 static void epp(uint32_t row) {
-    uint32_t *x = t[5] + 6 * row, a[6];
+    uint32_t *x = t[5] + 6 * row, a[QUILTRUDDER_VALUATION_CELLS];
     uint8_t *out = malloc(len + 1);
     quiltrudder_epp_value(src, len, o, TABLES, row, out, len, a);
     printf("t5 %u %u %u ", row, x[0], x[1]);
@@ -74,20 +74,30 @@ static void singles(void) {
     part("programs", o + 35);
 }
 
+/* An answer at 0..0 is on line 1, column 1. */
+static void begins(const char *what, const uint32_t *a) {
+    if (a[1] || a[2] || a[QUILTRUDDER_COUNTED_LINE] != 1 || a[QUILTRUDDER_COUNTED_COLUMN] != 1) printf("%s at %u..%u, line %u, column %u\n", what, a[1], a[2], a[6], a[7]);
+}
+
 /* In a table with a row for each test, in one that has just enough, and in one that is a row short; each full of rubbish. */
 static void faults(void) {
     size_t cells = QUILTRUDDER_FAULT_WIDTH * QUILTRUDDER_TESTS(o);
-    uint32_t *t14 = malloc(4 * cells), *again = malloc(4 * cells), a[6], b[6];
+    uint32_t *t14 = malloc(4 * cells), *again = malloc(4 * cells), a[QUILTRUDDER_FAULTS_CELLS], b[QUILTRUDDER_FAULTS_CELLS];
     for (size_t i = 0; i < cells; i++) t14[i] = again[i] = 0xdeadbeef;
     quiltrudder_faults(src, len, o, TABLES, t14, cells, a);
     if (a[0]) printf("faults refused %u\n", a[0]);
-    for (uint32_t i = 0; i < a[4]; i++) printf("fault %u %u %u\n", t14[3 * i], t14[3 * i + 1], t14[3 * i + 2]);
+    for (uint32_t i = 0; i < a[4]; i++) {
+        uint32_t at[QUILTRUDDER_SPOT_CELLS];
+        quiltrudder_locate(src, len, t14[3 * i + 1], at);
+        printf("fault %u %u %u %u %u\n", t14[3 * i], t14[3 * i + 1], t14[3 * i + 2], at[0], at[1]);
+    }
+    begins("faults", a);
     for (size_t i = 3 * (size_t)a[4]; i < cells; i++) if (t14[i]) printf("fault cell %zu is not zero\n", i);
     quiltrudder_faults(src, len, o, TABLES, again, 3 * (size_t)a[4], b);
     if (memcmp(a, b, sizeof a) || memcmp(t14, again, 12 * (size_t)a[4])) printf("faults differ with just enough room\n");
     if (a[4]) {
         quiltrudder_faults(src, len, o, TABLES, again, 3 * (size_t)a[4] - 1, b);
-        int wrong = b[0] != 42 || b[1] || b[2] || b[3] != 14 || b[4] || b[5];
+        int wrong = b[0] != 42 || b[1] || b[2] || b[3] != 14 || b[4] || b[5] || b[6] != 1 || b[7] != 1;
         for (size_t i = 0; i < 3 * (size_t)a[4] - 1; i++) wrong |= again[i] != 0;
         if (wrong) printf("faults without room answer %u, table %u\n", b[0], b[3]);
     }
@@ -96,18 +106,21 @@ static void faults(void) {
 }
 
 static void use(void) {
-    uint32_t v[4], a[6], words = (o[10] + 31) / 32 + (o[4] + 31) / 32;
+    uint32_t v[QUILTRUDDER_VALIDITY_CELLS], a[QUILTRUDDER_LISTING_CELLS], words = (o[10] + 31) / 32 + (o[4] + 31) / 32;
     quiltrudder_validate(src, len, o, TABLES, v);
-    printf("validate %u %u %u\n", v[0], v[1], v[2]);
+    printf("validate %u %u %u %u %u\n", v[0], v[1], v[2], v[4], v[5]);
     faults();
     if (v[0]) return;
     size_t rows = 2 * ((size_t)o[10] + o[4]);
     uint32_t *work = malloc(4 * (words + 1)), *out = malloc(4 * (rows + 1));
     quiltrudder_report(src, len, o, TABLES, work, words, out, rows, a);
     if (a[0]) printf("report refused %u\n", a[0]);
+    begins("report", a);
     for (uint32_t i = 0; i < a[4]; i++) {
-        uint32_t kind = out[2 * i], r = out[2 * i + 1], p[2];
+        uint32_t kind = out[2 * i], r = out[2 * i + 1], p[QUILTRUDDER_PLACE_CELLS], at[QUILTRUDDER_SPOT_CELLS];
         quiltrudder_name(src, len, o, TABLES, kind == 1 ? 7 : 1, r, p);
+        quiltrudder_locate(src, len, p[0], at);
+        if (p[2] != at[0] || p[3] != at[1]) printf("a name's line and column are not those of its place\n");
         printf("unused %u %u %u %u\n", kind, r, p[0], p[1]);
     }
     printf("work");
@@ -140,7 +153,7 @@ int main(int argc, char **argv) {
         int fatal = is_fatal();
         printf("input %ld %u %u\nload %u %u %u", index, kind, len, o[0], o[1], o[2]);
         if (o[0] == 42) printf(" %u", o[3]);
-        printf("\n");
+        printf(" %u %u\n", o[QUILTRUDDER_READING_LINE], o[QUILTRUDDER_READING_COLUMN]);
         errors();
         printf("counts");
         for (int k = 1; k <= 10; k++) printf(" %u", o[3 + k]);

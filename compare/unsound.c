@@ -172,7 +172,7 @@ int main(int argc, char **argv) {
                 for (size_t less = 0; less <= 3 && less <= was; less++) { n[k] = was - less * width[k] < was ? was - less * width[k] : 0; ask("length", k, n[k]); }
                 n[k] = was;
             }
-            for (int i = 14; i < QUILTRUDDER_READING_CELLS; i++) each(o + i, "single", 0, i);
+            for (int i = QUILTRUDDER_START; i < QUILTRUDDER_READING_LINE; i++) each(o + i, "single", 0, i);
         }
         free(s);
     }

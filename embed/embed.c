@@ -42,7 +42,10 @@ static void print_faults(size_t length, const uint32_t *reading)
     for (uint32_t i = 0; i < faults[QUILTRUDDER_COUNT_LOW]; i++) {
         const uint32_t *row = t14 + i * QUILTRUDDER_FAULT_WIDTH;
 
-        printf("fault %u %u %u\n", (unsigned)row[0], (unsigned)row[1], (unsigned)row[2]);
+        uint32_t spot[QUILTRUDDER_SPOT_CELLS];
+
+        quiltrudder_locate(src, length, row[1], spot);
+        printf("fault %u %u %u %u %u\n", (unsigned)row[0], (unsigned)row[1], (unsigned)row[2], (unsigned)spot[QUILTRUDDER_SPOT_LINE], (unsigned)spot[QUILTRUDDER_SPOT_COLUMN]);
     }
 }
 

@@ -30,13 +30,16 @@ mod quiltrudder {
                 }
             };
         }
+        extern "C" {
+            pub fn quiltrudder_locate(src: *const u8, src_length: usize, at: u32, answer: *mut [u32; 2]);
+        }
         declare! {
-            quiltrudder_load(kind: u32; *mut u32; answer: *mut [u32; 38]);
-            quiltrudder_validate(reading: *const [u32; 38]; *const u32; answer: *mut [u32; 4]);
-            quiltrudder_faults(reading: *const [u32; 38]; *const u32; t14: *mut u32, t14_length: usize, answer: *mut [u32; 6]);
-            quiltrudder_report(reading: *const [u32; 38]; *const u32; work: *mut u32, work_length: usize, out: *mut u32, out_length: usize, answer: *mut [u32; 6]);
-            quiltrudder_name(reading: *const [u32; 38]; *const u32; table: u32, row: u32, answer: *mut [u32; 2]);
-            quiltrudder_epp_value(reading: *const [u32; 38]; *const u32; row: u32, out: *mut u8, out_length: usize, answer: *mut [u32; 6]);
+            quiltrudder_load(kind: u32; *mut u32; answer: *mut [u32; 40]);
+            quiltrudder_validate(reading: *const [u32; 40]; *const u32; answer: *mut [u32; 6]);
+            quiltrudder_faults(reading: *const [u32; 40]; *const u32; t14: *mut u32, t14_length: usize, answer: *mut [u32; 8]);
+            quiltrudder_report(reading: *const [u32; 40]; *const u32; work: *mut u32, work_length: usize, out: *mut u32, out_length: usize, answer: *mut [u32; 8]);
+            quiltrudder_name(reading: *const [u32; 40]; *const u32; table: u32, row: u32, answer: *mut [u32; 4]);
+            quiltrudder_epp_value(reading: *const [u32; 40]; *const u32; row: u32, out: *mut u8, out_length: usize, answer: *mut [u32; 8]);
         }
     }
 
@@ -46,20 +49,37 @@ mod quiltrudder {
     /// The row of a symbol whose name is that of no rule or token.
     const NO_ROW: u32 = 4294967295;
 
-    /// Number, place and table number; the number is 0 unless it is a refusal's.
+    /// A line and a byte column, both from 1.
+    #[derive(Clone, Copy, Debug, PartialEq)]
+    pub struct Spot {
+        pub line: u32,
+        pub column: u32,
+    }
+
+    /// Number, place and table number, and line and column of the place's start; the number is 0 unless it is a refusal's.
     #[derive(Clone, Copy, Debug, PartialEq)]
     pub struct Answer {
         pub number: u32,
         pub from: u32,
         pub to: u32,
         pub table: u32,
+        pub spot: Spot,
     }
 
-    fn answer(cells: &[u32]) -> Answer {
-        Answer { number: cells[0], from: cells[1], to: cells[2], table: cells[3] }
+    /// Line and column are the last two numbers of every answer.
+    fn answer<const N: usize>(cells: [u32; N]) -> Answer {
+        let spot = Spot { line: cells[N - 2], column: cells[N - 1] };
+        Answer { number: cells[0], from: cells[1], to: cells[2], table: cells[3], spot }
     }
 
-    fn count(cells: [u32; 6]) -> usize {
+    /// Line and column of a place, for those in rows.
+    pub fn locate(src: &[u8], at: u32) -> Spot {
+        let mut cells = [0; 2];
+        unsafe { c::quiltrudder_locate(src.as_ptr(), src.len(), at, &mut cells) };
+        Spot { line: cells[0], column: cells[1] }
+    }
+
+    fn count(cells: [u32; 8]) -> usize {
         (u64::from(cells[4]) + (u64::from(cells[5]) << 32)) as usize
     }
 
@@ -81,7 +101,7 @@ mod quiltrudder {
     /// A source and what was read of it: ten tables, and the indexes of tables 1 and 7.
     pub struct Reading<'a> {
         src: &'a [u8],
-        cells: [u32; 38],
+        cells: [u32; 40],
         lent: [Vec<u32>; 12],
     }
 
@@ -103,7 +123,7 @@ mod quiltrudder {
 
     /// Reads a source of kind 1, 2 or 3 and validates what was read, with room for so many rows in each table, and indexes that are large enough.
     pub fn load(src: &[u8], kind: u32, rows: usize) -> Reading<'_> {
-        let mut cells = [0; 38];
+        let mut cells = [0; 40];
         let slots = (2 * rows).next_power_of_two();
         let lengths = WIDTHS.map(|width| rows * width).into_iter().chain([slots, slots]);
         let mut lent: [Vec<u32>; 12] = lengths.map(|length| vec![0; length]).collect::<Vec<_>>().try_into().unwrap();
@@ -113,7 +133,7 @@ mod quiltrudder {
 
     impl<'a> Reading<'a> {
         pub fn answer(&self) -> Answer {
-            answer(&self.cells)
+            answer(self.cells)
         }
 
         /// How many rows table 1 to 10 has.
@@ -133,19 +153,19 @@ mod quiltrudder {
 
         /// Validation by itself, as for tables from elsewhere.
         pub fn validate(&self) -> Answer {
-            let mut cells = [0; 4];
+            let mut cells = [0; 6];
             call!(quiltrudder_validate, self.src, (&self.cells), &self.lent, as_ptr, (&mut cells));
-            answer(&cells)
+            answer(cells)
         }
 
         /// Every fault, in the order of the tests: one for the start, and one for each row of tables 5, 6, 8 and 9 at most.
         pub fn faults(&self) -> Result<Vec<Fault>, Answer> {
             let tests = 1 + [5, 6, 8, 9].map(|table| self.rows(table) as usize).iter().sum::<usize>();
             let mut t14 = vec![0u32; tests * 3];
-            let mut cells = [0; 6];
+            let mut cells = [0; 8];
             call!(quiltrudder_faults, self.src, (&self.cells), &self.lent, as_ptr, (t14.as_mut_ptr(), t14.len(), &mut cells));
             if cells[0] != 0 {
-                return Err(answer(&cells));
+                return Err(answer(cells));
             }
             let fault = |row: &[u32]| Fault { number: row[0], from: row[1], to: row[2] };
             Ok(t14.chunks(3).take(count(cells)).map(fault).collect())
@@ -156,13 +176,13 @@ mod quiltrudder {
             let (rules, tokens) = (self.rows(7) as usize, self.rows(1) as usize);
             let mut work = vec![0u32; rules.div_ceil(32) + tokens.div_ceil(32)];
             let mut out = vec![0u32; (rules + tokens) * 2];
-            let mut cells = [0; 6];
+            let mut cells = [0; 8];
             call!(
                 quiltrudder_report, self.src, (&self.cells), &self.lent, as_ptr,
                 (work.as_mut_ptr(), work.len(), out.as_mut_ptr(), out.len(), &mut cells)
             );
             if cells[0] != 0 {
-                return Err(answer(&cells));
+                return Err(answer(cells));
             }
             let unused = |row: &[u32]| if row[0] == 1 { Row::Rule(row[1]) } else { Row::Token(row[1]) };
             Ok(out.chunks(2).take(count(cells)).map(unused).collect())
@@ -170,7 +190,7 @@ mod quiltrudder {
 
         /// The place of the name of a row of table 1 or 7.
         pub fn name_place(&self, table: u32, row: u32) -> (u32, u32) {
-            let mut cells = [0; 2];
+            let mut cells = [0; 4];
             call!(quiltrudder_name, self.src, (&self.cells), &self.lent, as_ptr, (table, row, &mut cells));
             (cells[0], cells[1])
         }
@@ -184,10 +204,10 @@ mod quiltrudder {
         /// The value of a row of table 5 without its quotes and escapes.
         pub fn epp_value(&self, row: u32) -> Result<Vec<u8>, Answer> {
             let mut out = vec![0u8; self.src.len()];
-            let mut cells = [0; 6];
+            let mut cells = [0; 8];
             call!(quiltrudder_epp_value, self.src, (&self.cells), &self.lent, as_ptr, (row, out.as_mut_ptr(), out.len(), &mut cells));
             if cells[0] != 0 {
-                return Err(answer(&cells));
+                return Err(answer(cells));
             }
             out.truncate(count(cells));
             Ok(out)
@@ -208,7 +228,8 @@ fn print_report(src: &[u8], kind: u32) {
         print_answer(answer);
         if (30..=35).contains(&answer.number) {
             for fault in reading.faults().unwrap_or_default() {
-                println!("fault {} {} {}", fault.number, fault.from, fault.to);
+                let spot = quiltrudder::locate(src, fault.from);
+                println!("fault {} {} {} {} {}", fault.number, fault.from, fault.to, spot.line, spot.column);
             }
         }
         return;
@@ -242,7 +263,7 @@ fn main() {
 
 #[cfg(test)]
 mod tests {
-    use super::quiltrudder::{load, Row};
+    use super::quiltrudder::{load, locate, Row, Spot};
 
     #[test]
     fn names_are_parts_of_the_source() {
@@ -278,6 +299,18 @@ mod tests {
         let numbers: Vec<u32> = load(src, 1, 8).faults().unwrap().iter().map(|fault| fault.number).collect();
         assert_eq!(numbers, [31, 34, 32]);
         assert!(load(b"%%s:;", 1, 8).faults().unwrap().is_empty());
+    }
+
+    #[test]
+    fn places_have_lines_and_columns() {
+        let spot = |line, column| Spot { line, column };
+        let src = b"%start q\r\n%%\rs: x;\n";
+        let reading = load(src, 1, 8);
+        assert_eq!((reading.answer().number, reading.answer().spot), (31, spot(1, 8)));
+        assert_eq!(reading.report().unwrap_err().spot, spot(1, 8));
+        assert_eq!(locate(src, reading.faults().unwrap()[1].from), spot(3, 4));
+        assert_eq!([9, 10, 12, 13, 99].map(|at| locate(src, at)), [spot(1, 10), spot(2, 1), spot(2, 3), spot(3, 1), spot(4, 1)]);
+        assert_eq!(load(b"%%\ns:;\n", 1, 8).answer().spot, spot(3, 1));
     }
 
     #[test]

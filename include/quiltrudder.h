@@ -1,11 +1,12 @@
-/* Quiltrudder for C: loading a Yacc specification (it is read, and what was read is validated), validating tables from elsewhere, the list of all faults, the unused report, the name of a row and
- * the value of an `%epp` row. Each function's contract is proved; the comments here say what the contracts say.
+/* Quiltrudder for C: loading a Yacc specification (it is read, and what was read is validated), validating tables from elsewhere, the list of all faults, the unused report, the name of a row,
+ * the value of an `%epp` row, and line and column of a place. Each function's contract is proved; the comments here say what the contracts say.
  *
  * A slice is a pointer and a length, the length counted in elements. A pointer is never null, also where the length is 0, and no memory that a
  * function writes overlaps any other that it is lent. That is all a caller owes: every function takes any bytes, numbers and lengths, and ends. It
  * keeps nothing, allocates nothing, and touches nothing but what it is lent and the stack, of which it takes less than half a megabyte.
  *
- * Places are byte offsets into the source, half open: from, to. */
+ * Places are byte offsets into the source, half open: from, to. Every answer ends with line and column of its place's start, both from 1; a column
+ * counts bytes. CR LF ends one line, and so does a CR or an LF by itself; a place on the LF of a pair is still on the earlier line. */
 #ifndef QUILTRUDDER_H
 #define QUILTRUDDER_H
 
@@ -53,18 +54,31 @@ extern "C" {
 #define QUILTRUDDER_REPORT_WIDTH 2 /* report: kind (1 rule, 2 token), row */
 
 /* How many numbers each answer has. */
-#define QUILTRUDDER_READING_CELLS 38
-#define QUILTRUDDER_VALIDITY_CELLS 4
-#define QUILTRUDDER_FAULTS_CELLS 6
-#define QUILTRUDDER_LISTING_CELLS 6
-#define QUILTRUDDER_PLACE_CELLS 2
-#define QUILTRUDDER_VALUATION_CELLS 6
+#define QUILTRUDDER_READING_CELLS 40
+#define QUILTRUDDER_VALIDITY_CELLS 6
+#define QUILTRUDDER_FAULTS_CELLS 8
+#define QUILTRUDDER_LISTING_CELLS 8
+#define QUILTRUDDER_PLACE_CELLS 4
+#define QUILTRUDDER_VALUATION_CELLS 8
+#define QUILTRUDDER_SPOT_CELLS 2
 
 /* Where they stand. Every answer but that of a name begins with number, place and table number; the table number is 0 unless the number is 42. */
 #define QUILTRUDDER_NUMBER 0
 #define QUILTRUDDER_FROM 1
 #define QUILTRUDDER_TO 2
 #define QUILTRUDDER_TABLE 3
+
+/* Line and column of the place's start are the last two of every answer: 1, 1 where the place is 0, 0, and the end's where a load is accepted. */
+#define QUILTRUDDER_READING_LINE 38
+#define QUILTRUDDER_READING_COLUMN 39
+#define QUILTRUDDER_VALIDITY_LINE 4
+#define QUILTRUDDER_VALIDITY_COLUMN 5
+#define QUILTRUDDER_COUNTED_LINE 6 /* of the faults, of the report and of a value */
+#define QUILTRUDDER_COUNTED_COLUMN 7
+#define QUILTRUDDER_PLACE_LINE 2
+#define QUILTRUDDER_PLACE_COLUMN 3
+#define QUILTRUDDER_SPOT_LINE 0
+#define QUILTRUDDER_SPOT_COLUMN 1
 
 /* The numbers that answers begin with. */
 #define QUILTRUDDER_ACCEPTED 0 /* nothing is refused */
@@ -149,7 +163,7 @@ void quiltrudder_load(
  * counts and the singles only; a flag of 0 is absent, any other is given. They test first whether these are sound, so numbers, tables and indexes
  * made by hand are safe too: where they are not sound, number 44, or for a name an empty place. They change nothing lent but what is named. */
 
-/* Whether a reading is valid, or the first that it lacks: number 0, 30 to 35 or 44, with its place. The fourth number is 0. For tables from elsewhere: what quiltrudder_load answers 0 for is valid. */
+/* Whether a reading is valid, or the first that it lacks: number 0, 30 to 35 or 44, with its place. The table number is 0. For tables from elsewhere: what quiltrudder_load answers 0 for is valid. */
 void quiltrudder_validate(
     const uint8_t *src, size_t src_length,
     const uint32_t reading[QUILTRUDDER_READING_CELLS],
@@ -219,7 +233,7 @@ void quiltrudder_report(
     uint32_t *out, size_t out_length,
     uint32_t answer[QUILTRUDDER_LISTING_CELLS]);
 
-/* The place of the name of a row of table 1 or 7: from, to. 0, 0 for another table, a row that is not below the table's count, or unsound
+/* The place of the name of a row of table 1 or 7: from, to, line, column. 0, 0, 1, 1 for another table, a row that is not below the table's count, or unsound
  * tables. The source's bytes at that place are the name. */
 void quiltrudder_name(
     const uint8_t *src, size_t src_length,
@@ -262,6 +276,13 @@ void quiltrudder_epp_value(
     uint32_t row,
     uint8_t *out, size_t out_length,
     uint32_t answer[QUILTRUDDER_VALUATION_CELLS]);
+
+/* Line and column of the byte at offset `at`, for the places that stand in rows; of the byte that would come next where `at` is the source's end or
+ * behind it. In a source of more than QUILTRUDDER_SOURCE_BYTES they are 1, 1. */
+void quiltrudder_locate(
+    const uint8_t *src, size_t src_length,
+    uint32_t at,
+    uint32_t answer[QUILTRUDDER_SPOT_CELLS]);
 
 #ifdef __cplusplus
 }

@@ -5,6 +5,7 @@ use mathlib.Core.Bool.{true}
 use mathlib.Core.List.{List, [], _∷_, _++_}
 use lib.ListN.{take, replicate}
 use Rattle.scan.specs.Scan.{isAt, begins, startsAt, isLetter, isDigit, isEol, inClass, runEnd, runEndAt}
+use Rattle.scan.specs.Lines.{linesHere}
 use Rattle.scan.specs.Loop.{turns}
 use Rattle.scan.specs.Table.{Case, same, all}
 use Rattle.spacing.specs.Spacing.{isBlank, spacing, spacingAt}
@@ -116,5 +117,5 @@ table =
     ∷ []
 
 pub table-holds : all (λ x. numbers (declAll (x .src) (x .kind) fresh lent)) table ≡ true
-unfolding all same row table answered filled numbers declAll declRun declTurn declStep seenAt firstOf startsAt begins turns gapAt gapOf spacing spacingAt isBlank isEol pastGap pushRow listRepeat enterStep onceStep addRow room samePart hasName firstRow findName enterToken nextLevel nameAt named wordAt tokenAt bare quotedAt closed isQuote isAt inClass isLetter isDigit runEnd runEndAt intAt counted decimal decimalAt stringAt stringFrom string lineEndAt startDecl startNamed expectDecl expectGiven actiontypeDecl actiontypeNamed listDecl percentList listTurn ends tokenItem unusedItem unusedRow precDecl precList precTurn precItem avoidDecl avoidList avoidTurn avoidItem avoidNamed eppDecl eppValue eppText eppGiven
+unfolding all same row table answered filled numbers declAll declRun declTurn declStep seenAt firstOf startsAt begins turns gapAt gapOf spacing spacingAt isBlank isEol linesHere pastGap pushRow listRepeat enterStep onceStep addRow room samePart hasName firstRow findName enterToken nextLevel nameAt named wordAt tokenAt bare quotedAt closed isQuote isAt inClass isLetter isDigit runEnd runEndAt intAt counted decimal decimalAt stringAt stringFrom string lineEndAt startDecl startNamed expectDecl expectGiven actiontypeDecl actiontypeNamed listDecl percentList listTurn ends tokenItem unusedItem unusedRow precDecl precList precTurn precItem avoidDecl avoidList avoidTurn avoidItem avoidNamed eppDecl eppValue eppText eppGiven
 table-holds = refl

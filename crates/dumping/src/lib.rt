@@ -7,6 +7,7 @@ use grammar::Part;
 use grammar::Singles;
 use grammar::Told;
 use loading::Judgement;
+use places::Spot;
 use usage::Listing;
 use values::Valuation;
 ghost use Rattle.io.specs.Counts.{Counts as Leading};
@@ -499,6 +500,15 @@ fn put_answer(o: &mut [u8], at: usize, word: &[u8], told: Told) -> usize {
     put(o, r, b'\n')
 }
 
+// The same with line and column of its place.
+fn put_located(o: &mut [u8], at: usize, word: &[u8], told: Told, spot: Spot) -> usize {
+    let p = put_word(o, at, word);
+    let q = put_told(o, p, told);
+    let r = put_table(o, q, told.table);
+    let s = put_place(o, r, spot.line, spot.column);
+    put(o, s, b'\n')
+}
+
 fn put_counts(o: &mut [u8], at: usize, c: Counts) -> usize {
     let mut p = at;
     let mut k = 0u8;
@@ -509,8 +519,8 @@ fn put_counts(o: &mut [u8], at: usize, c: Counts) -> usize {
     p
 }
 
-fn put_loading(o: &mut [u8], at: usize, told: Told, c: Counts, t10: &[u32]) -> usize {
-    let p = put_answer(o, at, b"load", told);
+fn put_loading(o: &mut [u8], at: usize, told: Told, spot: Spot, c: Counts, t10: &[u32]) -> usize {
+    let p = put_located(o, at, b"load", told, spot);
     let q = put_errors(o, p, told, t10, sound::rows_of(c, tables::REPEATS));
     let r = put_word(o, q, b"counts");
     let s = put_counts(o, r, c);
@@ -668,7 +678,8 @@ fn put_value(
         row,
         value,
     );
-    put_written(o, at, v, value)
+    let a = v.answer;
+    put_written(o, at, a, value)
 }
 
 fn put_epp(
@@ -855,17 +866,20 @@ fn put_tables(
 
 // ---- The faults. ----
 
-fn put_fault(o: &mut [u8], at: usize, t14: &[u32], row: u32) -> usize {
+// A row of table 14, with line and column of its place.
+fn put_fault(o: &mut [u8], at: usize, src: &[u8], t14: &[u32], row: u32) -> usize {
     let p = put_word(o, at, b"fault");
     let q = put_cells(o, p, t14, tables::FAULT_WIDTH, row, tables::FAULT_WIDTH);
-    put(o, q, b'\n')
+    let s = quiltrudder::locate(src, tables::cell(t14, tables::FAULT_WIDTH, row, 1));
+    let r = put_place(o, q, s.line, s.column);
+    put(o, r, b'\n')
 }
 
-fn put_all_faults(o: &mut [u8], at: usize, t14: &[u32], n: usize) -> usize {
+fn put_all_faults(o: &mut [u8], at: usize, src: &[u8], t14: &[u32], n: usize) -> usize {
     let mut p = at;
     let mut row = 0u32;
     while row < 4294967295 && (row as usize) < n {
-        p = put_fault(o, p, t14, row);
+        p = put_fault(o, p, src, t14, row);
         row += 1;
     }
     p
@@ -909,11 +923,12 @@ fn put_faults(
         i7,
         t14,
     );
-    let told = numbers::of_fault_listing(l);
+    let a = l.answer;
+    let told = numbers::of_fault_listing(a);
     if told.number != 0 {
         return put_answer(o, at, b"faults", told);
     }
-    put_all_faults(o, at, t14, numbers::faulted(l))
+    put_all_faults(o, at, src, t14, numbers::faulted(a))
 }
 
 // ---- The report. ----
@@ -1022,7 +1037,8 @@ fn put_report(
         work,
         out,
     );
-    put_listing(o, at, l, t1, t7, work, out)
+    let a = l.answer;
+    put_listing(o, at, a, t1, t7, work, out)
 }
 
 // At most `n` cells from the first on.
@@ -1119,8 +1135,10 @@ fn put_validity(
     out: &mut [u32],
 ) -> usize {
     let v = quiltrudder::validate(src, c, g, t1, t2, t3, t4, t5, t6, t7, t8, t9, t10, i1, i7);
-    let told = numbers::of_validity(v);
-    let p = put_answer(o, at, b"validate", told);
+    let a = v.answer;
+    let spot = v.spot;
+    let told = numbers::of_validity(a);
+    let p = put_located(o, at, b"validate", told, spot);
     let q = put_faults(
         o,
         p,
@@ -1241,6 +1259,7 @@ fn put_outcome(
     at: usize,
     src: &[u8],
     j: Judgement,
+    spot: Spot,
     c: Counts,
     g: Singles,
     t1: &[u32],
@@ -1260,7 +1279,7 @@ fn put_outcome(
     value: &mut [u8],
 ) -> usize {
     let told = numbers::of_judgement(j);
-    let p = put_loading(o, at, told, c, t10);
+    let p = put_loading(o, at, told, spot, c, t10);
     if is_fatal(told.number) {
         return put_repeats(o, p, src, c, t10);
     }
@@ -1313,11 +1332,13 @@ fn dump(
     let j = r.answer;
     let c = r.counts;
     let g = r.singles;
+    let spot = r.spot;
     put_outcome(
         o,
         at,
         src,
         j,
+        spot,
         c,
         g,
         t1,

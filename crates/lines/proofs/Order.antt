@@ -1,9 +1,10 @@
 -- The words of a line stand one behind the other with no LF between them, and behind the last one is a line end or the source's end. Assumes nothing.
-use Prim.Native.Nat.{ℕ, _≤_}
+use Prim.Native.Nat.{ℕ, _≤_, _<_}
 use mathlib.Core.Path.{_≡_, refl, sym}
 use mathlib.Core.List.{List}
 use mathlib.Core.Bool.{Bool, true, false, _||_, false≢true}
 use mathlib.Core.Logic.{inl, inr, ⊎-elim}
+use native.Mathlib.Decide.{ℕ-discrete}
 use native.Mathlib.Omega.{arith}
 use lib.Dec.{eqb}
 use lib.ListN.{length}
@@ -15,7 +16,7 @@ use Rattle.scan.proofs.Bytes.{le-or-lt}
 use Rattle.scan.proofs.Tally.{tally-split, tally-zero}
 use Rattle.spacing.specs.declared.Spaced.the-variants.{To}
 use Rattle.spacing.specs.Spacing.{spacesAt}
-use Rattle.spacing.proofs.Ends.{spacing-counts}
+use Rattle.spacing.proofs.Lines.{counted-iff}
 use Rattle.words.specs.declared.Token.the-variants.{Found}
 use Rattle.words.specs.Words.{tokenAt}
 use Rattle.words.proofs.Feeds.{token-no-feed}
@@ -52,15 +53,12 @@ module _ (src : List ℕ) where
   token-plain i p end quoted e k h l = ne-eqb _ 10 (λ f. token-no-feed src i p end quoted e k h l f)
 
   -- spacing that counts none passes no LF,
-  gap-plain : (end k : ℕ) → end ≤ length src → spacesAt true src end ≡ To k 0 → Without isFeed src end k
-  gap-plain end k h e i l m =
-      let x = gap-placed src end k 0 h e in
-      let y = x .0 in
-      no-end-no-feed _ (tally-zero isEol src end k (omega arith) (x .1) (sym (spacing-counts true src end k 0 e)) i l m)
+  gap-plain : (end k : ℕ) → spacesAt true src end ≡ To k 0 → Without isFeed src end k
+  gap-plain end k e i l m = no-end-no-feed _ (counted-iff true src end k 0 e .0 refl i l m)
 
   -- and neither does a word with such spacing behind it.
   word-plain : (i : ℕ) (p : Place) (end : ℕ) (quoted : Bool) (k : ℕ) → tokenAt src i ≡ Found p end quoted → spacesAt true src end ≡ To k 0 → Without isFeed src i k
-  word-plain i p end quoted k e g = without-on isFeed src i end k (token-plain i p end quoted e) (gap-plain end k (word-placed src i p end quoted e .3) g)
+  word-plain i p end quoted k e g = without-on isFeed src i end k (token-plain i p end quoted e) (gap-plain end k g)
 
   -- from where a line begins to one of its words
   begin-plain : {i j n : ℕ} {ws : List LineWord} → Line src i j n ws → (w : LineWord) → In w ws → Without isFeed src i (w .place .from)
@@ -103,12 +101,22 @@ module _ (src : List ℕ) where
   over-on a b j h k l (inl x) = inl (let y = ends-on a b j j h k (omega arith) l in omega arith)
   over-on a b j h k l (inr x) = inr x
 
+  -- spacing that counts a line passes a line end
+  gap-ends : (end j n : ℕ) → end ≤ length src → spacesAt true src end ≡ To j n → 0 < n → 0 < tallyAt isEol src end j
+  gap-ends end j n h e p =
+      let x = gap-placed src end j n h e in
+      let y = x .0 in
+      elim (ℕ-discrete (tallyAt isEol src end j) 0) [
+        | yes z ↦ let o = counted-iff true src end j n e .1 (tally-zero isEol src end j (omega arith) (x .1) z) in absurd (omega arith)
+        | no z ↦ omega arith
+      ]
+
   line-over : {i j n : ℕ} {ws : List LineWord} → i ≤ length src → Line src i j n ws → LineOver src i j
   line-over b (ended h) = inr h
   line-over b (last {i} {j} {n} {end} {p} {quoted} e g h) =
       let a = word-placed src i p end quoted e in
       let c = gap-placed src end j n (a .3) g in
-      over-on i end j (omega (arith, a .0, a .1, a .2)) (omega (arith, c .0)) (c .1) (inl (rw (← spacing-counts true src end j n g) h))
+      over-on i end j (omega (arith, a .0, a .1, a .2)) (omega (arith, c .0)) (c .1) (inl (gap-ends end j n (a .3) g h))
   line-over b (word {i} {k} {j} {n} {end} {p} {quoted} e g l) =
       let a = word-placed src i p end quoted e in
       let c = gap-placed src end k 0 (a .3) g in
@@ -121,7 +129,7 @@ module _ (src : List ℕ) where
   words-over (last {i} {j} {n} {end} {p} {quoted} e g h) w (inl q) =
       let a = word-placed src i p end quoted e in
       let c = gap-placed src end j n (a .3) g in
-      rw q (over-on (p .to) end j (a .2) (omega (arith, c .0)) (c .1) (inl (rw (← spacing-counts true src end j n g) h)))
+      rw q (over-on (p .to) end j (a .2) (omega (arith, c .0)) (c .1) (inl (gap-ends end j n (a .3) g h)))
   words-over (last e g h) w (inr x) = absurd x
   words-over (word {i} {k} {j} {n} {end} {p} {quoted} e g l) w (inl q) =
       let a = word-placed src i p end quoted e in

@@ -10,6 +10,7 @@ use lib.ListN.{length, getD, take, drop, List·getD-eq-default}
 use borrow.Author.Tests.{eqb-true, eqb-false}
 use Rattle.scan.specs.declared.Place.{Place}
 use Rattle.scan.specs.Scan.{isEol, startsAt}
+use Rattle.scan.specs.Lines.{linesHere}
 use Rattle.scan.proofs.Bytes.{told, on-test, drop-below, drop-next, drop-byte, drop-ended, starts-fits}
 use Rattle.spacing.specs.declared.Spaced.{Spaced}
 use Rattle.spacing.specs.declared.Spaced.the-variants.{To, LineEnd, OpenComment}
@@ -50,7 +51,7 @@ unfolding single
 single-is s [] i n to m q h e = absurd (clash (cc))
 single-is s (c ∷ []) i n to m q h e = by-byte (eqb c 58) refl e
   where
-    by-byte : (b : Bool) → eqb c 58 ≡ b → elim b [ true ↦ single (colon i) [] (i + 1) n | false ↦ elim (isEol c) [ true ↦ single plain [] (i + 1) (n + 1) | false ↦ single plain [] (i + 1) n ] ] ≡ Single to m → SingleColon s i to
+    by-byte : (b : Bool) → eqb c 58 ≡ b → elim b [ true ↦ single (colon i) [] (i + 1) n | false ↦ elim (isEol c) [ true ↦ single plain [] (i + 1) (n + linesHere c []) | false ↦ single plain [] (i + 1) n ] ] ≡ Single to m → SingleColon s i to
     by-byte true t d =
         let k : i ≡ to = cc in
         let b = drop-below s i c [] q in
@@ -76,7 +77,7 @@ single-is s (c ∷ d ∷ cs) i n to m q h e = by-byte (eqb c 58) refl e (single-
         let k : i ≡ to = cc in
         told (λ (x : ℕ). SingleColon s i x) k (record { skips = skip-none; inside = below; colon = drop-byte s i c (d ∷ cs) q ∙ eqb-true c 58 t; alone = λ z. eqb-false d 58 u (sym (drop-byte s (i + 1) d cs next) ∙ z) })
 
-    by-byte : (b : Bool) → eqb c 58 ≡ b → elim b [ true ↦ single (colon i) (d ∷ cs) (i + 1) n | false ↦ elim (isEol c) [ true ↦ single plain (d ∷ cs) (i + 1) (n + 1) | false ↦ single plain (d ∷ cs) (i + 1) n ] ] ≡ Single to m
+    by-byte : (b : Bool) → eqb c 58 ≡ b → elim b [ true ↦ single (colon i) (d ∷ cs) (i + 1) n | false ↦ elim (isEol c) [ true ↦ single plain (d ∷ cs) (i + 1) (n + linesHere c (d ∷ cs)) | false ↦ single plain (d ∷ cs) (i + 1) n ] ] ≡ Single to m
         → ((n to m : ℕ) → drop (i + 1) s ≡ d ∷ cs → i + 1 ≤ length s → single plain (d ∷ cs) (i + 1) n ≡ Single to m → SingleColon s (i + 1) to)
         → ((n to m : ℕ) → drop (i + 1 + 1) s ≡ cs → i + 1 + 1 ≤ length s → single plain cs (i + 1 + 1) n ≡ Single to m → SingleColon s (i + 1 + 1) to) → SingleColon s i to
     by-byte true t y one two = by-second t (eqb d 58) refl y two
@@ -85,8 +86,8 @@ single-is s (c ∷ d ∷ cs) i n to m q h e = by-byte (eqb c 58) refl e (single-
         rest : SingleColon s (i + 1) to → SingleColon s i to
         rest r = record { skips = skip-byte (λ z. eqb-false c 58 t (sym (drop-byte s i c (d ∷ cs) q) ∙ z)) (r .skips); inside = r .inside; colon = r .colon; alone = r .alone }
 
-        passed : (b : Bool) → elim b [ true ↦ single plain (d ∷ cs) (i + 1) (n + 1) | false ↦ single plain (d ∷ cs) (i + 1) n ] ≡ Single to m → SingleColon s i to
-        passed true z = let b = below in rest (one (n + 1) to m next (omega arith) z)
+        passed : (b : Bool) → elim b [ true ↦ single plain (d ∷ cs) (i + 1) (n + linesHere c (d ∷ cs)) | false ↦ single plain (d ∷ cs) (i + 1) n ] ≡ Single to m → SingleColon s i to
+        passed true z = let b = below in rest (one (n + linesHere c (d ∷ cs)) to m next (omega arith) z)
         passed false z = let b = below in rest (one n to m next (omega arith) z)
 
 -- There is one such colon.

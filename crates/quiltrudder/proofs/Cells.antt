@@ -6,6 +6,7 @@ use native.Mathlib.Omega.{arith}
 use native.Mathlib.Numerals.{add-one}
 use lib.ListN.{length, getD, set, take, replicate, length-set}
 use lib.Seq.{set-out}
+use Rattle.places.specs.declared.Spot.{Spot}
 use Rattle.tables.specs.Table.{put}
 use Rattle.grammar.specs.declared.Part.{Part}
 use Rattle.grammar.specs.declared.Part.the-variants.{Absent, At}
@@ -20,7 +21,7 @@ use Rattle.grammar.specs.Numbers.{partNumbers, paramNumbers}
 use Rattle.loading.specs.declared.Judgement.{Judgement}
 use Rattle.loading.specs.Load.{judgementNumbers}
 use Rattle.numbers.specs.Numbers.{toldNumbers}
-use Rattle.quiltrudder.specs.Face.{expectCells, singlesCells, countsCells, loadingCells}
+use Rattle.quiltrudder.specs.Face.{spotCells, expectCells, singlesCells, countsCells, loadingCells}
 
 -- past the end nothing is stored
 pub put-past : (vs t : List ℕ) (at : ℕ) → length t ≤ at → put t at vs ≡ t
@@ -39,12 +40,12 @@ pub put-cons : (x : ℕ) (vs t : List ℕ) (at : ℕ) → put (x ∷ t) (at + 1)
 put-cons x [] t at = refl
 put-cons x (v ∷ vs) t at = rw (add-one at) (rw (← add-one at) (put-cons x vs (set t at v) (at + 1)))
 
--- values for every cell
-pub put-all : (t vs : List ℕ) → length vs ≡ length t → put t 0 vs ≡ vs
-put-all [] [] h = refl
-put-all [] (v ∷ vs) h = absurd (omega arith)
-put-all (x ∷ t) [] h = absurd (omega arith)
-put-all (x ∷ t) (v ∷ vs) h = put-cons v vs t 0 ∙ ap (λ (l : List ℕ). v ∷ l) (put-all t vs (omega arith))
+-- values for the first cells, and the others stay
+put-over : (t u vs : List ℕ) → length vs ≡ length t → put (t ++ u) 0 vs ≡ vs ++ u
+put-over [] u [] h = refl
+put-over [] u (v ∷ vs) h = absurd (omega arith)
+put-over (x ∷ t) u [] h = absurd (omega arith)
+put-over (x ∷ t) u (v ∷ vs) h = put-cons v vs (t ++ u) 0 ∙ ap (λ (l : List ℕ). v ∷ l) (put-over t u vs (omega arith))
 
 -- the cells of a list by their numbers
 abbrev pub three : List ℕ → List ℕ
@@ -88,12 +89,17 @@ put-behind : (pre t vs : List ℕ) → put (pre ++ t) (length pre) vs ≡ pre ++
 put-behind [] t vs = refl
 put-behind (x ∷ pre) t vs = rw (← add-one (length pre)) (put-cons x vs (pre ++ t) (length pre) ∙ ap (λ (l : List ℕ). x ∷ l) (put-behind pre t vs))
 
--- a load's numbers, stored one behind the other
-module _ (j : Judgement) (c : Counts) (g : Singles) (t : Told) (s m1 m2 m3 : List ℕ) where
-  pub loading-put : toldNumbers t ≡ judgementNumbers j → s ≡ singlesCells g → m1 ≡ put (replicate 38 0) 0 (toldNumbers t) → m2 ≡ put m1 4 (countsCells c) → m3 ≡ put m2 14 s → m3 ≡ loadingCells j c g
+-- a load's numbers, stored one behind the other, with line and column
+module _ (j : Judgement) (c : Counts) (g : Singles) (p : Spot) (t : Told) (s m1 m2 m3 m4 : List ℕ) where
+  abbrev front : List ℕ
+  front = toldNumbers t ++ countsCells c
+
+  pub loading-put : toldNumbers t ≡ judgementNumbers j → s ≡ singlesCells g → m1 ≡ put (replicate 40 0) 0 (toldNumbers t) → m2 ≡ put m1 4 (countsCells c) → m3 ≡ put m2 14 s → m4 ≡ put m3 38 (spotCells p) → m4 ≡ loadingCells j c g ++ spotCells p
   unfolding loadingCells
-  loading-put ht hs k1 k2 k3 =
-      let e : m2 ≡ (toldNumbers t ++ countsCells c) ++ replicate 24 0 = rw (k2, k1) in
-      let f : put ((toldNumbers t ++ countsCells c) ++ replicate 24 0) 14 s ≡ (toldNumbers t ++ countsCells c) ++ s =
-      put-behind (toldNumbers t ++ countsCells c) (replicate 24 0) s ∙ ap (λ (l : List ℕ). (toldNumbers t ++ countsCells c) ++ l) (put-all (replicate 24 0) s (ap length hs ∙ singles-length g)) in
-      k3 ∙ ap (λ (l : List ℕ). put l 14 s) e ∙ f ∙ ap (λ (l : List ℕ). l ++ countsCells c ++ s) ht ∙ ap (λ (l : List ℕ). judgementNumbers j ++ countsCells c ++ l) hs
+  loading-put ht hs k1 k2 k3 k4 =
+      let n : length s ≡ 24 = ap length hs ∙ singles-length g in
+      let e2 : m2 ≡ front ++ (replicate 24 0 ++ (0 ∷ 0 ∷ [])) = rw (k2, k1) in
+      let e3 : m3 ≡ (front ++ s) ++ (0 ∷ 0 ∷ []) = k3 ∙ ap (λ (l : List ℕ). put l 14 s) e2 ∙ put-behind front _ s ∙ ap (λ (l : List ℕ). front ++ l) (put-over (replicate 24 0) (0 ∷ 0 ∷ []) s n) in
+      let z : length (front ++ s) ≡ 38 = omega (arith, n) in
+      let e4 : m4 ≡ (front ++ s) ++ spotCells p = k4 ∙ ap (λ (l : List ℕ). put l 38 (spotCells p)) e3 ∙ ap (λ (k : ℕ). put ((front ++ s) ++ (0 ∷ 0 ∷ [])) k (spotCells p)) (sym z) ∙ put-behind (front ++ s) (0 ∷ 0 ∷ []) (spotCells p) in
+      e4 ∙ ap (λ (l : List ℕ). (l ++ countsCells c ++ s) ++ spotCells p) ht ∙ ap (λ (l : List ℕ). (judgementNumbers j ++ countsCells c ++ l) ++ spotCells p) hs

@@ -59,14 +59,14 @@ flaw-four (UnknownPrecToken a b) = refl
 flaw-four (NoPrecForToken a b) = refl
 flaw-four (UnknownEppKey a b) = refl
 
-judgement-four : (j : Judgement) → judgementNumbers j ≡ four (judgementNumbers j)
+pub judgement-four : (j : Judgement) → judgementNumbers j ≡ four (judgementNumbers j)
 judgement-four (Loaded i) = refl
 judgement-four (NotRead f) = refl
 judgement-four (NotValid f) = flaw-four f
 
 -- where each number is looked for
-module _ (h a e r p n q : List ℕ) (c : Counts) (hh : h ≡ four h) where
-  looked-counts : (s : List ℕ) → countsOf (h ++ countsCells c ++ s) .n ≡ countsCells c
+module _ (h a e r p n q z : List ℕ) (c : Counts) (hh : h ≡ four h) where
+  looked-counts : (s : List ℕ) → countsOf ((h ++ countsCells c ++ s) ++ z) .n ≡ countsCells c
   looked-counts s = rw hh
 
   looked-singles : a ≡ three a → e ≡ five e → r ≡ five r → p ≡ five p → n ≡ three n → q ≡ three q → (g : Singles)
@@ -76,7 +76,7 @@ module _ (h a e r p n q : List ℕ) (c : Counts) (hh : h ≡ four h) where
       → paramOf (getD p 0 0) (getD p 1 0) (getD p 2 0) (getD p 3 0) (getD p 4 0) ≡ g .param
       → partOf (getD n 0 0) (getD n 1 0) (getD n 2 0) ≡ g .generics
       → partOf (getD q 0 0) (getD q 1 0) (getD q 2 0) ≡ g .programs
-      → singlesOf (h ++ countsCells c ++ (a ++ e ++ r ++ p ++ n ++ q)) ≡ g
+      → singlesOf ((h ++ countsCells c ++ (a ++ e ++ r ++ p ++ n ++ q)) ++ z) ≡ g
   looked-singles ha he hr hp hn hq g ks ke kr kp kn kq = rw (hh, ha, he, hr, hp, hn, hq) (rw (ks, ke, kr, kp, kn, kq))
 
 cells-at : (c : Counts) (k : ℕ) → k < 10 → getD (countsCells c) k 0 ≡ getD (c .n) k 0
@@ -92,22 +92,22 @@ cells-at c (suc (suc (suc (suc (suc (suc (suc (suc zero)))))))) h = refl
 cells-at c (suc (suc (suc (suc (suc (suc (suc (suc (suc zero))))))))) h = refl
 cells-at c (suc (suc (suc (suc (suc (suc (suc (suc (suc (suc k)))))))))) h = absurd (omega arith)
 
--- What a load wrote is what the others take: the singles,
-pub singles-back : (o : LoadResult) → singlesOf (loadingNumbers o) ≡ o .singles
+-- What a load wrote is what the others take, whatever stands behind it: the singles,
+pub singles-back : (o : LoadResult) (z : List ℕ) → singlesOf (loadingNumbers o ++ z) ≡ o .singles
 unfolding loadingCells
-singles-back o =
+singles-back o z =
     let g = o .singles in
-    looked-singles (judgementNumbers (o .answer)) (partNumbers (g .start)) (expectCells (g .expect)) (expectCells (g .«expect_rr»)) (paramNumbers (g .param)) (partNumbers (g .generics)) (partNumbers (g .programs)) (o .counts) (judgement-four (o .answer)) (part-three (g .start)) (expect-five (g .expect)) (expect-five (g .«expect_rr»)) (param-five (g .param)) (part-three (g .generics)) (part-three (g .programs)) g (part-back (g .start)) (expect-back (g .expect)) (expect-back (g .«expect_rr»)) (param-back (g .param)) (part-back (g .generics)) (part-back (g .programs))
+    looked-singles (judgementNumbers (o .answer)) (partNumbers (g .start)) (expectCells (g .expect)) (expectCells (g .«expect_rr»)) (paramNumbers (g .param)) (partNumbers (g .generics)) (partNumbers (g .programs)) z (o .counts) (judgement-four (o .answer)) (part-three (g .start)) (expect-five (g .expect)) (expect-five (g .«expect_rr»)) (param-five (g .param)) (part-three (g .generics)) (part-three (g .programs)) g (part-back (g .start)) (expect-back (g .expect)) (expect-back (g .«expect_rr»)) (param-back (g .param)) (part-back (g .generics)) (part-back (g .programs))
 
 -- each of the ten counts,
-pub counts-back : (o : LoadResult) (k : ℕ) → k < 10 → getD (countsOf (loadingNumbers o) .n) k 0 ≡ getD (o .counts .n) k 0
+pub counts-back : (o : LoadResult) (z : List ℕ) (k : ℕ) → k < 10 → getD (countsOf (loadingNumbers o ++ z) .n) k 0 ≡ getD (o .counts .n) k 0
 unfolding loadingCells
-counts-back o k h = ap (λ (l : List ℕ). getD l k 0) (looked-counts _ [] [] [] [] [] [] (o .counts) (judgement-four (o .answer)) (singlesCells (o .singles))) ∙ cells-at (o .counts) k h
+counts-back o z k h = ap (λ (l : List ℕ). getD l k 0) (looked-counts _ [] [] [] [] [] [] z (o .counts) (judgement-four (o .answer)) (singlesCells (o .singles))) ∙ cells-at (o .counts) k h
 
 -- and all together, being ten.
-pub all-counts-back : (o : LoadResult) → length (o .counts .n) ≡ 10 → countsOf (loadingNumbers o) ≡ o .counts
-all-counts-back o ten =
-    let e : countsOf (loadingNumbers o) .n ≡ o .counts .n = ext-getD 0 _ _ (sym ten) (λ k h. counts-back o k h) in
+pub all-counts-back : (o : LoadResult) (z : List ℕ) → length (o .counts .n) ≡ 10 → countsOf (loadingNumbers o ++ z) ≡ o .counts
+all-counts-back o z ten =
+    let e : countsOf (loadingNumbers o ++ z) .n ≡ o .counts .n = ext-getD 0 _ _ (sym ten) (λ k h. counts-back o z k h) in
     ap (λ (l : List ℕ). record { n = l }) e
 
 -- The source's part at the place that `quiltrudder_name` gives is the row's name.
@@ -123,4 +123,4 @@ name-part src c g T X table row = go (soundTest src c g T X)
 pub report-face-one : (src m : List ℕ) (T : Tables) (X : Indexes) (ws₀ ws vs out₀ out out' a b : List ℕ) → ReportFace src m T X ws₀ ws out₀ out a → ReportFace src m T X ws₀ vs out₀ out' b → (ws ≡ vs) × (out ≡ out') × (a ≡ b)
 report-face-one src m T X ws₀ ws vs out₀ out out' a b p q =
     let e = reported-one src (countsOf m) (singlesOf m) T X ws₀ out₀ (p .listing) (q .listing) ws vs out out' (p .reported) (q .reported) in
-    (ap (λ (o : Outcome). o .work) e, ap (λ (o : Outcome). o .cells) e, p .numbers ∙ ap (λ (o : Outcome). listingCells (o .answer)) e ∙ sym (q .numbers))
+    (ap (λ (o : Outcome). o .work) e, ap (λ (o : Outcome). o .cells) e, p .numbers ∙ ap (λ (o : Outcome). listingCells src (o .answer)) e ∙ sym (q .numbers))

@@ -3,3 +3,4 @@ pub mod Cells
 pub mod Answers
 pub mod Face
 pub mod Promises
+pub mod Spots

@@ -5,6 +5,7 @@ use mathlib.Core.Bool.{Bool, true, false}
 use mathlib.Core.List.{List, [], _∷_, _++_}
 use lib.ListN.{take, replicate}
 use Rattle.scan.specs.Scan.{isAt, begins, startsAt, isLetter, isDigit, isEol, inClass, runEnd, runEndAt}
+use Rattle.scan.specs.Lines.{linesHere}
 use Rattle.scan.specs.Loop.{turns}
 use Rattle.scan.specs.Table.{Case, same, all}
 use Rattle.utf8.specs.White.{isWhite}
@@ -112,5 +113,5 @@ table =
     ∷ []
 
 pub table-holds : all (λ x. told (x .src) (readAll (x .src) (x .kind) lent slots)) table ≡ true
-unfolding isWhite all same row table filled numbers readAll readNames filledRows rowFor namedRow attempted sizesFit sizeTest isPower halved admitted sectionsAll restAll endedAt repeatOf ofNumber check checkAt declAll declRun declTurn declStep seenAt firstOf startsAt begins turns gapAt gapOf spacing spacingAt isBlank isEol pastGap pushRow listRepeat enterStep onceStep addRow room samePart hasName firstRow findName enterToken nextLevel nameAt named wordAt tokenAt bare quotedAt closed isQuote isAt inClass isLetter isDigit runEnd runEndAt intAt counted decimal decimalAt stringAt stringFrom string lineEndAt single singleFrom colonText colonTextAt braced bracedFrom acted actionAt startDecl startNamed expectDecl expectGiven actiontypeDecl actiontypeNamed paramTyped paramDecl genericsDecl listDecl percentList listTurn ends tokenItem unusedItem unusedRow precDecl precList precTurn precItem avoidDecl avoidList avoidTurn avoidItem avoidNamed eppDecl eppValue eppText eppGiven pushProduction leadOf follow followAt begun decode decodeAt passed passedAt kept moved trimTurn trimmed firstMark sortAt tokenSymbol quotedRows quotedItem precName item-precItem mayEnd afterAction actionItem mayFollow emptyItem symbolKind bareItem endProduction barItem endItem itemStep itemTurn itemList passMark firstStart colonType arrowType ruleType enterRule namedHead ruleHead ruleBody ruleStep nextRule rulesTurn rulesRun rulesAll programsFrom zeros zerosFrom below givenTest actionTest tokenTest precTest nameTest eppTest kindTest ruleTest productionTest repeatTest freshName tableTest before rangeTest rangesTest singlesTest hashFrom hashOf nextSlot freeSlot enterRow entries stands rowStands index-filled indexTest indexRight indexesTest knowsTest knownTest tablesTest soundTest upto known nameFaults kindFaults kindsFaults productionFaults ruleFaults rulesFaults eppFaults eppsFaults faults validity productionAt precOf
+unfolding isWhite all same row table filled numbers readAll readNames filledRows rowFor namedRow attempted sizesFit sizeTest isPower halved admitted sectionsAll restAll endedAt repeatOf ofNumber check checkAt declAll declRun declTurn declStep seenAt firstOf startsAt begins turns gapAt gapOf spacing spacingAt isBlank isEol linesHere pastGap pushRow listRepeat enterStep onceStep addRow room samePart hasName firstRow findName enterToken nextLevel nameAt named wordAt tokenAt bare quotedAt closed isQuote isAt inClass isLetter isDigit runEnd runEndAt intAt counted decimal decimalAt stringAt stringFrom string lineEndAt single singleFrom colonText colonTextAt braced bracedFrom acted actionAt startDecl startNamed expectDecl expectGiven actiontypeDecl actiontypeNamed paramTyped paramDecl genericsDecl listDecl percentList listTurn ends tokenItem unusedItem unusedRow precDecl precList precTurn precItem avoidDecl avoidList avoidTurn avoidItem avoidNamed eppDecl eppValue eppText eppGiven pushProduction leadOf follow followAt begun decode decodeAt passed passedAt kept moved trimTurn trimmed firstMark sortAt tokenSymbol quotedRows quotedItem precName item-precItem mayEnd afterAction actionItem mayFollow emptyItem symbolKind bareItem endProduction barItem endItem itemStep itemTurn itemList passMark firstStart colonType arrowType ruleType enterRule namedHead ruleHead ruleBody ruleStep nextRule rulesTurn rulesRun rulesAll programsFrom zeros zerosFrom below givenTest actionTest tokenTest precTest nameTest eppTest kindTest ruleTest productionTest repeatTest freshName tableTest before rangeTest rangesTest singlesTest hashFrom hashOf nextSlot freeSlot enterRow entries stands rowStands index-filled indexTest indexRight indexesTest knowsTest knownTest tablesTest soundTest upto known nameFaults kindFaults kindsFaults productionFaults ruleFaults rulesFaults eppFaults eppsFaults faults validity productionAt precOf
 table-holds = refl

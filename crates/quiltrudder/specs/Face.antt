@@ -7,6 +7,8 @@ use mathlib.Core.Logic.{_⊎_}
 use lib.Dec.{eqb}
 use lib.ListN.{getD, take}
 use Rattle.scan.specs.declared.Place.{Place}
+use Rattle.places.specs.declared.Spot.{Spot}
+use Rattle.places.specs.Places.{Spotted, spotAt}
 use Rattle.grammar.specs.declared.Part.{Part}
 use Rattle.grammar.specs.declared.Part.the-variants.{Absent, At}
 use Rattle.grammar.specs.declared.Expect.{Expect}
@@ -20,6 +22,7 @@ use Rattle.grammar.specs.Sound.{Tables, Indexes}
 use Rattle.loading.specs.declared.Judgement.{Judgement}
 use Rattle.loading.specs.Load.{judgementNumbers, LoadResult, loadAll}
 use Rattle.sound.specs.Test.{soundTest}
+use Rattle.validation.specs.declared.Validity.{Validity}
 use Rattle.validation.specs.Faults.{validityNumbers, validity}
 use Rattle.validation.specs.declared.FaultListing.{FaultListing}
 use Rattle.validation.specs.Walk.{AllFaults, faultListing, faultListingNumbers}
@@ -34,6 +37,23 @@ use Rattle.values.specs.Value.{valuationNumbers, Valued, eppValue}
 -- a number of 64 bits, its low half first
 abbrev pub halves : ℕ → List ℕ
 halves v = v % 4294967296 ∷ v / 4294967296 ∷ []
+
+-- ---- line and column
+
+-- "a line and a byte column, both from 1, with the start of every answer's place" (document 02, request Ten): of an answer whose numbers begin with its number and its place
+abbrev pub answerSpot : List ℕ → List ℕ → Spot
+answerSpot src told = spotAt src (getD told 1 0)
+
+abbrev pub spotCells : Spot → List ℕ
+spotCells s = s .line ∷ s .column ∷ []
+
+-- they are what the lines of the source say, without a scan: of an answer's numbers,
+abbrev pub AnswerSpotted : List ℕ → List ℕ → Type 0
+AnswerSpotted src told = Spotted src (getD told 1 0) (answerSpot src told)
+
+-- and of an array whose place starts in cell k, with line and column in the cells n and n + 1
+abbrev pub CellsSpotted : List ℕ → List ℕ → ℕ → ℕ → Type 0
+CellsSpotted src a k n = Spotted src (getD a k 0) (record { line = getD a n 0; column = getD a (n + 1) 0 })
 
 -- ---- what a load answers
 
@@ -65,11 +85,12 @@ pub record LoadFace : Type 0 where
   pub tables : Tables
   pub indexes : Indexes
 
-abbrev pub loadFaceOf : LoadResult → LoadFace
-loadFaceOf o = record { answer = loadingNumbers o; tables = o .tables; indexes = o .indexes }
+-- line and column stand last, so that no other number has moved for them
+abbrev pub loadFaceOf : List ℕ → LoadResult → LoadFace
+loadFaceOf src o = record { answer = loadingNumbers o ++ spotCells (answerSpot src (judgementNumbers (o .answer))); tables = o .tables; indexes = o .indexes }
 
 abbrev pub loadFace : List ℕ → ℕ → Tables → Indexes → LoadFace
-loadFace src kind T X = loadFaceOf (loadAll src kind T X)
+loadFace src kind T X = loadFaceOf src (loadAll src kind T X)
 
 -- "0 accepted", or "20 Precedence, [..] 27 EPP repeated", or validation's 30 to 35: the numbers after which "all tables hold the full reading"
 abbrev pub FullNumber : ℕ → Type 0
@@ -105,68 +126,72 @@ singlesOf m =
 
 -- ---- what the others answer
 
--- whether a reading is valid: number and place; "table number (0 unless 42)"
-abbrev pub validateFace : List ℕ → List ℕ → Tables → Indexes → List ℕ
-validateFace src m T X = validityNumbers (validity src (countsOf m) (singlesOf m) T X) ++ (0 ∷ [])
+-- whether a reading is valid: number and place; "table number (0 unless 42)"; line and column
+abbrev pub validityCells : List ℕ → Validity → List ℕ
+validityCells src v = validityNumbers v ++ (0 ∷ []) ++ spotCells (answerSpot src (validityNumbers v))
 
--- number, place, table number and the count in halves: "Each also answers a count"
-abbrev pub countedCells : List ℕ → List ℕ
-countedCells l = take 4 l ++ halves (getD l 4 0)
+abbrev pub validateFace : List ℕ → List ℕ → Tables → Indexes → List ℕ
+validateFace src m T X = validityCells src (validity src (countsOf m) (singlesOf m) T X)
+
+-- number, place, table number and the count in halves: "Each also answers a count"; line and column
+abbrev pub countedCells : List ℕ → List ℕ → List ℕ
+countedCells src l = take 4 l ++ halves (getD l 4 0) ++ spotCells (answerSpot src l)
 
 -- all faults: that, and table 14
 pub record FaultsFace : Type 0 where
   pub answer : List ℕ
   pub cells : List ℕ
 
-abbrev pub faultListingCells : FaultListing → List ℕ
-faultListingCells l = countedCells (faultListingNumbers l)
+abbrev pub faultListingCells : List ℕ → FaultListing → List ℕ
+faultListingCells src l = countedCells src (faultListingNumbers l)
 
-abbrev pub faultsFaceOf : AllFaults → FaultsFace
-faultsFaceOf o = record { answer = faultListingCells (o .answer); cells = o .cells }
+abbrev pub faultsFaceOf : List ℕ → AllFaults → FaultsFace
+faultsFaceOf src o = record { answer = faultListingCells src (o .answer); cells = o .cells }
 
 abbrev pub faultsFace : List ℕ → List ℕ → Tables → Indexes → List ℕ → FaultsFace
-faultsFace src m T X t = faultsFaceOf (faultListing src (countsOf m) (singlesOf m) T X t)
+faultsFace src m T X t = faultsFaceOf src (faultListing src (countsOf m) (singlesOf m) T X t)
 
-abbrev pub listingCells : Listing → List ℕ
-listingCells l = countedCells (listingNumbers l)
+abbrev pub listingCells : List ℕ → Listing → List ℕ
+listingCells src l = countedCells src (listingNumbers l)
 
 -- the report, with its answer in numbers
 pub record ReportFace (src m : List ℕ) (T : Tables) (X : Indexes) (ws₀ ws out₀ out answer : List ℕ) : Type 0 where
   pub listing : Listing
   pub reported : Reported src (countsOf m) (singlesOf m) T X listing ws₀ ws out₀ out
-  pub numbers : answer ≡ listingCells listing
+  pub numbers : answer ≡ listingCells src listing
 
--- The third demand, of what the C name of report wrote: number 0, how many rows there are, and they are the unused rows;
+-- The third demand, of what the C name of report wrote: number 0, how many rows there are, line and column of the source's begin, and they are the unused rows;
 pub record ExactlyFace (g : Grammar) (x : Excuses) (out answer : List ℕ) : Type 0 where
   pub count : ℕ
-  pub numbers : answer ≡ 0 ∷ 0 ∷ 0 ∷ 0 ∷ halves count
+  pub numbers : answer ≡ 0 ∷ 0 ∷ 0 ∷ 0 ∷ halves count ++ (1 ∷ 1 ∷ [])
   pub rows : UnusedRows g x count out
 
 -- or "42 no room [..] and table number", which is 12, and they are too many for the report that was lent.
 pub record CrowdedFace (g : Grammar) (x : Excuses) (out answer : List ℕ) : Type 0 where
-  pub numbers : answer ≡ 42 ∷ 0 ∷ 0 ∷ 12 ∷ 0 ∷ 0 ∷ []
+  pub numbers : answer ≡ 42 ∷ 0 ∷ 0 ∷ 12 ∷ 0 ∷ 0 ∷ 1 ∷ 1 ∷ []
   pub many : TooMany g x out
 
 -- the place of a row's name; 0, 0 where "another table number, a row number not below its count or unsound tables give an empty part"
 unfoldable pub nameAt : List ℕ → Counts → Singles → Tables → Indexes → ℕ → ℕ → Place
 nameAt src c g T X table row = elim (soundTest src c g T X) [ true ↦ namePlace c (T .t1) (T .t7) table row | false ↦ nowhere ]
 
-abbrev pub placeCells : Place → List ℕ
-placeCells p = p .from ∷ p .to ∷ []
+-- with line and column of its start
+abbrev pub nameCells : List ℕ → Place → List ℕ
+nameCells src p = p .from ∷ p .to ∷ spotCells (spotAt src (p .from))
 
 abbrev pub nameFace : List ℕ → List ℕ → Tables → Indexes → ℕ → ℕ → List ℕ
-nameFace src m T X table row = placeCells (nameAt src (countsOf m) (singlesOf m) T X table row)
+nameFace src m T X table row = nameCells src (nameAt src (countsOf m) (singlesOf m) T X table row)
 
 -- the value of an `%epp` row, with its answer in numbers
 pub record ValueFace : Type 0 where
   pub answer : List ℕ
   pub out : List ℕ
 
-abbrev pub valuationCells : Valuation → List ℕ
-valuationCells v = countedCells (valuationNumbers v)
+abbrev pub valuationCells : List ℕ → Valuation → List ℕ
+valuationCells src v = countedCells src (valuationNumbers v)
 
-abbrev pub valueFaceOf : Valued → ValueFace
-valueFaceOf o = record { answer = valuationCells (o .answer); out = o .out }
+abbrev pub valueFaceOf : List ℕ → Valued → ValueFace
+valueFaceOf src o = record { answer = valuationCells src (o .answer); out = o .out }
 
 abbrev pub valueFace : List ℕ → List ℕ → Tables → Indexes → ℕ → List ℕ → ValueFace
-valueFace src m T X row out = valueFaceOf (eppValue src (countsOf m) (singlesOf m) T X row out)
+valueFace src m T X row out = valueFaceOf src (eppValue src (countsOf m) (singlesOf m) T X row out)

@@ -1,5 +1,5 @@
 // Quiltrudder's operations: loading a Yacc specification (it is read, and what was read is validated), validating tables from elsewhere, the list of all faults, the unused report, the name of a row and
-// the value of an `%epp` row. None of them requires anything.
+// the value of an `%epp` row, each with line and column of its answer's place, and line and column of any place. None of them requires anything.
 use grammar::Counts;
 use grammar::Expect;
 use grammar::Param;
@@ -7,7 +7,7 @@ use grammar::Part;
 use grammar::Singles;
 use grammar::Told;
 use loading::Judgement;
-use loading::Loading;
+use places::Spot;
 use usage::Listing;
 use validation::FaultListing;
 use validation::Validity;
@@ -17,14 +17,59 @@ ghost use mathlib.Core.List.{List, _++_};
 ghost use Rattle.tables.specs.Table.{put};
 ghost use Rattle.grammar.specs.Numbers.{paramNumbers};
 ghost use Rattle.grammar.specs.Sound.{Tables};
-ghost use Rattle.loading.specs.Load.{LoadResult, loadAll};
-ghost use Rattle.validation.specs.Faults.{validity};
-ghost use Rattle.validation.specs.Walk.{AllFaults, faultListing};
-ghost use Rattle.usage.specs.Report.{Reported};
+ghost use Rattle.places.specs.Places.{spotAt};
+ghost use Rattle.loading.specs.Load.{judgementNumbers, LoadResult, loadAll};
+ghost use Rattle.validation.specs.Faults.{validityNumbers, validity};
+ghost use Rattle.validation.specs.Walk.{AllFaults, faultListing, faultListingNumbers};
+ghost use Rattle.usage.specs.Report.{listingNumbers, Reported};
 ghost use Rattle.names.specs.Name.{nameOf};
-ghost use Rattle.values.specs.Value.{Valued, eppValue};
+ghost use Rattle.values.specs.Value.{valuationNumbers, Valued, eppValue};
 ghost use Rattle.numbers.specs.Numbers.{toldNumbers};
-ghost use Rattle.quiltrudder.specs.Face.{halves, expectCells, singlesCells, loadingCells, LoadFace, loadFace, countsOf, partOf, expectOf, paramOf, singlesOf, validateFace, FaultsFace, faultsFace, ReportFace, nameAt, placeCells, nameFace, ValueFace, valueFace};
+ghost use Rattle.quiltrudder.specs.Face.{halves, answerSpot, spotCells, expectCells, singlesCells, loadingCells, LoadFace, loadFace, countsOf, partOf, expectOf, paramOf, singlesOf, validateFace, FaultsFace, faultsFace, ReportFace, nameAt, nameCells, nameFace, ValueFace, valueFace};
+
+// A load's answer, its counts and singles, and line and column of the answer's place.
+pub struct LoadingAt {
+    pub answer: Judgement,
+    pub counts: Counts,
+    pub singles: Singles,
+    pub spot: Spot,
+}
+
+// The other operations' answers, with line and column of their places.
+pub struct ValidityAt {
+    pub answer: Validity,
+    pub spot: Spot,
+}
+
+pub struct FaultListingAt {
+    pub answer: FaultListing,
+    pub spot: Spot,
+}
+
+pub struct ListingAt {
+    pub answer: Listing,
+    pub spot: Spot,
+}
+
+pub struct ValuationAt {
+    pub answer: Valuation,
+    pub spot: Spot,
+}
+
+// Line and column of a place in a source, both from 1; past the source's end those of its end.
+pub fn locate(src: &[u8], at: u32) -> Spot
+    ensures { λ r. ⌜ r ≡ spotAt (now (src .entry)) at ⌝ }
+{
+    places::locate(src, at)
+}
+
+// Line and column of the start of an answer's place.
+fn spot_of(src: &[u8], t: Told) -> Spot
+    ensures { λ r. ⌜ r ≡ answerSpot (now (src .entry)) (toldNumbers t) ⌝ }
+{
+    let from = t.from;
+    places::locate(src, from)
+}
 
 // Reads a source of kind 1, 2 or 3 into the lent tables and, where that is accepted, validates what was read.
 pub fn load(
@@ -42,10 +87,20 @@ pub fn load(
     t10: &mut [u32],
     i1: &mut [u32],
     i7: &mut [u32],
-) -> Loading
+) -> LoadingAt
     ensures { λ r. ⌜ _≡_ {A = LoadResult} (record { answer = r .answer; counts = r .counts; singles = r .singles; tables = record { t1 = now (t1 .exit); t2 = now (t2 .exit); t3 = now (t3 .exit); t4 = now (t4 .exit); t5 = now (t5 .exit); t6 = now (t6 .exit); t7 = now (t7 .exit); t8 = now (t8 .exit); t9 = now (t9 .exit); t10 = now (t10 .exit) }; indexes = record { tokens = now (i1 .exit); rules = now (i7 .exit) } }) (loadAll (now (src .entry)) kind (record { t1 = now (t1 .entry); t2 = now (t2 .entry); t3 = now (t3 .entry); t4 = now (t4 .entry); t5 = now (t5 .entry); t6 = now (t6 .entry); t7 = now (t7 .entry); t8 = now (t8 .entry); t9 = now (t9 .entry); t10 = now (t10 .entry) }) (record { tokens = now (i1 .entry); rules = now (i7 .entry) })) ⌝ }
+    ensures { λ r. ⌜ r .spot ≡ answerSpot (now (src .entry)) (judgementNumbers (r .answer)) ⌝ }
 {
-    loading::load(src, kind, t1, t2, t3, t4, t5, t6, t7, t8, t9, t10, i1, i7)
+    let r = loading::load(src, kind, t1, t2, t3, t4, t5, t6, t7, t8, t9, t10, i1, i7);
+    let answer = r.answer;
+    let counts = r.counts;
+    let singles = r.singles;
+    LoadingAt {
+        answer,
+        counts,
+        singles,
+        spot: spot_of(src, numbers::of_judgement(answer)),
+    }
 }
 
 // Whether a reading is valid, or the first that it lacks. Changes nothing lent.
@@ -65,10 +120,15 @@ pub fn validate(
     t10: &[u32],
     i1: &[u32],
     i7: &[u32],
-) -> Validity
-    ensures { λ r. ⌜ r ≡ validity (now (src .entry)) c g (record { t1 = now (t1 .entry); t2 = now (t2 .entry); t3 = now (t3 .entry); t4 = now (t4 .entry); t5 = now (t5 .entry); t6 = now (t6 .entry); t7 = now (t7 .entry); t8 = now (t8 .entry); t9 = now (t9 .entry); t10 = now (t10 .entry) }) (record { tokens = now (i1 .entry); rules = now (i7 .entry) }) ⌝ }
+) -> ValidityAt
+    ensures { λ r. ⌜ r .answer ≡ validity (now (src .entry)) c g (record { t1 = now (t1 .entry); t2 = now (t2 .entry); t3 = now (t3 .entry); t4 = now (t4 .entry); t5 = now (t5 .entry); t6 = now (t6 .entry); t7 = now (t7 .entry); t8 = now (t8 .entry); t9 = now (t9 .entry); t10 = now (t10 .entry) }) (record { tokens = now (i1 .entry); rules = now (i7 .entry) }) ⌝ }
+    ensures { λ r. ⌜ r .spot ≡ answerSpot (now (src .entry)) (validityNumbers (r .answer)) ⌝ }
 {
-    validation::validate(src, c, g, t1, t2, t3, t4, t5, t6, t7, t8, t9, t10, i1, i7)
+    let answer = validation::validate(src, c, g, t1, t2, t3, t4, t5, t6, t7, t8, t9, t10, i1, i7);
+    ValidityAt {
+        answer,
+        spot: spot_of(src, numbers::of_validity(answer)),
+    }
 }
 
 // Every fault that a reading has, as rows (number, from, to) of `t14`, in the order of the tests.
@@ -89,10 +149,11 @@ pub fn faults(
     i1: &[u32],
     i7: &[u32],
     t14: &mut [u32],
-) -> FaultListing
-    ensures { λ r. ⌜ _≡_ {A = AllFaults} (record { answer = r; cells = now (t14 .exit) }) (faultListing (now (src .entry)) c g (record { t1 = now (t1 .entry); t2 = now (t2 .entry); t3 = now (t3 .entry); t4 = now (t4 .entry); t5 = now (t5 .entry); t6 = now (t6 .entry); t7 = now (t7 .entry); t8 = now (t8 .entry); t9 = now (t9 .entry); t10 = now (t10 .entry) }) (record { tokens = now (i1 .entry); rules = now (i7 .entry) }) (now (t14 .entry))) ⌝ }
+) -> FaultListingAt
+    ensures { λ r. ⌜ _≡_ {A = AllFaults} (record { answer = r .answer; cells = now (t14 .exit) }) (faultListing (now (src .entry)) c g (record { t1 = now (t1 .entry); t2 = now (t2 .entry); t3 = now (t3 .entry); t4 = now (t4 .entry); t5 = now (t5 .entry); t6 = now (t6 .entry); t7 = now (t7 .entry); t8 = now (t8 .entry); t9 = now (t9 .entry); t10 = now (t10 .entry) }) (record { tokens = now (i1 .entry); rules = now (i7 .entry) }) (now (t14 .entry))) ⌝ }
+    ensures { λ r. ⌜ r .spot ≡ answerSpot (now (src .entry)) (faultListingNumbers (r .answer)) ⌝ }
 {
-    validation::faults(
+    let answer = validation::faults(
         src,
         c,
         g,
@@ -109,7 +170,11 @@ pub fn faults(
         i1,
         i7,
         t14,
-    )
+    );
+    FaultListingAt {
+        answer,
+        spot: spot_of(src, numbers::of_fault_listing(answer)),
+    }
 }
 
 // The unused rules and tokens of a valid reading, into `out`; `work` holds a bit for each row that is used.
@@ -131,10 +196,11 @@ pub fn report(
     i7: &[u32],
     work: &mut [u32],
     out: &mut [u32],
-) -> Listing
-    ensures { λ r. ⌜ Reported (now (src .entry)) c g (record { t1 = now (t1 .entry); t2 = now (t2 .entry); t3 = now (t3 .entry); t4 = now (t4 .entry); t5 = now (t5 .entry); t6 = now (t6 .entry); t7 = now (t7 .entry); t8 = now (t8 .entry); t9 = now (t9 .entry); t10 = now (t10 .entry) }) (record { tokens = now (i1 .entry); rules = now (i7 .entry) }) r (now (work .entry)) (now (work .exit)) (now (out .entry)) (now (out .exit)) ⌝ }
+) -> ListingAt
+    ensures { λ r. ⌜ Reported (now (src .entry)) c g (record { t1 = now (t1 .entry); t2 = now (t2 .entry); t3 = now (t3 .entry); t4 = now (t4 .entry); t5 = now (t5 .entry); t6 = now (t6 .entry); t7 = now (t7 .entry); t8 = now (t8 .entry); t9 = now (t9 .entry); t10 = now (t10 .entry) }) (record { tokens = now (i1 .entry); rules = now (i7 .entry) }) (r .answer) (now (work .entry)) (now (work .exit)) (now (out .entry)) (now (out .exit)) ⌝ }
+    ensures { λ r. ⌜ r .spot ≡ answerSpot (now (src .entry)) (listingNumbers (r .answer)) ⌝ }
 {
-    usage::report(
+    let answer = usage::report(
         src,
         c,
         g,
@@ -152,7 +218,11 @@ pub fn report(
         i7,
         work,
         out,
-    )
+    );
+    ListingAt {
+        answer,
+        spot: spot_of(src, numbers::of_listing(answer)),
+    }
 }
 
 // The name of a row of table 1 or 7, as the part of the source that it is.
@@ -217,10 +287,11 @@ pub fn epp_value(
     i7: &[u32],
     row: u32,
     out: &mut [u8],
-) -> Valuation
-    ensures { λ r. ⌜ _≡_ {A = Valued} (record { answer = r; out = now (out .exit) }) (eppValue (now (src .entry)) c g (record { t1 = now (t1 .entry); t2 = now (t2 .entry); t3 = now (t3 .entry); t4 = now (t4 .entry); t5 = now (t5 .entry); t6 = now (t6 .entry); t7 = now (t7 .entry); t8 = now (t8 .entry); t9 = now (t9 .entry); t10 = now (t10 .entry) }) (record { tokens = now (i1 .entry); rules = now (i7 .entry) }) row (now (out .entry))) ⌝ }
+) -> ValuationAt
+    ensures { λ r. ⌜ _≡_ {A = Valued} (record { answer = r .answer; out = now (out .exit) }) (eppValue (now (src .entry)) c g (record { t1 = now (t1 .entry); t2 = now (t2 .entry); t3 = now (t3 .entry); t4 = now (t4 .entry); t5 = now (t5 .entry); t6 = now (t6 .entry); t7 = now (t7 .entry); t8 = now (t8 .entry); t9 = now (t9 .entry); t10 = now (t10 .entry) }) (record { tokens = now (i1 .entry); rules = now (i7 .entry) }) row (now (out .entry))) ⌝ }
+    ensures { λ r. ⌜ r .spot ≡ answerSpot (now (src .entry)) (valuationNumbers (r .answer)) ⌝ }
 {
-    values::epp_value(
+    let answer = values::epp_value(
         src,
         c,
         g,
@@ -238,7 +309,11 @@ pub fn epp_value(
         i7,
         row,
         out,
-    )
+    );
+    ValuationAt {
+        answer,
+        spot: spot_of(src, numbers::of_valuation(answer)),
+    }
 }
 
 // Stores `cells` into `out` from cell `at` on, as far as there is room.
@@ -293,9 +368,9 @@ fn single_cells(g: Singles) -> [u32; 24]
     m
 }
 
-// What a load answers: number, place and table, the ten counts, the singles.
-fn loading_cells(j: Judgement, c: Counts, g: Singles) -> [u32; 38]
-    ensures { λ r. ⌜ r ≡ loadingCells j c g ⌝ }
+// What a load answers: number, place and table, the ten counts, the singles, line and column.
+fn loading_cells(j: Judgement, c: Counts, g: Singles, s: Spot) -> [u32; 40]
+    ensures { λ r. ⌜ r ≡ loadingCells j c g ++ spotCells s ⌝ }
 {
     let t = numbers::of_judgement(j);
     let told = [t.number, t.from, t.to, t.table];
@@ -312,10 +387,12 @@ fn loading_cells(j: Judgement, c: Counts, g: Singles) -> [u32; 38]
         c.n[9],
     ];
     let singles = single_cells(g);
-    let mut m = [0u32; 38];
+    let spot = [s.line, s.column];
+    let mut m = [0u32; 40];
     put_cells(&mut m, 0, &told);
     put_cells(&mut m, 4, &counts);
     put_cells(&mut m, 14, &singles);
+    put_cells(&mut m, 38, &spot);
     m
 }
 
@@ -348,7 +425,7 @@ fn param_of(f: u32, a: u32, b: u32, c: u32, d: u32) -> Param
 }
 
 // The ten counts of a reading's numbers.
-fn counts_of(m: &[u32; 38]) -> Counts
+fn counts_of(m: &[u32; 40]) -> Counts
     ensures { λ r. ⌜ r ≡ countsOf (now (m .entry)) ⌝ }
 {
     Counts {
@@ -367,7 +444,7 @@ fn counts_of(m: &[u32; 38]) -> Counts
     }
 }
 
-fn singles_of(m: &[u32; 38]) -> Singles
+fn singles_of(m: &[u32; 40]) -> Singles
     ensures { λ r. ⌜ r ≡ singlesOf (now (m .entry)) ⌝ }
 {
     Singles {
@@ -380,9 +457,9 @@ fn singles_of(m: &[u32; 38]) -> Singles
     }
 }
 
-// Number, place and table, and a count by its low and high half.
-fn counted_cells(t: Told, n: usize) -> [u32; 6]
-    ensures { λ r. ⌜ r ≡ toldNumbers t ++ halves n ⌝ }
+// Number, place and table, a count by its low and high half, line and column.
+fn counted_cells(t: Told, n: usize, s: Spot) -> [u32; 8]
+    ensures { λ r. ⌜ r ≡ toldNumbers t ++ halves n ++ spotCells s ⌝ }
 {
     [
         t.number,
@@ -391,10 +468,12 @@ fn counted_cells(t: Told, n: usize) -> [u32; 6]
         t.table,
         (n % 4294967296) as u32,
         (n / 4294967296) as u32,
+        s.line,
+        s.column,
     ]
 }
 
-// The place of a row's name; 0, 0 where the name is an empty part for another table, a row past its count or unsound tables.
+// The place of a row's name, with its line and column; 0, 0 where the name is an empty part for another table, a row past its count or unsound tables.
 fn name_cells(
     src: &[u8],
     c: Counts,
@@ -413,14 +492,16 @@ fn name_cells(
     i7: &[u32],
     table: u32,
     row: u32,
-) -> [u32; 2]
-    ensures { λ r. ⌜ r ≡ placeCells (nameAt (now (src .entry)) c g (record { t1 = now (t1 .entry); t2 = now (t2 .entry); t3 = now (t3 .entry); t4 = now (t4 .entry); t5 = now (t5 .entry); t6 = now (t6 .entry); t7 = now (t7 .entry); t8 = now (t8 .entry); t9 = now (t9 .entry); t10 = now (t10 .entry) }) (record { tokens = now (i1 .entry); rules = now (i7 .entry) }) table row) ⌝ }
+) -> [u32; 4]
+    ensures { λ r. ⌜ r ≡ nameCells (now (src .entry)) (nameAt (now (src .entry)) c g (record { t1 = now (t1 .entry); t2 = now (t2 .entry); t3 = now (t3 .entry); t4 = now (t4 .entry); t5 = now (t5 .entry); t6 = now (t6 .entry); t7 = now (t7 .entry); t8 = now (t8 .entry); t9 = now (t9 .entry); t10 = now (t10 .entry) }) (record { tokens = now (i1 .entry); rules = now (i7 .entry) }) table row) ⌝ }
 {
     if !sound::sound(src, c, g, t1, t2, t3, t4, t5, t6, t7, t8, t9, t10, i1, i7) {
-        return [0, 0];
+        return [0, 0, 1, 1];
     }
     let p = names::name_place(c, t1, t7, table, row);
-    [p.from as u32, p.to as u32]
+    let from = p.from as u32;
+    let s = places::locate(src, from);
+    [from, p.to as u32, s.line, s.column]
 }
 
 // Reads a source of kind 1, 2 or 3 into the lent tables and, where that is accepted, validates what was read.
@@ -440,7 +521,7 @@ pub extern "C" fn quiltrudder_load(
     t10: &mut [u32],
     i1: &mut [u32],
     i7: &mut [u32],
-    answer: &mut [u32; 38],
+    answer: &mut [u32; 40],
 )
     ensures { λ r. ⌜ _≡_ {A = LoadFace} (record { answer = now (answer .exit); tables = record { t1 = now (t1 .exit); t2 = now (t2 .exit); t3 = now (t3 .exit); t4 = now (t4 .exit); t5 = now (t5 .exit); t6 = now (t6 .exit); t7 = now (t7 .exit); t8 = now (t8 .exit); t9 = now (t9 .exit); t10 = now (t10 .exit) }; indexes = record { tokens = now (i1 .exit); rules = now (i7 .exit) } }) (loadFace (now (src .entry)) kind (record { t1 = now (t1 .entry); t2 = now (t2 .entry); t3 = now (t3 .entry); t4 = now (t4 .entry); t5 = now (t5 .entry); t6 = now (t6 .entry); t7 = now (t7 .entry); t8 = now (t8 .entry); t9 = now (t9 .entry); t10 = now (t10 .entry) }) (record { tokens = now (i1 .entry); rules = now (i7 .entry) })) ⌝ }
 {
@@ -448,14 +529,15 @@ pub extern "C" fn quiltrudder_load(
     let j = r.answer;
     let c = r.counts;
     let g = r.singles;
-    *answer = loading_cells(j, c, g);
+    let s = r.spot;
+    *answer = loading_cells(j, c, g, s);
 }
 
 // Whether a reading is valid, or the first that it lacks. `reading` is the array that `quiltrudder_load` wrote.
 #[no_mangle]
 pub extern "C" fn quiltrudder_validate(
     src: &[u8],
-    reading: &[u32; 38],
+    reading: &[u32; 40],
     t1: &[u32],
     t2: &[u32],
     t3: &[u32],
@@ -468,37 +550,24 @@ pub extern "C" fn quiltrudder_validate(
     t10: &[u32],
     i1: &[u32],
     i7: &[u32],
-    answer: &mut [u32; 4],
+    answer: &mut [u32; 6],
 )
     ensures { λ r. ⌜ now (answer .exit) ≡ validateFace (now (src .entry)) (now (reading .entry)) (record { t1 = now (t1 .entry); t2 = now (t2 .entry); t3 = now (t3 .entry); t4 = now (t4 .entry); t5 = now (t5 .entry); t6 = now (t6 .entry); t7 = now (t7 .entry); t8 = now (t8 .entry); t9 = now (t9 .entry); t10 = now (t10 .entry) }) (record { tokens = now (i1 .entry); rules = now (i7 .entry) }) ⌝ }
 {
     let c = counts_of(reading);
     let g = singles_of(reading);
-    let t = numbers::of_validity(validate(
-        src,
-        c,
-        g,
-        t1,
-        t2,
-        t3,
-        t4,
-        t5,
-        t6,
-        t7,
-        t8,
-        t9,
-        t10,
-        i1,
-        i7,
-    ));
-    *answer = [t.number, t.from, t.to, t.table];
+    let v = validate(src, c, g, t1, t2, t3, t4, t5, t6, t7, t8, t9, t10, i1, i7);
+    let a = v.answer;
+    let s = v.spot;
+    let t = numbers::of_validity(a);
+    *answer = [t.number, t.from, t.to, t.table, s.line, s.column];
 }
 
 // Every fault that a reading has, as rows of `t14`.
 #[no_mangle]
 pub extern "C" fn quiltrudder_faults(
     src: &[u8],
-    reading: &[u32; 38],
+    reading: &[u32; 40],
     t1: &[u32],
     t2: &[u32],
     t3: &[u32],
@@ -512,7 +581,7 @@ pub extern "C" fn quiltrudder_faults(
     i1: &[u32],
     i7: &[u32],
     t14: &mut [u32],
-    answer: &mut [u32; 6],
+    answer: &mut [u32; 8],
 )
     ensures { λ r. ⌜ _≡_ {A = FaultsFace} (record { answer = now (answer .exit); cells = now (t14 .exit) }) (faultsFace (now (src .entry)) (now (reading .entry)) (record { t1 = now (t1 .entry); t2 = now (t2 .entry); t3 = now (t3 .entry); t4 = now (t4 .entry); t5 = now (t5 .entry); t6 = now (t6 .entry); t7 = now (t7 .entry); t8 = now (t8 .entry); t9 = now (t9 .entry); t10 = now (t10 .entry) }) (record { tokens = now (i1 .entry); rules = now (i7 .entry) }) (now (t14 .entry))) ⌝ }
 {
@@ -536,14 +605,16 @@ pub extern "C" fn quiltrudder_faults(
         i7,
         t14,
     );
-    *answer = counted_cells(numbers::of_fault_listing(l), numbers::faulted(l));
+    let a = l.answer;
+    let s = l.spot;
+    *answer = counted_cells(numbers::of_fault_listing(a), numbers::faulted(a), s);
 }
 
 // The unused rules and tokens of a valid reading, into `out`.
 #[no_mangle]
 pub extern "C" fn quiltrudder_report(
     src: &[u8],
-    reading: &[u32; 38],
+    reading: &[u32; 40],
     t1: &[u32],
     t2: &[u32],
     t3: &[u32],
@@ -558,7 +629,7 @@ pub extern "C" fn quiltrudder_report(
     i7: &[u32],
     work: &mut [u32],
     out: &mut [u32],
-    answer: &mut [u32; 6],
+    answer: &mut [u32; 8],
 )
     ensures { λ r. ⌜ ReportFace (now (src .entry)) (now (reading .entry)) (record { t1 = now (t1 .entry); t2 = now (t2 .entry); t3 = now (t3 .entry); t4 = now (t4 .entry); t5 = now (t5 .entry); t6 = now (t6 .entry); t7 = now (t7 .entry); t8 = now (t8 .entry); t9 = now (t9 .entry); t10 = now (t10 .entry) }) (record { tokens = now (i1 .entry); rules = now (i7 .entry) }) (now (work .entry)) (now (work .exit)) (now (out .entry)) (now (out .exit)) (now (answer .exit)) ⌝ }
 {
@@ -583,14 +654,16 @@ pub extern "C" fn quiltrudder_report(
         work,
         out,
     );
-    *answer = counted_cells(numbers::of_listing(l), numbers::listed(l));
+    let a = l.answer;
+    let s = l.spot;
+    *answer = counted_cells(numbers::of_listing(a), numbers::listed(a), s);
 }
 
-// The place of the name of a row of table 1 or 7.
+// The place of the name of a row of table 1 or 7, with its line and column.
 #[no_mangle]
 pub extern "C" fn quiltrudder_name(
     src: &[u8],
-    reading: &[u32; 38],
+    reading: &[u32; 40],
     t1: &[u32],
     t2: &[u32],
     t3: &[u32],
@@ -605,7 +678,7 @@ pub extern "C" fn quiltrudder_name(
     i7: &[u32],
     table: u32,
     row: u32,
-    answer: &mut [u32; 2],
+    answer: &mut [u32; 4],
 )
     ensures { λ r. ⌜ now (answer .exit) ≡ nameFace (now (src .entry)) (now (reading .entry)) (record { t1 = now (t1 .entry); t2 = now (t2 .entry); t3 = now (t3 .entry); t4 = now (t4 .entry); t5 = now (t5 .entry); t6 = now (t6 .entry); t7 = now (t7 .entry); t8 = now (t8 .entry); t9 = now (t9 .entry); t10 = now (t10 .entry) }) (record { tokens = now (i1 .entry); rules = now (i7 .entry) }) table row ⌝ }
 {
@@ -636,7 +709,7 @@ pub extern "C" fn quiltrudder_name(
 #[no_mangle]
 pub extern "C" fn quiltrudder_epp_value(
     src: &[u8],
-    reading: &[u32; 38],
+    reading: &[u32; 40],
     t1: &[u32],
     t2: &[u32],
     t3: &[u32],
@@ -651,7 +724,7 @@ pub extern "C" fn quiltrudder_epp_value(
     i7: &[u32],
     row: u32,
     out: &mut [u8],
-    answer: &mut [u32; 6],
+    answer: &mut [u32; 8],
 )
     ensures { λ r. ⌜ _≡_ {A = ValueFace} (record { answer = now (answer .exit); out = now (out .exit) }) (valueFace (now (src .entry)) (now (reading .entry)) (record { t1 = now (t1 .entry); t2 = now (t2 .entry); t3 = now (t3 .entry); t4 = now (t4 .entry); t5 = now (t5 .entry); t6 = now (t6 .entry); t7 = now (t7 .entry); t8 = now (t8 .entry); t9 = now (t9 .entry); t10 = now (t10 .entry) }) (record { tokens = now (i1 .entry); rules = now (i7 .entry) }) row (now (out .entry))) ⌝ }
 {
@@ -676,5 +749,16 @@ pub extern "C" fn quiltrudder_epp_value(
         row,
         out,
     );
-    *answer = counted_cells(numbers::of_valuation(v), numbers::written(v));
+    let a = v.answer;
+    let s = v.spot;
+    *answer = counted_cells(numbers::of_valuation(a), numbers::written(a), s);
+}
+
+// Line and column of a place in a source.
+#[no_mangle]
+pub extern "C" fn quiltrudder_locate(src: &[u8], at: u32, answer: &mut [u32; 2])
+    ensures { λ r. ⌜ now (answer .exit) ≡ spotCells (spotAt (now (src .entry)) at) ⌝ }
+{
+    let s = locate(src, at);
+    *answer = [s.line, s.column];
 }

@@ -5,6 +5,7 @@ use mathlib.Core.Bool.{true}
 use mathlib.Core.List.{List, [], _∷_, _++_}
 use lib.ListN.{take, replicate, getD}
 use Rattle.scan.specs.Scan.{isAt, begins, startsAt, isLetter, isDigit, isEol, inClass, runEnd, runEndAt}
+use Rattle.scan.specs.Lines.{linesHere}
 use Rattle.scan.specs.Loop.{turns}
 use Rattle.scan.specs.Table.{Case, same, all}
 use Rattle.utf8.specs.White.{isWhite}
@@ -140,7 +141,7 @@ table =
     ∷ []
 
 pub table-holds : all (λ x. numbers (readAll (x .src) (x .kind) lent slots)) table ≡ true
-unfolding isWhite all same row table filled numbers readAll readNames filledRows rowFor namedRow attempted sizesFit sizeTest isPower halved admitted sectionsAll restAll endedAt repeatOf ofNumber check checkAt declAll declRun declTurn declStep seenAt firstOf startsAt begins turns gapAt gapOf spacing spacingAt isBlank isEol pastGap pushRow listRepeat enterStep onceStep addRow room samePart hasName firstRow findName enterToken nextLevel nameAt named wordAt tokenAt bare quotedAt closed isQuote isAt inClass isLetter isDigit runEnd runEndAt intAt counted decimal decimalAt stringAt stringFrom string lineEndAt single singleFrom colonText colonTextAt braced bracedFrom acted actionAt startDecl startNamed expectDecl expectGiven actiontypeDecl actiontypeNamed paramTyped paramDecl genericsDecl listDecl percentList listTurn ends tokenItem unusedItem unusedRow precDecl precList precTurn precItem avoidDecl avoidList avoidTurn avoidItem avoidNamed eppDecl eppValue eppText eppGiven pushProduction leadOf follow followAt begun decode decodeAt passed passedAt kept moved trimTurn trimmed firstMark sortAt tokenSymbol quotedRows quotedItem precName item-precItem mayEnd afterAction actionItem mayFollow emptyItem symbolKind bareItem endProduction barItem endItem itemStep itemTurn itemList passMark firstStart colonType arrowType ruleType enterRule namedHead ruleHead ruleBody ruleStep nextRule rulesTurn rulesRun rulesAll programsFrom
+unfolding isWhite all same row table filled numbers readAll readNames filledRows rowFor namedRow attempted sizesFit sizeTest isPower halved admitted sectionsAll restAll endedAt repeatOf ofNumber check checkAt declAll declRun declTurn declStep seenAt firstOf startsAt begins turns gapAt gapOf spacing spacingAt isBlank isEol linesHere pastGap pushRow listRepeat enterStep onceStep addRow room samePart hasName firstRow findName enterToken nextLevel nameAt named wordAt tokenAt bare quotedAt closed isQuote isAt inClass isLetter isDigit runEnd runEndAt intAt counted decimal decimalAt stringAt stringFrom string lineEndAt single singleFrom colonText colonTextAt braced bracedFrom acted actionAt startDecl startNamed expectDecl expectGiven actiontypeDecl actiontypeNamed paramTyped paramDecl genericsDecl listDecl percentList listTurn ends tokenItem unusedItem unusedRow precDecl precList precTurn precItem avoidDecl avoidList avoidTurn avoidItem avoidNamed eppDecl eppValue eppText eppGiven pushProduction leadOf follow followAt begun decode decodeAt passed passedAt kept moved trimTurn trimmed firstMark sortAt tokenSymbol quotedRows quotedItem precName item-precItem mayEnd afterAction actionItem mayFollow emptyItem symbolKind bareItem endProduction barItem endItem itemStep itemTurn itemList passMark firstStart colonType arrowType ruleType enterRule namedHead ruleHead ruleBody ruleStep nextRule rulesTurn rulesRun rulesAll programsFrom
 table-holds = refl
 
 -- A source, a kind, and a table without room for a row: index k is table k + 1.
@@ -184,7 +185,7 @@ rooms =
     ∷ []
 
 pub rooms-hold : all (λ x. verdictNumbers (readAll (x .src) (x .kind) (setTab lent (x .without) []) slots .answer)) rooms ≡ true
-unfolding full rooms isWhite all same readAll readNames filledRows rowFor namedRow attempted sizesFit sizeTest isPower halved admitted sectionsAll restAll endedAt repeatOf ofNumber check checkAt declAll declRun declTurn declStep seenAt firstOf startsAt begins turns gapAt gapOf spacing spacingAt isBlank isEol pastGap pushRow listRepeat enterStep onceStep addRow room samePart hasName firstRow findName enterToken nextLevel nameAt named wordAt tokenAt bare quotedAt closed isQuote isAt inClass isLetter isDigit runEnd runEndAt intAt counted decimal decimalAt stringAt stringFrom string lineEndAt single singleFrom colonText colonTextAt braced bracedFrom acted actionAt startDecl startNamed expectDecl expectGiven actiontypeDecl actiontypeNamed paramTyped paramDecl genericsDecl listDecl percentList listTurn ends tokenItem unusedItem unusedRow precDecl precList precTurn precItem avoidDecl avoidList avoidTurn avoidItem avoidNamed eppDecl eppValue eppText eppGiven pushProduction leadOf follow followAt begun decode decodeAt passed passedAt kept moved trimTurn trimmed firstMark sortAt tokenSymbol quotedRows quotedItem precName item-precItem mayEnd afterAction actionItem mayFollow emptyItem symbolKind bareItem endProduction barItem endItem itemStep itemTurn itemList passMark firstStart colonType arrowType ruleType enterRule namedHead ruleHead ruleBody ruleStep nextRule rulesTurn rulesRun rulesAll programsFrom
+unfolding full rooms isWhite all same readAll readNames filledRows rowFor namedRow attempted sizesFit sizeTest isPower halved admitted sectionsAll restAll endedAt repeatOf ofNumber check checkAt declAll declRun declTurn declStep seenAt firstOf startsAt begins turns gapAt gapOf spacing spacingAt isBlank isEol linesHere pastGap pushRow listRepeat enterStep onceStep addRow room samePart hasName firstRow findName enterToken nextLevel nameAt named wordAt tokenAt bare quotedAt closed isQuote isAt inClass isLetter isDigit runEnd runEndAt intAt counted decimal decimalAt stringAt stringFrom string lineEndAt single singleFrom colonText colonTextAt braced bracedFrom acted actionAt startDecl startNamed expectDecl expectGiven actiontypeDecl actiontypeNamed paramTyped paramDecl genericsDecl listDecl percentList listTurn ends tokenItem unusedItem unusedRow precDecl precList precTurn precItem avoidDecl avoidList avoidTurn avoidItem avoidNamed eppDecl eppValue eppText eppGiven pushProduction leadOf follow followAt begun decode decodeAt passed passedAt kept moved trimTurn trimmed firstMark sortAt tokenSymbol quotedRows quotedItem precName item-precItem mayEnd afterAction actionItem mayFollow emptyItem symbolKind bareItem endProduction barItem endItem itemStep itemTurn itemList passMark firstStart colonType arrowType ruleType enterRule namedHead ruleHead ruleBody ruleStep nextRule rulesTurn rulesRun rulesAll programsFrom
 rooms-hold = refl
 
 -- a kind, a source, and how many slots each index has
@@ -214,5 +215,5 @@ sizes =
     ∷ []
 
 pub sizes-hold : all (λ x. verdictNumbers (readAll (x .src) (x .kind) lent (record { tokens = replicate (x .first) 7; rules = replicate (x .seventh) 7 }) .answer)) sizes ≡ true
-unfolding lend sizes isWhite all same readAll readNames filledRows rowFor namedRow attempted sizesFit sizeTest isPower halved admitted sectionsAll restAll endedAt repeatOf ofNumber check checkAt declAll declRun declTurn declStep seenAt firstOf startsAt begins turns gapAt gapOf spacing spacingAt isBlank isEol pastGap pushRow listRepeat enterStep onceStep addRow room samePart hasName firstRow findName enterToken nextLevel nameAt named wordAt tokenAt bare quotedAt closed isQuote isAt inClass isLetter isDigit runEnd runEndAt intAt counted decimal decimalAt stringAt stringFrom string lineEndAt single singleFrom colonText colonTextAt braced bracedFrom acted actionAt startDecl startNamed expectDecl expectGiven actiontypeDecl actiontypeNamed paramTyped paramDecl genericsDecl listDecl percentList listTurn ends tokenItem unusedItem unusedRow precDecl precList precTurn precItem avoidDecl avoidList avoidTurn avoidItem avoidNamed eppDecl eppValue eppText eppGiven pushProduction leadOf follow followAt begun decode decodeAt passed passedAt kept moved trimTurn trimmed firstMark sortAt tokenSymbol quotedRows quotedItem precName item-precItem mayEnd afterAction actionItem mayFollow emptyItem symbolKind bareItem endProduction barItem endItem itemStep itemTurn itemList passMark firstStart colonType arrowType ruleType enterRule namedHead ruleHead ruleBody ruleStep nextRule rulesTurn rulesRun rulesAll programsFrom
+unfolding lend sizes isWhite all same readAll readNames filledRows rowFor namedRow attempted sizesFit sizeTest isPower halved admitted sectionsAll restAll endedAt repeatOf ofNumber check checkAt declAll declRun declTurn declStep seenAt firstOf startsAt begins turns gapAt gapOf spacing spacingAt isBlank isEol linesHere pastGap pushRow listRepeat enterStep onceStep addRow room samePart hasName firstRow findName enterToken nextLevel nameAt named wordAt tokenAt bare quotedAt closed isQuote isAt inClass isLetter isDigit runEnd runEndAt intAt counted decimal decimalAt stringAt stringFrom string lineEndAt single singleFrom colonText colonTextAt braced bracedFrom acted actionAt startDecl startNamed expectDecl expectGiven actiontypeDecl actiontypeNamed paramTyped paramDecl genericsDecl listDecl percentList listTurn ends tokenItem unusedItem unusedRow precDecl precList precTurn precItem avoidDecl avoidList avoidTurn avoidItem avoidNamed eppDecl eppValue eppText eppGiven pushProduction leadOf follow followAt begun decode decodeAt passed passedAt kept moved trimTurn trimmed firstMark sortAt tokenSymbol quotedRows quotedItem precName item-precItem mayEnd afterAction actionItem mayFollow emptyItem symbolKind bareItem endProduction barItem endItem itemStep itemTurn itemList passMark firstStart colonType arrowType ruleType enterRule namedHead ruleHead ruleBody ruleStep nextRule rulesTurn rulesRun rulesAll programsFrom
 sizes-hold = refl

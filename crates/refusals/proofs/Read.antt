@@ -2,12 +2,12 @@
 use Prim.Native.Nat.{ℕ, _+_, _≤_, _<_}
 use mathlib.Core.Path.{_≡_, refl, sym}
 use mathlib.Core.List.{List}
-use mathlib.Core.Bool.{Bool, true, false, _||_}
+use mathlib.Core.Bool.{Bool, true, false, _||_, false≢true}
 use mathlib.Core.Logic.{_⊎_, inl, inr}
 use native.Mathlib.Omega.{arith}
 use lib.Dec.{ltb, eqb}
 use lib.ListN.{length}
-use borrow.Author.Tests.{ltb-false, eqb-false}
+use borrow.Author.Tests.{ltb-false, lt-ltb, eqb-false}
 use Rattle.scan.proofs.Bytes.{on-test, told}
 use Rattle.whole.specs.declared.Checked.{Checked}
 use Rattle.whole.specs.declared.Checked.the-variants.{Good, BadAt}
@@ -24,7 +24,7 @@ use Rattle.grammar.specs.declared.Refusal.the-variants.{Fault, Repeated, NoRoom
 use Rattle.grammar.specs.declared.Repeat.{Repeat}
 use Rattle.grammar.specs.declared.Answer.{Answer}
 use Rattle.grammar.specs.declared.Answer.the-variants.{Going, Done, Refused}
-use Rattle.grammar.specs.Refusals.{numberOfCause, numberOfRepeat, repeatOf}
+use Rattle.grammar.specs.Refusals.{numberOfCause, numberOfRepeat, fromOf, repeatOf}
 use Rattle.grammar.specs.State.{Passed, count, fresh}
 use Rattle.grammar.specs.Sound.{Tables, Indexes, zeroAll, Far}
 use Rattle.grammar.proofs.Repeats.{repeat-least, repeat-most, number-back}
@@ -195,3 +195,20 @@ refusal-documented src kind T X f e = go f (told (Verdicts src (readAll src kind
     go TooLong x = record { number = inr (inr (inl (omega arith, omega arith))); place = record { onward = omega arith; inside = omega arith }; other = λ d. refl; full = λ n. absurd (omega arith) }
     go BadKind x = record { number = inr (inr (inl (omega arith, omega arith))); place = record { onward = omega arith; inside = omega arith }; other = λ d. refl; full = λ n. absurd (omega arith) }
     go BadIndex x = record { number = inr (inr (inr refl)); place = record { onward = omega arith; inside = omega arith }; other = λ d. refl; full = λ n. absurd (omega arith) }
+
+-- A source that is too long is refused without a place.
+pub long-nowhere : (src : List ℕ) (kind : ℕ) (T : Tables) (X : Indexes) → 65536 < length src → (f : Refusal) × (readAll src kind T X .answer ≡ Rejected f) × (fromOf f ≡ 0)
+unfolding readAll readNames attempted admitted
+long-nowhere src kind T X h = go (ltb kind 1 || ltb 3 kind) (sized T X)
+  where
+    Nowhere : Admission → Type 0
+    Nowhere m = (f : Refusal) × (filledIn src (indexed src X (finishedRun (attemptOf m src kind (zeroAll T)))) .answer ≡ Rejected f) × (fromOf f ≡ 0)
+
+    long : (q : Bool) → q ≡ true → Nowhere (elim q [ true ↦ Unfit TooLong | false ↦ asText (checkAt src 0) ])
+    long true e = (TooLong, refl, refl)
+    long false e = absurd (false≢true e)
+
+    go : (b fit : Bool) → Nowhere (elim b [ true ↦ Unfit BadKind | false ↦ sizedText fit src ])
+    go true fit = (BadKind, refl, refl)
+    go false false = (BadIndex, refl, refl)
+    go false true = long (ltb 65536 (length src)) (lt-ltb _ _ h)

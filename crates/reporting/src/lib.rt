@@ -71,7 +71,7 @@ fn print_report(
     work: &mut [u32],
     out: &mut [u32],
 ) {
-    let l = quiltrudder::report(
+    let r = quiltrudder::report(
         src,
         c,
         g,
@@ -90,6 +90,7 @@ fn print_report(
         work,
         out,
     );
+    let l = r.answer;
     match l {
         Listing::Unused(n) => {
             print_answer(numbers::of_judgement(j));

@@ -3,3 +3,4 @@ pub mod Loop
 pub mod Runs
 pub mod Table
 pub mod Tally
+pub mod Lines

@@ -1,8 +1,9 @@
-// What every scan of a source shares: one byte, classes of bytes and runs of them, words looked ahead for.
+// What every scan of a source shares: one byte, classes of bytes and runs of them, words looked ahead for, ends of lines.
 ghost use mathlib.Core.Path.{_≡_};
 ghost use Prim.Native.Nat.{_≤_};
 ghost use lib.ListN.{length};
 ghost use Rattle.scan.specs.Scan.{isAt, startsAt, isLetter, isDigit, isEol, inClass, runEndAt, Runs};
+ghost use Rattle.scan.specs.Lines.{linesAt};
 
 // A part of the source: its first byte, and the byte behind its last.
 pub struct Place {
@@ -96,4 +97,25 @@ pub fn run_end(s: &[u8], from: usize, class: Class) -> usize
         i += 1;
     }
     i
+}
+
+// How many lines end with the byte at `k`: one with an LF, or with a CR that no LF follows; none past the end.
+pub fn lines_at(s: &[u8], k: usize) -> usize
+    ensures { λ r. ⌜ r ≡ linesAt (now (s .entry)) k ⌝ }
+    ensures { λ r. ⌜ r ≤ 1 ⌝ }
+{
+    if s.len() <= k {
+        return 0;
+    }
+    let c = s[k];
+    match c {
+        10 => 1,
+        13 => {
+            if starts(s, k + 1, b"\n") {
+                return 0;
+            }
+            1
+        }
+        _ => 0,
+    }
 }

@@ -11,6 +11,7 @@ use borrow.Author.Tests.{eq-eqb, ne-eqb, not-true, not-false}
 use types.Run.{OneOf}
 use Rattle.scan.specs.declared.Class.the-variants.{LineByte}
 use Rattle.scan.specs.Scan.{isEol, isAt, inClass, Runs}
+use Rattle.scan.specs.Lines.{linesAt}
 use Rattle.scan.proofs.Bytes.{drop-at, drop-key, ends, eol-yes, eol-no, at-true, at-here, le-or-lt}
 use Rattle.spacing.specs.Spacing.{isBlank, gap, slash, line, comment, spacing, spacingAt}
 use Rattle.spacing.specs.declared.Spaced.{Spaced}
@@ -43,9 +44,10 @@ module _ (ok : Bool) (s : List ℕ) (i n : ℕ) (r : Spaced) where
       unfolding spacing spacingAt
       a-refused o f = rw (drop-at s i h, end-no-blank _ o, eol-yes _ o, f, spacing) at inv
 
-      pub a-eol : OneOf ends (getD s i 0) → not ok ≡ false → spacingAt ok gap s (i + 1) (n + 1) ≡ r
-      unfolding spacing spacingAt
-      a-eol o f = rw (drop-at s i h, end-no-blank _ o, eol-yes _ o, f, spacing) at inv
+      -- the callee's number m is what the definition adds
+      pub a-eol : (m : ℕ) → OneOf ends (getD s i 0) → not ok ≡ false → m ≡ linesAt s i → spacingAt ok gap s (i + 1) (n + m) ≡ r
+      unfolding spacing spacingAt linesAt
+      a-eol m o f q = rw q (rw (drop-at s i h, end-no-blank _ o, eol-yes _ o, f, spacing) at inv)
 
       pub a-other : (OneOf blanks (getD s i 0) → ⊥) → (OneOf ends (getD s i 0) → ⊥) → (getD s i 0 ≡ 47 → ⊥) → To i n ≡ r
       unfolding spacing spacingAt
@@ -74,8 +76,8 @@ module _ (ok : Bool) (s : List ℕ) (i n : ℕ) (r : Spaced) where
   unfolding spacing spacingAt
   l-end inv h = let e = drop-of-length-le s h in rw e (rw e at inv)
 
-  l-byte : spacingAt ok line s i n ≡ r → i < length s → isEol (getD s i 0) ≡ true → spacingAt ok gap s (i + 1) (n + 1) ≡ r
-  unfolding spacing spacingAt
+  l-byte : spacingAt ok line s i n ≡ r → i < length s → isEol (getD s i 0) ≡ true → spacingAt ok gap s (i + 1) (n + linesAt s i) ≡ r
+  unfolding spacing spacingAt linesAt
   l-byte inv h t = rw (drop-at s i h, t, spacing) at inv
 
   l-on : spacingAt ok line s i n ≡ r → i < length s → isEol (getD s i 0) ≡ false → spacingAt ok line s (i + 1) n ≡ r
@@ -108,8 +110,8 @@ module _ (ok : Bool) (s : List ℕ) (n : ℕ) (r : Spaced) where
     pub a-line-last : length s ≤ e → spacingAt ok gap s e n ≡ r
     a-line-last l = l-end ok s e n r to-end l
 
-    pub a-line-counted : e < length s → spacingAt ok gap s (e + 1) (n + 1) ≡ r
-    a-line-counted l = l-byte ok s e n r to-end l (line-byte _ true (x .stops l))
+    pub a-line-counted : (m : ℕ) → e < length s → m ≡ linesAt s e → spacingAt ok gap s (e + 1) (n + m) ≡ r
+    a-line-counted m l q = rw q (l-byte ok s e n r to-end l (line-byte _ true (x .stops l)))
 
 module _ (ok : Bool) (s : List ℕ) (b k n : ℕ) (r : Spaced) where
   module _ (f : Bool) (inv : spacingAt ok (comment b true) s k n ≡ r) (q : f ≡ isAt 47 s k) where
@@ -141,8 +143,8 @@ module _ (ok : Bool) (s : List ℕ) (b k n : ℕ) (r : Spaced) (inv : spacingAt 
     unfolding spacing spacingAt
     c-on a f = rw (drop-at s k h, eol-no _ a, ne-eqb _ _ f, spacing) at inv
 
-    c-eol : OneOf ends (getD s k 0) → not ok ≡ false → spacingAt ok (comment b true) s (k + 1) (n + 1) ≡ r
-    unfolding spacing spacingAt
+    c-eol : OneOf ends (getD s k 0) → not ok ≡ false → spacingAt ok (comment b true) s (k + 1) (n + linesAt s k) ≡ r
+    unfolding spacing spacingAt linesAt
     c-eol o f = rw (drop-at s k h, eol-yes _ o, f, spacing) at inv
 
     c-star : getD s k 0 ≡ 42 → spacingAt ok (comment b true) s (k + 1) n ≡ r
@@ -150,11 +152,11 @@ module _ (ok : Bool) (s : List ℕ) (b k n : ℕ) (r : Spaced) (inv : spacingAt 
     c-star e = rw (drop-key s k 42 h e) at inv
 
     module _ (f : Bool) (q : f ≡ isAt 47 s (k + 1)) where
-      pub c-eol-on : OneOf ends (getD s k 0) → not ok ≡ false → f ≡ false → spacingAt ok (comment b false) s (k + 1) (n + 1) ≡ r
-      c-eol-on o g t = behind-on ok s b (k + 1) (n + 1) r f (c-eol o g) q t
+      pub c-eol-on : (m : ℕ) → OneOf ends (getD s k 0) → not ok ≡ false → f ≡ false → m ≡ linesAt s k → spacingAt ok (comment b false) s (k + 1) (n + m) ≡ r
+      c-eol-on m o g t w = rw w (behind-on ok s b (k + 1) (n + linesAt s k) r f (c-eol o g) q t)
 
-      pub c-eol-close : OneOf ends (getD s k 0) → not ok ≡ false → f ≡ true → spacingAt ok gap s (k + 1 + 1) (n + 1) ≡ r
-      c-eol-close o g t = behind-close ok s b (k + 1) (n + 1) r f (c-eol o g) q t
+      pub c-eol-close : (m : ℕ) → OneOf ends (getD s k 0) → not ok ≡ false → f ≡ true → m ≡ linesAt s k → spacingAt ok gap s (k + 1 + 1) (n + m) ≡ r
+      c-eol-close m o g t w = rw w (behind-close ok s b (k + 1) (n + linesAt s k) r f (c-eol o g) q t)
 
       pub c-star-on : getD s k 0 ≡ 42 → f ≡ false → spacingAt ok (comment b false) s (k + 1) n ≡ r
       c-star-on e t = behind-on ok s b (k + 1) n r f (c-star e) q t

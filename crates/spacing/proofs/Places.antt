@@ -9,7 +9,9 @@ use lib.Dec.{eqb}
 use lib.ListN.{length, getD, drop}
 use borrow.Author.Tests.{eqb-true}
 use Rattle.scan.specs.Scan.{isEol, Edge}
+use Rattle.scan.specs.Lines.{linesHere}
 use Rattle.scan.proofs.Bytes.{on-test, drop-below, drop-next, drop-byte, drop-ended}
+use Rattle.scan.proofs.Lines.{here-few}
 use Rattle.spacing.specs.Spacing.{isBlank, Mode, gap, slash, line, comment, spacing, spacingAt, spacesAt, Spaces}
 use Rattle.spacing.specs.declared.Spaced.{Spaced}
 use Rattle.spacing.specs.declared.Spaced.the-variants.{To, LineEnd, OpenComment}
@@ -36,7 +38,7 @@ close-low true c e = let z = eqb-true c 47 e in omega arith
 close-low false c e = let z : _≡_ {A = ℕ} 0 1 = cc in absurd (omega arith)
 
 module _ (ok : Bool) (s : List ℕ) (from : ℕ) where
-  -- what holds in front of index i, n line ends being counted
+  -- what holds in front of index i, n lines being counted
   abbrev Ready : Mode → ℕ → ℕ → Type 0
   Ready gap i n = (from + n ≤ i) × Edge s from i
   Ready (slash b) i n = (from + n ≤ b) × (b < i) × Edge s from b
@@ -59,7 +61,7 @@ module _ (ok : Bool) (s : List ℕ) (from : ℕ) where
         let y = drop-below s i c cs q in
         on-test (Spaces s from) (isBlank c) _ _ (λ e. on gap n (omega arith, edge i c cs q (blank-low c e)))
         (λ f. on-test (Spaces s from) (isEol c) _ _
-        (λ e. on-test (Spaces s from) (not ok) _ _ (λ r. (omega arith, y)) (λ r. on gap (n + 1) (omega arith, edge i c cs q (eol-low c e))))
+        (λ e. on-test (Spaces s from) (not ok) _ _ (λ r. (omega arith, y)) (λ r. on gap (n + linesHere c cs) (omega (arith, here-few c cs), edge i c cs q (eol-low c e))))
         (λ g. on-test (Spaces s from) (eqb c 47) _ _ (λ e. on (slash i) n (k, omega arith, x .1)) (λ e. (k, h, x .1))))
 
     in-slash : (b : ℕ) → Ready (slash b) i n → Spaces s from (spacing ok (slash b) (c ∷ cs) i n)
@@ -74,7 +76,7 @@ module _ (ok : Bool) (s : List ℕ) (from : ℕ) where
     in-line : Ready line i n → Spaces s from (spacing ok line (c ∷ cs) i n)
     unfolding spacing
     in-line x =
-        on-test (Spaces s from) (isEol c) _ _ (λ e. on gap (n + 1) (omega arith, edge i c cs q (eol-low c e))) (λ e. on line n (omega arith))
+        on-test (Spaces s from) (isEol c) _ _ (λ e. on gap (n + linesHere c cs) (omega (arith, here-few c cs), edge i c cs q (eol-low c e))) (λ e. on line n (omega arith))
 
     in-comment : (b : ℕ) (behind : Bool) → Ready (comment b behind) i n → Spaces s from (spacing ok (comment b behind) (c ∷ cs) i n)
     unfolding spacing
@@ -85,7 +87,7 @@ module _ (ok : Bool) (s : List ℕ) (from : ℕ) where
         let y = drop-below s i c cs q in
         on-test (Spaces s from) (behind && eqb c 47) _ _ (λ e. on gap n (omega arith, edge i c cs q (close-low behind c e)))
         (λ f. on-test (Spaces s from) (isEol c) _ _
-        (λ e. on-test (Spaces s from) (not ok) _ _ (λ r. (k, omega arith)) (λ r. on (comment b true) (n + 1) (k, omega arith, omega arith)))
+        (λ e. on-test (Spaces s from) (not ok) _ _ (λ r. (k, omega arith)) (λ r. on (comment b true) (n + linesHere c cs) (k, omega arith, omega (arith, here-few c cs))))
         (λ g. on (comment b (eqb c 42)) n (k, omega arith, omega arith)))
 
   place : (l : List ℕ) (mode : Mode) (i n : ℕ) → drop i s ≡ l → i ≤ length s → Ready mode i n → Spaces s from (spacing ok mode l i n)

@@ -3,7 +3,8 @@ use Prim.Native.Nat.{ℕ}
 use mathlib.Core.Path.{_≡_, refl}
 use mathlib.Core.List.{List, [], _∷_}
 use mathlib.Core.Bool.{Bool, true, false}
-use Rattle.scan.specs.Scan.{isEol}
+use Rattle.scan.specs.Scan.{isEol, begins}
+use Rattle.scan.specs.Lines.{linesHere}
 use Rattle.scan.specs.Table.{Case, same, all}
 use Rattle.spacing.specs.Spacing.{isBlank, spacing, spacingAt, spacesAt, numbers}
 
@@ -39,8 +40,20 @@ table =
     ∷ row true (47 ∷ 120 ∷ []) 0 (0 ∷ 0 ∷ 0 ∷ [])
     -- ` \t x`
     ∷ row true (32 ∷ 9 ∷ 32 ∷ 120 ∷ []) 0 (0 ∷ 3 ∷ 0 ∷ [])
-    -- `\r\n`: each is counted
-    ∷ row true (13 ∷ 10 ∷ []) 0 (0 ∷ 2 ∷ 2 ∷ [])
+    -- `\r\n`: one line; `\r`, `\n`: one each; `\n\r`: two; `\r\r\n\n`: three
+    ∷ row true (13 ∷ 10 ∷ []) 0 (0 ∷ 2 ∷ 1 ∷ [])
+    ∷ row true (13 ∷ []) 0 (0 ∷ 1 ∷ 1 ∷ [])
+    ∷ row true (10 ∷ []) 0 (0 ∷ 1 ∷ 1 ∷ [])
+    ∷ row true (10 ∷ 13 ∷ []) 0 (0 ∷ 2 ∷ 2 ∷ [])
+    ∷ row true (13 ∷ 13 ∷ 10 ∷ 10 ∷ []) 0 (0 ∷ 4 ∷ 3 ∷ [])
+    -- `//\r\n`, `//\r`, `//\n\r`: the comment ends with the CR, and the LF counts the pair
+    ∷ row true (47 ∷ 47 ∷ 13 ∷ 10 ∷ []) 0 (0 ∷ 4 ∷ 1 ∷ [])
+    ∷ row true (47 ∷ 47 ∷ 13 ∷ []) 0 (0 ∷ 3 ∷ 1 ∷ [])
+    ∷ row true (47 ∷ 47 ∷ 10 ∷ 13 ∷ []) 0 (0 ∷ 4 ∷ 2 ∷ [])
+    -- `/*\r\n*/`, `/*\r\n/`, `/*\n\r*/`
+    ∷ row true (47 ∷ 42 ∷ 13 ∷ 10 ∷ 42 ∷ 47 ∷ []) 0 (0 ∷ 6 ∷ 1 ∷ [])
+    ∷ row true (47 ∷ 42 ∷ 13 ∷ 10 ∷ 47 ∷ []) 0 (0 ∷ 5 ∷ 1 ∷ [])
+    ∷ row true (47 ∷ 42 ∷ 10 ∷ 13 ∷ 42 ∷ 47 ∷ []) 0 (0 ∷ 6 ∷ 2 ∷ [])
     -- `/* * /`, `/**/`, `/*\r/`
     ∷ row true (47 ∷ 42 ∷ 32 ∷ 42 ∷ 32 ∷ 47 ∷ []) 0 (5 ∷ 0 ∷ [])
     ∷ row true (47 ∷ 42 ∷ 42 ∷ 47 ∷ []) 0 (0 ∷ 4 ∷ 0 ∷ [])
@@ -55,5 +68,5 @@ table =
     ∷ []
 
 pub table-holds : all given table ≡ true
-unfolding all same given row table numbers spacing spacingAt isBlank isEol
+unfolding all same given row table numbers spacing spacingAt isBlank isEol linesHere begins
 table-holds = refl

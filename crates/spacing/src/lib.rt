@@ -6,7 +6,7 @@ ghost use lib.ListN.{length};
 ghost use Rattle.spacing.specs.Spacing.{spacesAt, Spaces};
 
 pub enum Spaced {
-    // The first byte behind the spacing, and how many line ends were passed.
+    // The first byte behind the spacing, and how many lines were passed.
     To(usize, usize),
     // A line end where none is allowed: its place, or that of the comment that holds it.
     LineEnd(usize),
@@ -31,7 +31,7 @@ pub fn parse_ws(s: &[u8], from: usize, ends_allowed: bool) -> Spaced
                 if !ends_allowed {
                     return Spaced::LineEnd(i);
                 }
-                n += 1;
+                n += scan::lines_at(s, i);
                 i += 1;
             }
             47 => {
@@ -46,7 +46,7 @@ pub fn parse_ws(s: &[u8], from: usize, ends_allowed: bool) -> Spaced
                         if s.len() <= e {
                             i = e;
                         } else {
-                            n = n + 1;
+                            n = n + scan::lines_at(s, e);
                             i = e + 1;
                         }
                     }
@@ -57,13 +57,14 @@ pub fn parse_ws(s: &[u8], from: usize, ends_allowed: bool) -> Spaced
                                 return Spaced::OpenComment(i);
                             }
                             let e = s[k];
+                            let b = k;
                             k += 1;
                             match e {
                                 10 | 13 => {
                                     if !ends_allowed {
                                         return Spaced::LineEnd(i);
                                     }
-                                    n += 1;
+                                    n += scan::lines_at(s, b);
                                     if scan::is_at(s, k, b'/') {
                                         k += 1;
                                         break 'comment;

@@ -2,7 +2,7 @@
 use Prim.Native.Nat.{ℕ, _+_, _-_, _≤_, _<_}
 use mathlib.Core.Path.{_≡_, refl, sym, _∙_}
 use mathlib.Core.List.{List, [], _∷_}
-use mathlib.Core.Bool.{true, false}
+use mathlib.Core.Bool.{false}
 use mathlib.Core.Logic.{_↔_, ⊎-elim}
 use native.Mathlib.Omega.{arith}
 use native.Mathlib.Decide.{ℕ-discrete}
@@ -11,7 +11,7 @@ use lib.ListN.{length, getD, drop}
 use borrow.Author.Tests.{eq-eqb, eqb-true, eqb-false}
 use Rattle.scan.specs.declared.Place.{Place}
 use Rattle.scan.specs.Scan.{isEol}
-use Rattle.scan.specs.Tally.{tallyAt}
+use Rattle.scan.specs.Lines.{linesHere, linesTo}
 use Rattle.scan.proofs.Bytes.{le-or-lt, on-test, drop-below, drop-next, drop-byte, drop-ended}
 use Rattle.scan.proofs.Tally.{tally-none, tally-hit, tally-miss, tally-last, tally-skip}
 use Rattle.trim.specs.Trim.{trimmed}
@@ -20,6 +20,7 @@ use Rattle.texts.specs.Balance.{openings, closings, IsAction}
 use Rattle.texts.specs.declared.Brace.{Brace}
 use Rattle.texts.specs.declared.Brace.the-variants.{Closes, NeverCloses}
 use Rattle.texts.specs.declared.Action.the-variants.{Body, OpenAction}
+use Rattle.texts.proofs.Lines.{braced-tells}
 
 -- The brace at `to` closes the first one, d more being open at i: the same as balancing, of what is left.
 record Closing (s : List ℕ) (d i to : ℕ) : Type 0 where
@@ -102,18 +103,15 @@ module _ (s : List ℕ) where
             let w = b .left in
             omega arith
 
-  -- what the scan answers with d braces open at i, and n line ends before it
-  abbrev Tells : ℕ → ℕ → ℕ → Brace → Type 0
-  Tells d i n (Closes to m) = Closing s d i to × (m ≡ n + tallyAt isEol s i to)
-  Tells d i n NeverCloses = (to : ℕ) → Closing s d i to → ⊥
+  -- what the scan answers with d braces open at i
+  abbrev Tells : ℕ → ℕ → Brace → Type 0
+  Tells d i (Closes to n) = Closing s d i to
+  Tells d i NeverCloses = (to : ℕ) → Closing s d i to → ⊥
 
-  -- a byte passed, where n line ends were counted before it, and m behind it
-  module _ (i o c d e n m : ℕ) (b : Byte i o c d e) (f : getD s i 0 ≡ 125 → d ≡ 0 → ⊥) (lines : (j : ℕ) → i < j → j ≤ length s → n + tallyAt isEol s i j ≡ m + tallyAt isEol s (i + 1) j) where
-    tells-on : (r : Brace) → Tells e (i + 1) m r → Tells d i n r
-    tells-on (Closes to k) x =
-        let h = x .0 .onward in
-        let l = x .0 .inside in
-        (closing-back i o c d e to b (x .0), x .1 ∙ sym (lines to (omega arith) (omega arith)))
+  -- a byte passed
+  module _ (i o c d e : ℕ) (b : Byte i o c d e) (f : getD s i 0 ≡ 125 → d ≡ 0 → ⊥) where
+    tells-on : (r : Brace) → Tells e (i + 1) r → Tells d i r
+    tells-on (Closes to n) x = closing-back i o c d e to b x
     tells-on NeverCloses x = λ to y. x to (closing-on i o c d e to b f y)
 
   -- the three sorts of bytes that are passed
@@ -142,39 +140,31 @@ module _ (s : List ℕ) where
           left = refl;
         }
 
-    counted : (n : ℕ) → isEol (getD s i 0) ≡ true → (j : ℕ) → i < j → j ≤ length s → n + tallyAt isEol s i j ≡ n + 1 + tallyAt isEol s (i + 1) j
-    counted n t j h k = let z = tally-hit isEol s i j h k t in omega arith
-
-    uncounted : (n : ℕ) → isEol (getD s i 0) ≡ false → (j : ℕ) → i < j → j ≤ length s → n + tallyAt isEol s i j ≡ n + tallyAt isEol s (i + 1) j
-    uncounted n t j h k = rw (tally-miss isEol s i j h k t)
-
     -- the closing brace itself
-    last : (n : ℕ) → getD s i 0 ≡ 125 → d ≡ 0 → Tells d i n (Closes i n)
-    last n q z =
+    last : getD s i 0 ≡ 125 → d ≡ 0 → Closing s d i i
+    last q z =
         let u = tally-none (λ c. eqb c 123) s i in
         let v = tally-none (λ c. eqb c 125) s i in
-        let w = tally-none isEol s i in
-        (record { onward = omega arith; inside = l; closes = q; even = omega arith; beginnings = λ k a b. let e : k ≡ i = omega arith in rw e (omega arith) }, omega arith)
+        record { onward = omega arith; inside = l; closes = q; even = omega arith; beginnings = λ k a b. let e : k ≡ i = omega arith in rw e (omega arith) }
 
   -- The scan tells whether and where what is left closes.
-  tells : (l : List ℕ) (d i n : ℕ) → drop i s ≡ l → i ≤ length s → Tells d i n (braced d l i n)
-  unfolding braced isEol
+  tells : (l : List ℕ) (d i n : ℕ) → drop i s ≡ l → i ≤ length s → Tells d i (braced d l i n)
+  unfolding braced
   tells [] d i n q h = let z = drop-ended s i q h in λ to x. let a = x .onward in let b = x .inside in omega arith
   tells (c ∷ cs) d i n q h =
       let y = drop-below s i c cs q in
       let e = drop-byte s i c cs q in
-      let on : (d m : ℕ) → Tells d (i + 1) m (braced d cs (i + 1) m) = λ d m. tells cs d (i + 1) m (drop-next s i c cs q) (omega arith) in
-      on-test (Tells d i n) (eqb c 123) _ _
-      (λ t. let k = e ∙ eqb-true c 123 t in tells-on i 1 0 d (d + 1) n n (opening i d y k) (λ z. absurd (omega arith)) (uncounted i d y n (rw k)) (braced (d + 1) cs (i + 1) n) (on (d + 1) n))
-      (λ f. on-test (Tells d i n) (eqb c 125) _ _
+      let on : (d m : ℕ) → Tells d (i + 1) (braced d cs (i + 1) m) = λ d m. tells cs d (i + 1) m (drop-next s i c cs q) (omega arith) in
+      on-test (Tells d i) (eqb c 123) _ _
+      (λ t. let k = e ∙ eqb-true c 123 t in tells-on i 1 0 d (d + 1) (opening i d y k) (λ z. absurd (omega arith)) (braced (d + 1) cs (i + 1) n) (on (d + 1) n))
+      (λ f. on-test (Tells d i) (eqb c 125) _ _
       (λ t. let k = e ∙ eqb-true c 125 t in
-      on-test (Tells d i n) (eqb d 0) _ _
-      (λ z. last i d y n k (eqb-true d 0 z))
-      (λ z. tells-on i 0 1 d (d - 1) n n (shutting i d y k (eqb-false d 0 z)) (λ w. eqb-false d 0 z) (uncounted i d y n (rw k)) (braced (d - 1) cs (i + 1) n) (on (d - 1) n)))
+      on-test (Tells d i) (eqb d 0) _ _
+      (λ z. last i d y k (eqb-true d 0 z))
+      (λ z. tells-on i 0 1 d (d - 1) (shutting i d y k (eqb-false d 0 z)) (λ w. eqb-false d 0 z) (braced (d - 1) cs (i + 1) n) (on (d - 1) n)))
       (λ g.
-      on-test (Tells d i n) (isEol c) _ _
-      (λ t. tells-on i 0 0 d d n (n + 1) (plain i d y (rw e f) (rw e g)) (λ z. absurd (eqb-false c 125 g (sym e ∙ z))) (counted i d y n (rw e t)) (braced d cs (i + 1) (n + 1)) (on d (n + 1)))
-      (λ t. tells-on i 0 0 d d n n (plain i d y (rw e f) (rw e g)) (λ z. absurd (eqb-false c 125 g (sym e ∙ z))) (uncounted i d y n (rw e t)) (braced d cs (i + 1) n) (on d n))))
+      let pass : (m : ℕ) → Tells d i (braced d cs (i + 1) m) = λ m. tells-on i 0 0 d d (plain i d y (rw e f) (rw e g)) (λ z. absurd (eqb-false c 125 g (sym e ∙ z))) (braced d cs (i + 1) m) (on d m) in
+      on-test (Tells d i) (isEol c) _ _ (λ t. pass (n + linesHere c cs)) (λ t. pass n)))
 
 -- between an opening brace and a closing one, no other brace being open
 module _ (s : List ℕ) (at to : ℕ) where
@@ -206,49 +196,48 @@ pub action-one : (s : List ℕ) (at to to′ : ℕ) → IsAction s at to → IsA
 action-one s at to to′ x y = closing-one s 0 (at + 1) to to′ (action-closing s at to x) (action-closing s at to′ y)
 
 module _ (s : List ℕ) (at : ℕ) (h : at < length s) where
-  answers : Tells s 0 (at + 1) 0 (bracedAt s (at + 1))
+  answers : Tells s 0 (at + 1) (bracedAt s (at + 1))
   unfolding bracedFrom
   answers = tells s (drop (at + 1) s) 0 (at + 1) 0 refl (omega arith)
 
-  -- What is read ends behind a closing brace that balances, with the line ends inside counted, the text trimmed, and the crate's span.
-  pub action-is : (end n : ℕ) (p q : Place) → actionAt s at ≡ Body end n p q → IsAction s at (end - 1) × (n ≡ tallyAt isEol s (at + 1) (end - 1)) × (p ≡ trimmed s (at + 1) (end - 1)) × (q ≡ spanOf (at + 1) p)
+  -- What is read ends behind a closing brace that balances, with the lines that end inside counted, the text trimmed, and the crate's span.
+  pub action-is : (end n : ℕ) (p q : Place) → actionAt s at ≡ Body end n p q → IsAction s at (end - 1) × (linesTo s (at + 1) + n ≡ linesTo s (end - 1)) × (p ≡ trimmed s (at + 1) (end - 1)) × (q ≡ spanOf (at + 1) p)
   unfolding actionAt acted
-  action-is end n p q = go (bracedAt s (at + 1)) answers
+  action-is end n p q = go (bracedAt s (at + 1)) refl answers
     where
-      go : (b : Brace) → Tells s 0 (at + 1) 0 b → acted s at b ≡ Body end n p q → IsAction s at (end - 1) × (n ≡ tallyAt isEol s (at + 1) (end - 1)) × (p ≡ trimmed s (at + 1) (end - 1)) × (q ≡ spanOf (at + 1) p)
-      go (Closes to m) x e =
+      go : (b : Brace) → bracedAt s (at + 1) ≡ b → Tells s 0 (at + 1) b → acted s at b ≡ Body end n p q → IsAction s at (end - 1) × (linesTo s (at + 1) + n ≡ linesTo s (end - 1)) × (p ≡ trimmed s (at + 1) (end - 1)) × (q ≡ spanOf (at + 1) p)
+      go (Closes to m) r x e =
           let u : to + 1 ≡ end = cc in
           let w : to ≡ end - 1 = omega arith in
           let l : m ≡ n = cc in
           let v : trimmed s (at + 1) to ≡ p = cc in
           let y : spanOf (at + 1) (trimmed s (at + 1) to) ≡ q = cc in
-          let k = x .1 in
-          let z : n ≡ tallyAt isEol s (at + 1) to = omega arith in
-          (rw w at (is-action s at to (x .0)), rw w at z, rw w at (sym v), sym (rw v at y))
-      go NeverCloses x e = let z : _≡_ {A = ℕ} 0 1 = cc in absurd (omega arith)
+          let z = braced-tells s (at + 1) to m r in
+          (rw w at (is-action s at to x), rw (l, w) at z, rw w at (sym v), sym (rw v at y))
+      go NeverCloses r x e = let z : _≡_ {A = ℕ} 0 1 = cc in absurd (omega arith)
 
   -- An action is read exactly where one stands,
-  pub action-iff : (to : ℕ) → (actionAt s at ≡ Body (to + 1) (tallyAt isEol s (at + 1) to) (trimmed s (at + 1) to) (spanOf (at + 1) (trimmed s (at + 1) to))) ↔ IsAction s at to
+  pub action-iff : (to : ℕ) → (actionAt s at ≡ Body (to + 1) (linesTo s to - linesTo s (at + 1)) (trimmed s (at + 1) to) (spanOf (at + 1) (trimmed s (at + 1) to))) ↔ IsAction s at to
   unfolding actionAt acted
-  action-iff to = (λ e. let z : to + 1 - 1 ≡ to = omega arith in rw z at (action-is _ _ _ _ e .0), go (bracedAt s (at + 1)) answers)
+  action-iff to = (λ e. let z : to + 1 - 1 ≡ to = omega arith in rw z at (action-is _ _ _ _ e .0), go (bracedAt s (at + 1)) refl answers)
     where
-      go : (b : Brace) → Tells s 0 (at + 1) 0 b → IsAction s at to → acted s at b ≡ Body (to + 1) (tallyAt isEol s (at + 1) to) (trimmed s (at + 1) to) (spanOf (at + 1) (trimmed s (at + 1) to))
-      go (Closes j m) x y =
-          let z = closing-one s 0 (at + 1) j to (x .0) (action-closing s at to y) in
-          let k = x .1 in
-          let n : m ≡ tallyAt isEol s (at + 1) j = omega arith in
+      go : (b : Brace) → bracedAt s (at + 1) ≡ b → Tells s 0 (at + 1) b → IsAction s at to → acted s at b ≡ Body (to + 1) (linesTo s to - linesTo s (at + 1)) (trimmed s (at + 1) to) (spanOf (at + 1) (trimmed s (at + 1) to))
+      go (Closes j m) r x y =
+          let z = closing-one s 0 (at + 1) j to x (action-closing s at to y) in
+          let k = braced-tells s (at + 1) j m r in
+          let n : m ≡ linesTo s j - linesTo s (at + 1) = omega arith in
           rw (n, z)
-      go NeverCloses x y = absurd (x to (action-closing s at to y))
+      go NeverCloses r x y = absurd (x to (action-closing s at to y))
 
   -- and 6 is given exactly where no closing brace balances.
   pub open-iff : (actionAt s at ≡ OpenAction at) ↔ ((to : ℕ) → IsAction s at to → ⊥)
   unfolding actionAt acted
   open-iff = (λ e. there (bracedAt s (at + 1)) answers e, back (bracedAt s (at + 1)) answers)
     where
-      there : (b : Brace) → Tells s 0 (at + 1) 0 b → acted s at b ≡ OpenAction at → (to : ℕ) → IsAction s at to → ⊥
+      there : (b : Brace) → Tells s 0 (at + 1) b → acted s at b ≡ OpenAction at → (to : ℕ) → IsAction s at to → ⊥
       there (Closes j m) x e to y = let z : _≡_ {A = ℕ} 0 1 = cc in omega arith
       there NeverCloses x e to y = x to (action-closing s at to y)
 
-      back : (b : Brace) → Tells s 0 (at + 1) 0 b → ((to : ℕ) → IsAction s at to → ⊥) → acted s at b ≡ OpenAction at
-      back (Closes j m) x f = absurd (f j (is-action s at j (x .0)))
+      back : (b : Brace) → Tells s 0 (at + 1) b → ((to : ℕ) → IsAction s at to → ⊥) → acted s at b ≡ OpenAction at
+      back (Closes j m) x f = absurd (f j (is-action s at j x))
       back NeverCloses x f = refl

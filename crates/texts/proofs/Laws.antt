@@ -11,7 +11,9 @@ use borrow.Author.Tests.{eq-eqb, ne-eqb, eqb-true, not-true, not-false}
 use types.Run.{OneOf}
 use Rattle.scan.specs.declared.Place.{Place}
 use Rattle.scan.specs.Scan.{isEol, isAt}
+use Rattle.scan.specs.Lines.{linesHere, linesAt}
 use Rattle.scan.proofs.Bytes.{drop-at, drop-key, ends, eol-yes, eol-no, at-below, at-here, at-next, le-or-lt, on-test, drop-below, drop-next, drop-byte, drop-ended}
+use Rattle.scan.proofs.Lines.{here-few}
 use Rattle.trim.specs.Trim.{trimmed}
 use Rattle.trim.proofs.Inside.{trim-inside}
 use Rattle.texts.specs.Colon.{Mode, plain, colon, single, singleFrom, singleAt, colonText, colonTextAt, Singled, ColonTexts}
@@ -35,9 +37,10 @@ module _ (s : List ℕ) (j n : ℕ) (r : Colon) (inv : singleFrom plain s j n �
   c-end h = rw (drop-of-length-le s h) at inv
 
   module _ (h : j < length s) where
-    pub c-eol : OneOf ends (getD s j 0) → singleFrom plain s (j + 1) (n + 1) ≡ r
-    unfolding single singleFrom
-    c-eol o = rw (drop-at s j h, end-no _ 58 o (omega arith), eol-yes _ o, single) at inv
+    -- the callee's number m is what the definition adds
+    pub c-eol : (m : ℕ) → OneOf ends (getD s j 0) → m ≡ linesAt s j → singleFrom plain s (j + 1) (n + m) ≡ r
+    unfolding single singleFrom linesAt
+    c-eol m o q = rw q (rw (drop-at s j h, end-no _ 58 o (omega arith), eol-yes _ o, single) at inv)
 
     pub c-on : (OneOf ends (getD s j 0) → ⊥) → (getD s j 0 ≡ 58 → ⊥) → singleFrom plain s (j + 1) n ≡ r
     unfolding single singleFrom
@@ -84,9 +87,9 @@ module _ (d : ℕ) (s : List ℕ) (j n : ℕ) (r : Brace) (inv : bracedFrom d s 
     unfolding braced bracedFrom
     b-close e f = rw (drop-key s j 125 h e, ne-eqb _ _ f, braced) at inv
 
-    pub b-eol : OneOf ends (getD s j 0) → bracedFrom d s (j + 1) (n + 1) ≡ r
-    unfolding braced bracedFrom
-    b-eol o = rw (drop-at s j h, end-no _ 123 o (omega arith), end-no _ 125 o (omega arith), eol-yes _ o, braced) at inv
+    pub b-eol : (m : ℕ) → OneOf ends (getD s j 0) → m ≡ linesAt s j → bracedFrom d s (j + 1) (n + m) ≡ r
+    unfolding braced bracedFrom linesAt
+    b-eol m o q = rw q (rw (drop-at s j h, end-no _ 123 o (omega arith), end-no _ 125 o (omega arith), eol-yes _ o, braced) at inv)
 
     pub b-on : (OneOf ends (getD s j 0) → ⊥) → (getD s j 0 ≡ 123 → ⊥) → (getD s j 0 ≡ 125 → ⊥) → bracedFrom d s (j + 1) n ≡ r
     unfolding braced bracedFrom
@@ -107,7 +110,7 @@ module _ (s : List ℕ) (from : ℕ) where
       let on : (mode : Mode) (m : ℕ) → Ready mode (i + 1) m → Singled s from (single mode cs (i + 1) m) = λ mode m. c-place cs mode (i + 1) m (drop-next s i c cs q) (omega arith) in
       on-test (Singled s from) (eqb c 58) _ _
       (λ e. on (colon i) n (x, omega arith, drop-byte s i c cs q ∙ eqb-true c 58 e))
-      (λ f. on-test (Singled s from) (isEol c) _ _ (λ e. on plain (n + 1) (omega arith)) (λ e. on plain n (omega arith)))
+      (λ f. on-test (Singled s from) (isEol c) _ _ (λ e. on plain (n + linesHere c cs) (omega (arith, here-few c cs))) (λ e. on plain n (omega arith)))
   c-place (c ∷ cs) (colon b) i n q h x =
       let y = drop-below s i c cs q in
       let k = x .0 in
@@ -125,7 +128,7 @@ module _ (s : List ℕ) (from : ℕ) where
       on-test (Braced s from) (eqb c 123) _ _ (λ e. on (d + 1) n (omega arith))
       (λ f. on-test (Braced s from) (eqb c 125) _ _
       (λ e. on-test (Braced s from) (eqb d 0) _ _ (λ z. (x, y, drop-byte s i c cs q ∙ eqb-true c 125 e)) (λ z. on (d - 1) n (omega arith)))
-      (λ g. on-test (Braced s from) (isEol c) _ _ (λ e. on d (n + 1) (omega arith)) (λ e. on d n (omega arith))))
+      (λ g. on-test (Braced s from) (isEol c) _ _ (λ e. on d (n + linesHere c cs) (omega (arith, here-few c cs))) (λ e. on d n (omega arith))))
 
   module _ (h : from ≤ length s) where
     pub singles : Singled s from (singleAt s from)

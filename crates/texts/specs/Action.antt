@@ -1,4 +1,4 @@
--- Document 01, "Words": "Actions balance braces and look at nothing else."
+-- Document 01, "Words": "Actions balance braces and look at nothing else."; lines are counted by document 02, request Ten.
 use Prim.Native.Nat.{ℕ, _+_, _-_, _≤_, _<_}
 use mathlib.Core.Path.{_≡_}
 use mathlib.Core.List.{List, [], _∷_}
@@ -7,13 +7,15 @@ use lib.Dec.{eqb}
 use lib.ListN.{length, getD, drop}
 use Rattle.scan.specs.declared.Place.{Place}
 use Rattle.scan.specs.Scan.{isEol}
+use Rattle.scan.specs.Lines.{linesHere}
 use Rattle.trim.specs.Trim.{trimmed}
 use Rattle.texts.specs.declared.Brace.{Brace}
 use Rattle.texts.specs.declared.Brace.the-variants.{Closes, NeverCloses}
 use Rattle.texts.specs.declared.Action.{Action}
 use Rattle.texts.specs.declared.Action.the-variants.{Body, OpenAction}
 
--- Where the brace stands that closes the first one, d more being open; the bytes that are left stand from index i on, and n line ends were counted before them.
+-- Where the brace stands that closes the first one, d more being open; the bytes that are left stand from index i on, and n lines were counted before them:
+-- "CR LF as one, lone CR as one, lone LF as one; the pair counts at its LF".
 unfoldable pub braced : ℕ → List ℕ → ℕ → ℕ → Brace
 braced d [] i n = NeverCloses
 braced d (c ∷ cs) i n =
@@ -22,7 +24,7 @@ braced d (c ∷ cs) i n =
       | false ↦
           elim (eqb c 125) [
             | true ↦ elim (eqb d 0) [ true ↦ Closes i n | false ↦ braced (d - 1) cs (i + 1) n ]
-            | false ↦ elim (isEol c) [ true ↦ braced d cs (i + 1) (n + 1) | false ↦ braced d cs (i + 1) n ]
+            | false ↦ elim (isEol c) [ true ↦ braced d cs (i + 1) (n + linesHere c cs) | false ↦ braced d cs (i + 1) n ]
           ]
     ]
 
@@ -56,7 +58,7 @@ Acted s at (Body end n p q) =
     (at + 1 + n < end) × (end ≤ length s) × (at + 1 ≤ p .from) × (p .from ≤ p .to) × (p .to ≤ length s) × (q .from ≡ at + 1) × (q .from ≤ q .to) × (q .to ≤ p .to)
 Acted s at (OpenAction i) = i ≡ at
 
--- document 01's number and values: 0, the end, the line ends, the trimmed place and the crate's span; 6 IncompleteAction at its first byte
+-- document 01's number and values: 0, the end, the lines, the trimmed place and the crate's span; 6 IncompleteAction at its first byte
 unfoldable pub actionNumbers : Action → List ℕ
 actionNumbers (Body end n p q) = 0 ∷ end ∷ n ∷ p .from ∷ p .to ∷ q .from ∷ q .to ∷ []
 actionNumbers (OpenAction i) = 6 ∷ i ∷ []

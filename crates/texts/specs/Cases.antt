@@ -3,7 +3,8 @@ use Prim.Native.Nat.{ℕ}
 use mathlib.Core.Path.{_≡_, refl}
 use mathlib.Core.Bool.{true}
 use mathlib.Core.List.{List, [], _∷_}
-use Rattle.scan.specs.Scan.{isEol, inClass, runEnd, runEndAt}
+use Rattle.scan.specs.Scan.{isEol, begins, inClass, runEnd, runEndAt}
+use Rattle.scan.specs.Lines.{linesHere}
 use Rattle.scan.specs.Loop.{turns}
 use Rattle.scan.specs.Table.{Case, same, all}
 use Rattle.utf8.specs.White.{isWhite}
@@ -59,8 +60,12 @@ colons =
     ∷ row (97 ∷ 58 ∷ 58 ∷ []) 0 (16 ∷ 3 ∷ [])
     -- `a:::` at 0
     ∷ row (97 ∷ 58 ∷ 58 ∷ 58 ∷ []) 0 (0 ∷ 3 ∷ 0 ∷ 0 ∷ 3 ∷ [])
-    -- `a\r\n b :` at 0
-    ∷ row (97 ∷ 13 ∷ 10 ∷ 32 ∷ 98 ∷ 32 ∷ 58 ∷ []) 0 (0 ∷ 6 ∷ 2 ∷ 0 ∷ 5 ∷ [])
+    -- `a\r\n b :` at 0: one line; with a lone CR too; with LF CR two
+    ∷ row (97 ∷ 13 ∷ 10 ∷ 32 ∷ 98 ∷ 32 ∷ 58 ∷ []) 0 (0 ∷ 6 ∷ 1 ∷ 0 ∷ 5 ∷ [])
+    ∷ row (97 ∷ 13 ∷ 32 ∷ 98 ∷ 32 ∷ 58 ∷ []) 0 (0 ∷ 5 ∷ 1 ∷ 0 ∷ 4 ∷ [])
+    ∷ row (97 ∷ 10 ∷ 13 ∷ 32 ∷ 98 ∷ 32 ∷ 58 ∷ []) 0 (0 ∷ 6 ∷ 2 ∷ 0 ∷ 5 ∷ [])
+    -- `a\r\r\n\n:` at 0: three lines, of which the trimmed place has none
+    ∷ row (97 ∷ 13 ∷ 13 ∷ 10 ∷ 10 ∷ 58 ∷ []) 0 (0 ∷ 5 ∷ 3 ∷ 0 ∷ 1 ∷ [])
     -- `  :` at 0
     ∷ row (32 ∷ 32 ∷ 58 ∷ []) 0 (0 ∷ 2 ∷ 0 ∷ 0 ∷ 0 ∷ [])
     -- `U+00A0 é U+2003:` at 0
@@ -72,7 +77,7 @@ colons =
     ∷ []
 
 pub colons-hold : all (λ x. colonNumbers (colonTextAt (x .src) (x .at))) colons ≡ true
-unfolding all same row colons colonNumbers colonTextAt colonText singleFrom single isEol turns trimmed trimTurn moved kept passed passedAt isWhite decodeAt decode begun follow leadOf
+unfolding all same row colons colonNumbers colonTextAt colonText singleFrom single isEol linesHere begins turns trimmed trimTurn moved kept passed passedAt isWhite decodeAt decode begun follow leadOf
 colons-hold = refl
 
 unfoldable pub actions : List (Case Input)
@@ -89,8 +94,12 @@ actions =
     ∷ row (123 ∷ 32 ∷ 97 ∷ 123 ∷ 98 ∷ 125 ∷ 99 ∷ 32 ∷ 125 ∷ []) 0 (0 ∷ 9 ∷ 0 ∷ 2 ∷ 7 ∷ 1 ∷ 6 ∷ [])
     -- `{{}` at 0
     ∷ row (123 ∷ 123 ∷ 125 ∷ []) 0 (6 ∷ 0 ∷ [])
-    -- `{\r\n x\n}` at 0
-    ∷ row (123 ∷ 13 ∷ 10 ∷ 32 ∷ 120 ∷ 10 ∷ 125 ∷ []) 0 (0 ∷ 7 ∷ 3 ∷ 4 ∷ 5 ∷ 1 ∷ 2 ∷ [])
+    -- `{\r\n x\n}` at 0: two lines; with a lone CR too; with LF CR three
+    ∷ row (123 ∷ 13 ∷ 10 ∷ 32 ∷ 120 ∷ 10 ∷ 125 ∷ []) 0 (0 ∷ 7 ∷ 2 ∷ 4 ∷ 5 ∷ 1 ∷ 2 ∷ [])
+    ∷ row (123 ∷ 13 ∷ 32 ∷ 120 ∷ 10 ∷ 125 ∷ []) 0 (0 ∷ 6 ∷ 2 ∷ 3 ∷ 4 ∷ 1 ∷ 2 ∷ [])
+    ∷ row (123 ∷ 10 ∷ 13 ∷ 32 ∷ 120 ∷ 10 ∷ 125 ∷ []) 0 (0 ∷ 7 ∷ 3 ∷ 4 ∷ 5 ∷ 1 ∷ 2 ∷ [])
+    -- `{x\r}` at 0: a CR before the brace is a lone one
+    ∷ row (123 ∷ 120 ∷ 13 ∷ 125 ∷ []) 0 (0 ∷ 4 ∷ 1 ∷ 1 ∷ 2 ∷ 1 ∷ 2 ∷ [])
     -- `{U+00A0 é U+2003}x` at 0
     ∷ row (123 ∷ 194 ∷ 160 ∷ 195 ∷ 169 ∷ 226 ∷ 128 ∷ 131 ∷ 125 ∷ 120 ∷ []) 0 (0 ∷ 9 ∷ 0 ∷ 3 ∷ 5 ∷ 1 ∷ 3 ∷ [])
     -- `x{'}'}` at 1
@@ -109,5 +118,5 @@ actions =
     ∷ []
 
 pub actions-hold : all (λ x. actionNumbers (actionAt (x .src) (x .at))) actions ≡ true
-unfolding all same row actions actionNumbers actionAt acted bracedFrom braced isEol turns trimmed trimTurn moved kept passed passedAt isWhite decodeAt decode begun follow leadOf
+unfolding all same row actions actionNumbers actionAt acted bracedFrom braced isEol linesHere begins turns trimmed trimTurn moved kept passed passedAt isWhite decodeAt decode begun follow leadOf
 actions-hold = refl

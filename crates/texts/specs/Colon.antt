@@ -1,4 +1,4 @@
--- Document 01, "Words": "A text to a single colon skips each `::`."
+-- Document 01, "Words": "A text to a single colon skips each `::`."; lines are counted by document 02, request Ten.
 use Prim.Native.Nat.{ℕ, _+_, _≤_, _<_}
 use mathlib.Core.Path.{_≡_}
 use mathlib.Core.List.{List, [], _∷_}
@@ -7,6 +7,7 @@ use lib.Dec.{eqb}
 use lib.ListN.{length, getD, drop}
 use Rattle.scan.specs.declared.Place.{Place}
 use Rattle.scan.specs.Scan.{isEol}
+use Rattle.scan.specs.Lines.{linesHere}
 use Rattle.trim.specs.Trim.{trimmed}
 use Rattle.texts.specs.declared.Colon.{Colon}
 use Rattle.texts.specs.declared.Colon.the-variants.{Single, NoSingle}
@@ -18,14 +19,15 @@ pub data Mode : Type 0 where
   plain : Mode
   colon : ℕ → Mode
 
--- Where the single colon stands; the bytes that are left stand from index i on, and n line ends were counted before them.
+-- Where the single colon stands; the bytes that are left stand from index i on, and n lines were counted before them:
+-- "CR LF as one, lone CR as one, lone LF as one; the pair counts at its LF".
 unfoldable pub single : Mode → List ℕ → ℕ → ℕ → Colon
 single plain [] i n = NoSingle i
 single (colon b) [] i n = Single b n
 single plain (c ∷ cs) i n =
     elim (eqb c 58) [
       | true ↦ single (colon i) cs (i + 1) n
-      | false ↦ elim (isEol c) [ true ↦ single plain cs (i + 1) (n + 1) | false ↦ single plain cs (i + 1) n ]
+      | false ↦ elim (isEol c) [ true ↦ single plain cs (i + 1) (n + linesHere c cs) | false ↦ single plain cs (i + 1) n ]
     ]
 single (colon b) (c ∷ cs) i n = elim (eqb c 58) [ true ↦ single plain cs (i + 1) n | false ↦ Single b n ]
 
@@ -53,7 +55,7 @@ abbrev pub ColonTexts : List ℕ → ℕ → ColonText → Type 0
 ColonTexts s from (Upto to n p) = (from + n ≤ to) × (to < length s) × (getD s to 0 ≡ 58) × (from ≤ p .from) × (p .from ≤ p .to) × (p .to ≤ length s)
 ColonTexts s from (NoColon end) = end ≡ length s
 
--- document 01's number and values: 0, the colon, the line ends and the trimmed place; by document 02, request Four, 16 at the source end "where no single colon follows"
+-- document 01's number and values: 0, the colon, the lines and the trimmed place; by document 02, request Four, 16 at the source end "where no single colon follows"
 unfoldable pub colonNumbers : ColonText → List ℕ
 colonNumbers (Upto to n p) = 0 ∷ to ∷ n ∷ p .from ∷ p .to ∷ []
 colonNumbers (NoColon end) = 16 ∷ end ∷ []

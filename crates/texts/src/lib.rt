@@ -9,27 +9,27 @@ ghost use Rattle.texts.specs.Action.{bracedAt, actionAt, Braced, Acted};
 ghost use Rattle.texts.specs.Line.{lineEndAt, Lined};
 
 pub enum Colon {
-    // Where the single colon stands, and the line ends before it.
+    // Where the single colon stands, and the lines that end before it.
     Single(usize, usize),
     // No single colon: the source's end.
     NoSingle(usize),
 }
 
 pub enum ColonText {
-    // Where the single colon stands, the line ends before it, and the trimmed place.
+    // Where the single colon stands, the lines that end before it, and the trimmed place.
     Upto(usize, usize, Place),
     // No single colon: the source's end.
     NoColon(usize),
 }
 
 pub enum Brace {
-    // Where the closing brace stands, and the line ends before it.
+    // Where the closing brace stands, and the lines that end before it.
     Closes(usize, usize),
     NeverCloses,
 }
 
 pub enum Action {
-    // The end behind the closing brace, the line ends inside, the trimmed place, and the crate's span.
+    // The end behind the closing brace, the lines that end inside, the trimmed place, and the crate's span.
     Body(usize, usize, Place, Place),
     // Braces that don't balance: where the first opens.
     OpenAction(usize),
@@ -61,7 +61,7 @@ pub fn single_colon(s: &[u8], from: usize) -> Colon
                 j = k + 1;
             }
             10 | 13 => {
-                n += 1;
+                n += scan::lines_at(s, j);
                 j += 1;
             }
             _ => {
@@ -107,7 +107,7 @@ pub fn closing_brace(s: &[u8], from: usize) -> Brace
                 j += 1;
             }
             10 | 13 => {
-                n += 1;
+                n += scan::lines_at(s, j);
                 j += 1;
             }
             _ => {

@@ -38,9 +38,9 @@ unless-one : (b : Bool) (f : Flaw) → length (unless b f) ≤ 1
 unless-one true f = omega arith
 unless-one false f = omega arith
 
-start-one : (src t7 : List ℕ) (p : Part) (n : ℕ) → length (startFaults src p t7 n) ≤ 1
-start-one src t7 Absent n = omega arith
-start-one src t7 (At a b) n = unless-one (known src t7 (width rules) n a b) (InvalidStartRule a b)
+start-most : (src t7 : List ℕ) (p : Part) (n : ℕ) → length (startFaults src p t7 n) ≤ 1
+start-most src t7 Absent n = omega arith
+start-most src t7 (At a b) n = unless-one (known src t7 (width rules) n a b) (InvalidStartRule a b)
 
 prec-one : (src t1 t2 : List ℕ) (p : Prec) (n m : ℕ) → length (precFaults src p t1 n t2 m) ≤ 1
 prec-one src t1 t2 NoPrec n m = omega arith
@@ -208,7 +208,7 @@ module _ (src : List ℕ) (c : Counts) (g : Singles) (T : Tables) (X : Indexes) 
         length-append (startFaults src (g .start) (T .t7) (countAt c rules)) (rs ++ (es ++ us)),
         length-append rs (es ++ us),
         length-append es us,
-        start-one src (T .t7) (g .start) (countAt c rules),
+        start-most src (T .t7) (g .start) (countAt c rules),
         rules-most src (T .t1) (T .t2) (T .t7) (T .t8) (T .t9) (countAt c tokens) (countAt c precedences) (countAt c rules) (countAt c productions) (countAt c symbols) x,
         upto-most (eppFaults src (T .t1) (countAt c tokens) (T .t4) (countAt c implicit) (T .t5)) (epp-one src (T .t1) (T .t4) (T .t5) (countAt c tokens) (countAt c implicit)) (countAt c epps),
         upto-most (λ i. kindFaults src (width unused) (T .t6) (T .t1) (countAt c tokens) (T .t7) (countAt c rules) (0 + i)) (λ i. kind-one src (width unused) (T .t6) (T .t1) (T .t7) (countAt c tokens) (countAt c rules) (0 + i)) (countAt c unused - 0),

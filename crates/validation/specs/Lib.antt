@@ -1,3 +1,4 @@
 pub mod Faults
 pub mod Walk
 pub mod Cases
+pub mod Places

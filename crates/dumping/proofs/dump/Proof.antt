@@ -6,7 +6,7 @@ use Rattle.dumping.proofs.dump.Tie as tie
 -- where the tables were loaded
 abbrev after-load : tie.After-slice-known32 → tie.After-load
 after-load c =
-    c .before .before .before .before .before .before .before .before .before .before .before .before .before .before .before .before .before .before .before .before .before .before .before .before .before .before .before .before .before .before .before .before .before .before .before .before .before .before .before .before .before .before .before .before .before .before .before .before .before .before .before
+    c .before .before .before .before .before .before .before .before .before .before .before .before .before .before .before .before .before .before .before .before .before .before .before .before .before .before .before .before .before .before .before .before .before .before .before .before .before .before .before .before .before .before .before .before .before .before .before .before .before .before .before .before
 
 same-length-2 : tie.Need-same-length-2
 same-length-2 c = after-load c .load .kept .1 .1 .0

@@ -10,10 +10,10 @@ use Rattle.dumping.proofs.put_all_faults.Lts as lts
 use Rattle.dumping.proofs.put_fault.Reads as put-fault-reads
 
 abbrev Inv-loop : tie.InvT-loop
-Inv-loop o₀ at t14 n p₀ row₀ o p row = length o ≡ length o₀
+Inv-loop o₀ at src t14 n p₀ row₀ o p row = length o ≡ length o₀
 
 abbrev μ-loop : tie.MeasureT-loop
-μ-loop o₀ at t14 n p₀ row₀ o p row = 4294967295 - row
+μ-loop o₀ at src t14 n p₀ row₀ o p row = 4294967295 - row
 
 loop-holds : tie.Need-loop-holds Inv-loop μ-loop
 loop-holds c = search needs

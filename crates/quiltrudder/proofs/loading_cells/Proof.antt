@@ -29,4 +29,7 @@ loading-cells-spec =
     (λ c. search needs)
     (λ c. search needs)
     (λ c κs. search needs)
-    (λ c. let a = c .before .before .before .before .before .before .before .before .before .before .before .before .before .before .before .before .before .before .before .before .before .before .before .before .args in loading-put (a .j) (a .t2) (a .g) (c .before .before .before .before .before .before .before .before .before .before .before .before .before .before .before .before .before .before .before .before .before .before .before .of-judgement .result) _ _ _ _ (c .before .before .before .before .before .before .before .before .before .before .before .before .before .before .before .before .before .before .before .before .before .before .before .of-judgement .ensures) (c .before .before .before .before .before .before .before .before .before .before .before .before .single-cells .ensures) (c .before .before .before .before .before .before .before .before .before .put-cells .ensures) (c .before .before .before .before .before .put-cells2 .ensures) (c .before .put-cells3 .ensures)))
+    (λ c. search needs)
+    (λ c. search needs)
+    (λ c κs. search needs)
+    (λ c. let a = c .before .before .before .before .before .before .before .before .before .before .before .before .before .before .before .before .before .before .before .before .before .before .before .before .before .before .before .before .args in loading-put (a .j) (a .t2) (a .g) (a .s) (c .before .before .before .before .before .before .before .before .before .before .before .before .before .before .before .before .before .before .before .before .before .before .before .before .before .before .before .of-judgement .result) _ _ _ _ _ (c .before .before .before .before .before .before .before .before .before .before .before .before .before .before .before .before .before .before .before .before .before .before .before .before .before .before .before .of-judgement .ensures) (c .before .before .before .before .before .before .before .before .before .before .before .before .before .before .before .before .single-cells .ensures) (c .before .before .before .before .before .before .before .before .before .before .before .before .before .put-cells .ensures) (c .before .before .before .before .before .before .before .before .before .put-cells2 .ensures) (c .before .before .before .before .before .put-cells3 .ensures) (c .before .put-cells4 .ensures)))

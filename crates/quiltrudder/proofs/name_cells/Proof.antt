@@ -14,5 +14,6 @@ name-cells-spec =
     (λ c. place-none _ _ _ _ _ _ _ _ (c .before .sound .ensures) (not-true _ (c .if1 .taken)))
     (λ c κs. search needs)
     (λ c. let h = place-fits _ _ _ _ _ _ _ _ (c .before .before .before .sound .ensures) (not-false _ (c .before .before .if1 .left)) _ (c .before .name-place .ensures) in omega arith)
-    (λ c. let h = place-fits _ _ _ _ _ _ _ _ (c .before .before .before .before .sound .ensures) (not-false _ (c .before .before .before .if1 .left)) _ (c .before .before .name-place .ensures) in omega arith)
-    (λ c. place-is _ _ _ _ _ _ _ _ (c .before .before .before .before .sound .ensures) (not-false _ (c .before .before .before .if1 .left)) _ (c .before .before .name-place .ensures)))
+    (λ c κs. search needs)
+    (λ c. let h = place-fits _ _ _ _ _ _ _ _ (c .before .before .before .before .before .sound .ensures) (not-false _ (c .before .before .before .before .if1 .left)) _ (c .before .before .before .name-place .ensures) in omega arith)
+    (λ c. place-is _ _ _ _ _ _ _ _ (c .before .before .before .before .before .sound .ensures) (not-false _ (c .before .before .before .before .if1 .left)) _ (c .before .before .before .name-place .ensures) _ (c .before .locate .ensures)))

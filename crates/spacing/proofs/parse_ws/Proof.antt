@@ -42,6 +42,9 @@ gap-again c = search (a-blank, needs)
 returns : tie.Need-returns Inv-comment μ-comment Inv-gap μ-gap
 returns c = placed _ _ _ _ (search needs) (search (a-refused, needs))
 
+lines-at-requires : tie.Need-lines-at-requires Inv-comment μ-comment Inv-gap μ-gap
+lines-at-requires c κs = search needs
+
 add-n : tie.Need-add-n Inv-comment μ-comment Inv-gap μ-gap
 add-n c = search needs
 
@@ -68,6 +71,9 @@ gap-less-3 c = search needs
 
 gap-again-3 : tie.Need-gap-again-3 Inv-comment μ-comment Inv-gap μ-gap
 gap-again-3 c = search (a-line-last, needs)
+
+lines-at-requires-2 : tie.Need-lines-at-requires-2 Inv-comment μ-comment Inv-gap μ-gap
+lines-at-requires-2 c κs = search needs
 
 add-n-2 : tie.Need-add-n-2 Inv-comment μ-comment Inv-gap μ-gap
 add-n-2 c = search needs
@@ -99,6 +105,9 @@ add-k-2 c = search needs
 returns-3 : tie.Need-returns-3 Inv-comment μ-comment Inv-gap μ-gap
 returns-3 c =
     placed _ _ _ _ (search needs) (c-refused _ _ _ _ _ _ (c .before .before .before .before .comment .inv .3) (c .before .before .before .if4 .left) (c .before .match3 .keys1) (c .if5 .taken))
+
+lines-at-requires-3 : tie.Need-lines-at-requires-3 Inv-comment μ-comment Inv-gap μ-gap
+lines-at-requires-3 c κs = search needs
 
 add-n-3 : tie.Need-add-n-3 Inv-comment μ-comment Inv-gap μ-gap
 add-n-3 c = search needs
@@ -138,7 +147,11 @@ gap-less-5 c = search needs
 
 gap-again-5 : tie.Need-gap-again-5 Inv-comment μ-comment Inv-gap μ-gap
 gap-again-5 c =
-    (at-next _ _ _ _ (c .before .is-at .ensures) (c .if6 .taken), search needs, c-eol-close _ _ _ _ _ _ (c .before .before .before .before .before .before .comment .inv .3) (c .before .before .before .before .before .if4 .left) _ (c .before .is-at .ensures) (c .before .before .before .match3 .keys1) (c .before .before .if5 .left) (c .if6 .taken))
+    let w = c .before .before .before .before .before .before in (
+      at-next _ _ _ _ (c .before .is-at .ensures) (c .if6 .taken),
+      search needs,
+      c-eol-close _ _ _ _ _ _ (w .before .comment .inv .3) (w .if4 .left) _ (c .before .is-at .ensures) _ (c .before .before .before .before .match3 .keys1) (c .before .before .before .if5 .left) (c .if6 .taken) (c .before .before .lines-at3 .ensures .0),
+    )
 
 gap-less-6 : tie.Need-gap-less-6 Inv-comment μ-comment Inv-gap μ-gap
 gap-less-6 c = search needs
@@ -173,6 +186,7 @@ parse-ws-spec =
     gap-less
     gap-again
     returns
+    lines-at-requires
     add-n
     add-i-2
     gap-less-2
@@ -182,6 +196,7 @@ parse-ws-spec =
     run-end-requires
     gap-less-3
     gap-again-3
+    lines-at-requires-2
     add-n-2
     add-i-3
     gap-less-4
@@ -192,6 +207,7 @@ parse-ws-spec =
     shared-slice-read-e
     add-k-2
     returns-3
+    lines-at-requires-3
     add-n-3
     is-at-requires
     add-k-3

@@ -31,6 +31,7 @@ closing-brace-spec =
     (λ c. search needs)
     (λ c. search needs)
     (λ c. search (b-close, needs))
+    (λ c κs. search needs)
     (λ c. search needs)
     (λ c. search needs)
     (λ c. search needs)

@@ -28,6 +28,7 @@ single-colon-spec =
     (λ c. search needs)
     (λ c. search needs)
     (λ c. search (twice-below, c-twice, needs))
+    (λ c κs. search needs)
     (λ c. search needs)
     (λ c. search needs)
     (λ c. search needs)
