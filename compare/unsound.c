@@ -100,7 +100,7 @@ static int is_sound(void) {
 static unsigned long changed, wrong, refused;
 
 static void ask(const char *what, int k, size_t i) {
-    uint32_t v[4];
+    uint32_t v[QUILTRUDDER_VALIDITY_CELLS];
     quiltrudder_validate(src, len, o, TABLES, v);
     int s = is_sound();
     changed++;
