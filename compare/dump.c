@@ -1,7 +1,11 @@
 /* dump BOX [ROWS,..]: the comparison text of every input of a box, made from the C names of the library alone. ROWS are the rows lent for tables 1 to 10, one number for all or ten;
    without them each table has a row for each byte. Tables and indexes are lent full of rubbish; a cell past a count that is not zero afterwards is told on standard error, and a slot
-   that is taken by more or fewer rows than there are. */
+   that is taken by more or fewer rows than there are. Each report is walked row by row too, by the bits of the marking; a step that is not the report's is told in the text, where the comparison
+   finds it. How many were walked is told on standard error. */
 #include "lent.h"
+
+/* How many readings were walked. */
+static long walked;
 
 static void text(const uint8_t *s, uint32_t from, uint32_t to) {
     putchar('x');
@@ -105,6 +109,40 @@ static void faults(void) {
     free(again);
 }
 
+/* The marking by itself gives the report's bits, and a walk by them the report's rows, and then the end three times with the record left. */
+static void walk(const uint32_t *work, uint32_t words, const uint32_t *out, uint32_t rows) {
+    uint32_t *bits = malloc(4 * (size_t)(words + 1)), a[QUILTRUDDER_MARKING_CELLS], b[QUILTRUDDER_NEXT_CELLS], at[QUILTRUDDER_STANDING_CELLS] = {0, 0}, left[2];
+    for (uint32_t i = 0; i < words; i++) bits[i] = 0xdeadbeef;
+    quiltrudder_mark(src, len, o, TABLES, bits, words, a);
+    if (a[0] || a[1] || a[2] || a[3] || a[4] != 1 || a[5] != 1 || memcmp(bits, work, 4 * (size_t)words)) printf("the marking answers %u, or its bits are not the report's\n", a[0]);
+    for (uint32_t i = 0; i < rows + 3; i++) {
+        memcpy(left, at, sizeof at);
+        quiltrudder_next_unused(src, len, o, TABLES, bits, words, at, b);
+        int over = i >= rows, wrong = b[0] || b[1] || b[2] || b[3] || b[6] != 1 || b[7] != 1;
+        wrong |= over ? b[4] || b[5] || memcmp(left, at, sizeof at) : b[4] != out[2 * i] || b[5] != out[2 * i + 1];
+        /* the number of the row's kind stands behind the row, and the other one stays */
+        if (!over) wrong |= at[b[4] - 1] != b[5] + 1 || at[2 - b[4]] != left[2 - b[4]];
+        if (wrong) printf("call %u of the walk answers %u: %u %u\n", i, b[0], b[4], b[5]);
+    }
+    walked++;
+    /* a word less, and a record past the counts */
+    if (words) {
+        quiltrudder_mark(src, len, o, TABLES, bits, words - 1, a);
+        int wrong = a[0] != 42 || a[1] || a[2] || a[3] != 11 || a[4] != 1 || a[5] != 1;
+        for (uint32_t i = 0; i < words - 1; i++) wrong |= bits[i] != 0;
+        memcpy(left, at, sizeof at);
+        quiltrudder_next_unused(src, len, o, TABLES, work, words - 1, at, b);
+        if (wrong || b[0] != 44 || b[4] || b[5] || memcmp(left, at, sizeof at)) printf("a word less answers %u and %u\n", a[0], b[0]);
+    }
+    for (int k = 0; k < 2; k++) {
+        at[0] = o[10] + (k == 0), at[1] = o[4] + (k == 1);
+        memcpy(left, at, sizeof at);
+        quiltrudder_next_unused(src, len, o, TABLES, work, words, at, b);
+        if (b[0] != 44 || b[4] || b[5] || memcmp(left, at, sizeof at)) printf("a record past the counts answers %u\n", b[0]);
+    }
+    free(bits);
+}
+
 static void use(void) {
     uint32_t v[QUILTRUDDER_VALIDITY_CELLS], a[QUILTRUDDER_LISTING_CELLS], words = (o[10] + 31) / 32 + (o[4] + 31) / 32;
     quiltrudder_validate(src, len, o, TABLES, v);
@@ -126,6 +164,7 @@ static void use(void) {
     printf("work");
     for (uint32_t i = 0; i < words; i++) printf(" %08x", work[i]);
     printf("\n");
+    if (a[0] == 0) walk(work, words, out, a[4]);
     free(work);
     free(out);
 }
@@ -171,5 +210,6 @@ int main(int argc, char **argv) {
         }
         free(s);
     }
+    fprintf(stderr, "walked %ld\n", walked);
     return bad != 0;
 }

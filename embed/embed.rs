@@ -38,6 +38,8 @@ mod quiltrudder {
             quiltrudder_validate(reading: *const [u32; 40]; *const u32; answer: *mut [u32; 6]);
             quiltrudder_faults(reading: *const [u32; 40]; *const u32; t14: *mut u32, t14_length: usize, answer: *mut [u32; 8]);
             quiltrudder_report(reading: *const [u32; 40]; *const u32; work: *mut u32, work_length: usize, out: *mut u32, out_length: usize, answer: *mut [u32; 8]);
+            quiltrudder_mark(reading: *const [u32; 40]; *const u32; work: *mut u32, work_length: usize, answer: *mut [u32; 6]);
+            quiltrudder_next_unused(reading: *const [u32; 40]; *const u32; work: *const u32, work_length: usize, at: *mut [u32; 2], answer: *mut [u32; 8]);
             quiltrudder_name(reading: *const [u32; 40]; *const u32; table: u32, row: u32, answer: *mut [u32; 4]);
             quiltrudder_epp_value(reading: *const [u32; 40]; *const u32; row: u32, out: *mut u8, out_length: usize, answer: *mut [u32; 8]);
         }
@@ -103,6 +105,13 @@ mod quiltrudder {
         src: &'a [u8],
         cells: [u32; 40],
         lent: [Vec<u32>; 12],
+    }
+
+    /// Goes from one unused row to the next, in the report's order, without a list: the work bits, and how many rule rows and token rows were passed.
+    pub struct Unused<'r, 'a> {
+        reading: &'r Reading<'a>,
+        work: Vec<u32>,
+        at: [u32; 2],
     }
 
     /// Calls a function of the library on a source, some arguments, ten tables with two indexes and further arguments.
@@ -188,6 +197,17 @@ mod quiltrudder {
             Ok(out.chunks(2).take(count(cells)).map(unused).collect())
         }
 
+        /// The same one by one.
+        pub fn unused(&self) -> Result<Unused<'_, 'a>, Answer> {
+            let mut work = vec![0u32; (self.rows(7) as usize).div_ceil(32) + (self.rows(1) as usize).div_ceil(32)];
+            let mut cells = [0; 6];
+            call!(quiltrudder_mark, self.src, (&self.cells), &self.lent, as_ptr, (work.as_mut_ptr(), work.len(), &mut cells));
+            if cells[0] != 0 {
+                return Err(answer(cells));
+            }
+            Ok(Unused { reading: self, work, at: [0; 2] })
+        }
+
         /// The place of the name of a row of table 1 or 7.
         pub fn name_place(&self, table: u32, row: u32) -> (u32, u32) {
             let mut cells = [0; 4];
@@ -213,6 +233,24 @@ mod quiltrudder {
             Ok(out)
         }
     }
+
+    impl Iterator for Unused<'_, '_> {
+        type Item = Row;
+
+        /// Behind the last row it says the end for ever.
+        fn next(&mut self) -> Option<Row> {
+            let (reading, mut cells) = (self.reading, [0; 8]);
+            call!(
+                quiltrudder_next_unused, reading.src, (&reading.cells), &reading.lent, as_ptr,
+                (self.work.as_ptr(), self.work.len(), &mut self.at, &mut cells)
+            );
+            match (cells[4], cells[5]) {
+                (1, rule) => Some(Row::Rule(rule)),
+                (2, token) => Some(Row::Token(token)),
+                _ => None,
+            }
+        }
+    }
 }
 
 use quiltrudder::{Answer, Row};
@@ -234,7 +272,7 @@ fn print_report(src: &[u8], kind: u32) {
         }
         return;
     }
-    match reading.report() {
+    match reading.unused() {
         Err(refused) => print_answer(refused),
         Ok(unused) => {
             print_answer(answer);
@@ -311,6 +349,17 @@ mod tests {
         assert_eq!(locate(src, reading.faults().unwrap()[1].from), spot(3, 4));
         assert_eq!([9, 10, 12, 13, 99].map(|at| locate(src, at)), [spot(1, 10), spot(2, 1), spot(2, 3), spot(3, 1), spot(4, 1)]);
         assert_eq!(load(b"%%\ns:;\n", 1, 8).answer().spot, spot(3, 1));
+    }
+
+    #[test]
+    fn unused_rows_come_one_by_one() {
+        let reading = load(b"%token A B%expect-unused q%%s:'x';t:A;u:'y';q:'z';", 1, 16);
+        let rows = [Row::Rule(1), Row::Rule(2), Row::Token(0), Row::Token(1), Row::Token(3), Row::Token(4)];
+        assert_eq!(reading.report().unwrap(), rows);
+        let mut unused = reading.unused().unwrap();
+        assert_eq!(unused.by_ref().collect::<Vec<_>>(), rows);
+        assert_eq!([unused.next(), unused.next(), unused.next()], [None; 3]);
+        assert_eq!(load(b"%%s:x;", 1, 8).unused().err().map(|refused| refused.number), Some(32));
     }
 
     #[test]

@@ -1,5 +1,5 @@
-/* Quiltrudder for C: loading a Yacc specification (it is read, and what was read is validated), validating tables from elsewhere, the list of all faults, the unused report, the name of a row,
- * the value of an `%epp` row, and line and column of a place. Each function's contract is proved; the comments here say what the contracts say.
+/* Quiltrudder for C: loading a Yacc specification (it is read, and what was read is validated), validating tables from elsewhere, the list of all faults, the unused report, its marking by itself, the unused
+ * rows one by one, the name of a row, the value of an `%epp` row, and line and column of a place. Each function's contract is proved; the comments here say what the contracts say.
  *
  * A slice is a pointer and a length, the length counted in elements. A pointer is never null, also where the length is 0, and no memory that a
  * function writes overlaps any other that it is lent. That is all a caller owes: every function takes any bytes, numbers and lengths, and ends. It
@@ -58,6 +58,8 @@ extern "C" {
 #define QUILTRUDDER_VALIDITY_CELLS 6
 #define QUILTRUDDER_FAULTS_CELLS 8
 #define QUILTRUDDER_LISTING_CELLS 8
+#define QUILTRUDDER_MARKING_CELLS 6
+#define QUILTRUDDER_NEXT_CELLS 8
 #define QUILTRUDDER_PLACE_CELLS 4
 #define QUILTRUDDER_VALUATION_CELLS 8
 #define QUILTRUDDER_SPOT_CELLS 2
@@ -75,6 +77,10 @@ extern "C" {
 #define QUILTRUDDER_VALIDITY_COLUMN 5
 #define QUILTRUDDER_COUNTED_LINE 6 /* of the faults, of the report and of a value */
 #define QUILTRUDDER_COUNTED_COLUMN 7
+#define QUILTRUDDER_MARKING_LINE 4
+#define QUILTRUDDER_MARKING_COLUMN 5
+#define QUILTRUDDER_NEXT_LINE 6
+#define QUILTRUDDER_NEXT_COLUMN 7
 #define QUILTRUDDER_PLACE_LINE 2
 #define QUILTRUDDER_PLACE_COLUMN 3
 #define QUILTRUDDER_SPOT_LINE 0
@@ -134,6 +140,13 @@ extern "C" {
 /* In the answers of the faults, of the report and of a value: the count, by its low and high 32 bits; 0 after a refusal. */
 #define QUILTRUDDER_COUNT_LOW 4
 #define QUILTRUDDER_COUNT_HIGH 5
+
+/* In the answer of the next unused row: its kind (1 rule, 2 token) and row; both 0 where there is none. */
+#define QUILTRUDDER_NEXT_KIND 4
+#define QUILTRUDDER_NEXT_ROW 5
+
+/* The record of where a walk over the unused rows stands: how many rule rows and how many token rows it has passed. A fresh one is all zero. */
+#define QUILTRUDDER_STANDING_CELLS 2
 
 /* Reads a source of kind 1, 2 or 3 into the lent tables and indexes, whatever they held, and where that is accepted validates what was read. `i1` is the index of table 1 and `i7` that of table 7: slots by which a name is
  * found, each 0 or a row number plus one.
@@ -232,6 +245,53 @@ void quiltrudder_report(
     uint32_t *work, size_t work_length,
     uint32_t *out, size_t out_length,
     uint32_t answer[QUILTRUDDER_LISTING_CELLS]);
+
+/* The report's `work` of a valid reading without the list, for a caller that has no room for one.
+ *
+ * Number 0; 44; validate's number and place; 42 with table 11 where `work` has too few words. After a refusal `work` is zero. */
+void quiltrudder_mark(
+    const uint8_t *src, size_t src_length,
+    const uint32_t reading[QUILTRUDDER_READING_CELLS],
+    const uint32_t *t1, size_t t1_length,
+    const uint32_t *t2, size_t t2_length,
+    const uint32_t *t3, size_t t3_length,
+    const uint32_t *t4, size_t t4_length,
+    const uint32_t *t5, size_t t5_length,
+    const uint32_t *t6, size_t t6_length,
+    const uint32_t *t7, size_t t7_length,
+    const uint32_t *t8, size_t t8_length,
+    const uint32_t *t9, size_t t9_length,
+    const uint32_t *t10, size_t t10_length,
+    const uint32_t *i1, size_t i1_length,
+    const uint32_t *i7, size_t i7_length,
+    uint32_t *work, size_t work_length,
+    uint32_t answer[QUILTRUDDER_MARKING_CELLS]);
+
+/* The unused rows one by one. `work` is what the report or the marking left, and `at` the record of where the walk stands, all zero for a fresh
+ * one. Each call moves the record on and answers number 0 with kind and row of the next unused rule or token, in the report's order; behind the
+ * last one kind 0, row 0, and the record stays, so that each further call says so again. With the tables and bits unchanged, calls from a fresh
+ * record give the rows of the report.
+ *
+ * It goes by the bits that are lent, whatever they are: the next row is the first rule not yet passed, else the first token not yet passed, whose
+ * bit is 0 and that no declaration excuses. 44 also where `at` is past the counts or `work` has too few words; the record stays. */
+void quiltrudder_next_unused(
+    const uint8_t *src, size_t src_length,
+    const uint32_t reading[QUILTRUDDER_READING_CELLS],
+    const uint32_t *t1, size_t t1_length,
+    const uint32_t *t2, size_t t2_length,
+    const uint32_t *t3, size_t t3_length,
+    const uint32_t *t4, size_t t4_length,
+    const uint32_t *t5, size_t t5_length,
+    const uint32_t *t6, size_t t6_length,
+    const uint32_t *t7, size_t t7_length,
+    const uint32_t *t8, size_t t8_length,
+    const uint32_t *t9, size_t t9_length,
+    const uint32_t *t10, size_t t10_length,
+    const uint32_t *i1, size_t i1_length,
+    const uint32_t *i7, size_t i7_length,
+    const uint32_t *work, size_t work_length,
+    uint32_t at[QUILTRUDDER_STANDING_CELLS],
+    uint32_t answer[QUILTRUDDER_NEXT_CELLS]);
 
 /* The place of the name of a row of table 1 or 7: from, to, line, column. 0, 0, 1, 1 for another table, a row that is not below the table's count, or unsound
  * tables. The source's bytes at that place are the name. */

@@ -2,6 +2,7 @@
 use grammar::Told;
 use loading::Judgement;
 use usage::Listing;
+use usage::Marking;
 use validation::FaultListing;
 use validation::Flaw;
 use validation::Validity;
@@ -11,7 +12,7 @@ ghost use mathlib.Core.List.{List, [], _∷_, _++_};
 ghost use lib.ListN.{take, getD};
 ghost use Rattle.validation.specs.Faults.{flawNumbers, validityNumbers};
 ghost use Rattle.validation.specs.Walk.{faultListingNumbers};
-ghost use Rattle.usage.specs.Report.{listingNumbers};
+ghost use Rattle.usage.specs.Report.{listingNumbers, markingNumbers};
 ghost use Rattle.values.specs.Value.{valuationNumbers};
 ghost use Rattle.loading.specs.Load.{judgementNumbers};
 ghost use Rattle.numbers.specs.Numbers.{toldNumbers};
@@ -142,6 +143,32 @@ pub fn listed(l: Listing) -> usize
         Listing::OfInvalid(_) => 0,
         Listing::NoWords => 0,
         Listing::NoRoom => 0,
+    }
+}
+
+pub fn of_marking(m: Marking) -> Told
+    ensures { λ r. ⌜ toldNumbers r ≡ markingNumbers m ⌝ }
+{
+    match m {
+        Marking::AllMarked => Told {
+            number: 0,
+            from: 0,
+            to: 0,
+            table: 0,
+        },
+        Marking::MarksUnsound => Told {
+            number: 44,
+            from: 0,
+            to: 0,
+            table: 0,
+        },
+        Marking::MarksInvalid(f) => of_flaw(f),
+        Marking::MarksNoWords => Told {
+            number: 42,
+            from: 0,
+            to: 0,
+            table: 11,
+        },
     }
 }
 

@@ -37,12 +37,16 @@ use Rattle.validation.specs.Faults.{flawNumbers, validityNumbers, validity}
 use Rattle.validation.specs.declared.FaultListing.{FaultListing}
 use Rattle.validation.specs.Walk.{AllFaults, faultListing, faultListingNumbers}
 use Rattle.usage.specs.declared.Listing.{Listing}
-use Rattle.usage.specs.Report.{listingNumbers, Reported}
+use Rattle.usage.specs.declared.Marking.{Marking}
+use Rattle.usage.specs.Report.{listingNumbers, markingNumbers, Reported, MarkedBits}
+use Rattle.walks.specs.declared.Next.{Next}
+use Rattle.walks.specs.declared.Standing.{Standing}
+use Rattle.walks.specs.Walk.{nextNumbers, nextSpot, Advanced}
 use Rattle.names.specs.Name.{nowhere, rowPlace, namePlace}
 use Rattle.values.specs.declared.Valuation.{Valuation}
 use Rattle.values.specs.Value.{valuationNumbers, Valued, eppValue}
 use Rattle.numbers.specs.Numbers.{toldNumbers}
-use Rattle.quiltrudder.specs.Face.{halves, answerSpot, spotCells, loadingNumbers, LoadFace, loadFaceOf, loadFace, countsOf, partOf, expectOf, paramOf, singlesOf, validityCells, validateFace, FaultsFace, countedCells, faultListingCells, faultsFaceOf, faultsFace, ReportFace, nameAt, nameCells, nameFace, ValueFace, valuationCells, valueFaceOf, valueFace}
+use Rattle.quiltrudder.specs.Face.{halves, answerSpot, spotCells, loadingNumbers, LoadFace, loadFaceOf, loadFace, countsOf, partOf, expectOf, paramOf, singlesOf, validityCells, validateFace, FaultsFace, countedCells, faultListingCells, faultsFaceOf, faultsFace, ReportFace, MarkFace, standingOf, standingCells, NextFace, nameAt, nameCells, nameFace, ValueFace, valuationCells, valueFaceOf, valueFace}
 
 -- a single by its flag
 module _ (f a b : ℕ) where
@@ -129,6 +133,12 @@ module _ (src m : List ℕ) (T : Tables) (X : Indexes) (c : Counts) (g : Singles
 
   pub face-report : (ws₀ ws out₀ out a : List ℕ) (l : Listing) (t : Told) (n : ℕ) (s : Spot) → Reported src c g T X l ws₀ ws out₀ out → toldNumbers t ≡ take 4 (listingNumbers l) → n ≡ getD (listingNumbers l) 4 0 → s ≡ answerSpot src (listingNumbers l) → a ≡ toldNumbers t ++ halves n ++ spotCells s → ReportFace src m T X ws₀ ws out₀ out a
   face-report ws₀ ws out₀ out a l t n s p ht hn hs ha = record { listing = l; reported = rw (hc, hg) at p; numbers = counted src t (listingNumbers l) n s a ht hn hs ha }
+
+  pub face-mark : (ws₀ ws : List ℕ) (k : Marking) (t : Told) (s : Spot) → MarkedBits src c g T X k ws₀ ws → toldNumbers t ≡ markingNumbers k → s ≡ answerSpot src (markingNumbers k) → MarkFace src m T X ws₀ ws (toldNumbers t ++ spotCells s)
+  face-mark ws₀ ws k t s p ht hs = record { marking = k; marked = rw (hc, hg) at p; numbers = ap (λ (x : List ℕ). x ++ spotCells s) ht ∙ ap (λ (x : Spot). markingNumbers k ++ spotCells x) hs }
+
+  pub face-next : (ws at₀ a : List ℕ) (n : Next) (u : Standing) (s : Spot) → Advanced src c g T X ws (standingOf at₀) n u → s ≡ nextSpot src n → a ≡ nextNumbers n ++ spotCells s → NextFace src m T X ws at₀ (standingCells u) a
+  face-next ws at₀ a n u s p hs ha = record { next = n; stands = u; advanced = rw (hc, hg) at p; record-is = refl; numbers = ha ∙ ap (λ (x : Spot). nextNumbers n ++ spotCells x) hs }
 
   pub face-name : (table row : ℕ) (a : List ℕ) → a ≡ nameCells src (nameAt src c g T X table row) → a ≡ nameFace src m T X table row
   face-name table row a h = h ∙ rw (hc, hg)

@@ -24,10 +24,14 @@ use Rattle.loading.specs.declared.Judgement.the-variants.{Loaded, NotRead, NotV
 use Rattle.validation.specs.Faults.{flawNumbers}
 use Rattle.loading.specs.Load.{judgementNumbers, LoadResult}
 use Rattle.sound.specs.Test.{soundTest}
-use Rattle.usage.proofs.Outcome.{Outcome, reported-one}
+use Rattle.usage.specs.declared.Marking.{Marking}
+use Rattle.usage.proofs.Outcome.{Outcome, reported-one, marking-one}
+use Rattle.walks.specs.declared.Next.{Next}
+use Rattle.walks.specs.declared.Standing.{Standing}
+use Rattle.walks.proofs.Once.{next-one}
 use Rattle.names.specs.Name.{nowhere, namePlace, partAt, nameOf}
 use Rattle.names.proofs.Laws.{part-none}
-use Rattle.quiltrudder.specs.Face.{expectCells, singlesCells, countsCells, loadingCells, loadingNumbers, countsOf, partOf, expectOf, paramOf, singlesOf, listingCells, ReportFace, nameAt}
+use Rattle.quiltrudder.specs.Face.{expectCells, singlesCells, countsCells, loadingCells, loadingNumbers, countsOf, partOf, expectOf, paramOf, singlesOf, listingCells, ReportFace, markingCells, MarkFace, standingOf, standingCells, nextCells, NextFace, nameAt}
 use Rattle.quiltrudder.proofs.Cells.{three, five, part-three, expect-five, param-five}
 
 -- each single by itself
@@ -119,8 +123,19 @@ name-part src c g T X table row = go (soundTest src c g T X)
     go true = refl
     go false = sym (part-none src)
 
--- "Any two outcomes allowed by it are proved equal": of the report; the contracts of the others are equations.
+-- "Any two outcomes allowed by it are proved equal": of the report; the contracts of the others but the two below are equations.
 pub report-face-one : (src m : List ℕ) (T : Tables) (X : Indexes) (ws₀ ws vs out₀ out out' a b : List ℕ) → ReportFace src m T X ws₀ ws out₀ out a → ReportFace src m T X ws₀ vs out₀ out' b → (ws ≡ vs) × (out ≡ out') × (a ≡ b)
 report-face-one src m T X ws₀ ws vs out₀ out out' a b p q =
     let e = reported-one src (countsOf m) (singlesOf m) T X ws₀ out₀ (p .listing) (q .listing) ws vs out out' (p .reported) (q .reported) in
     (ap (λ (o : Outcome). o .work) e, ap (λ (o : Outcome). o .cells) e, p .numbers ∙ ap (λ (o : Outcome). listingCells src (o .answer)) e ∙ sym (q .numbers))
+
+-- of the marking, and of a step of a walk
+pub mark-face-one : (src m : List ℕ) (T : Tables) (X : Indexes) (ws₀ ws vs a b : List ℕ) → MarkFace src m T X ws₀ ws a → MarkFace src m T X ws₀ vs b → (ws ≡ vs) × (a ≡ b)
+mark-face-one src m T X ws₀ ws vs a b p q =
+    let e = marking-one src (countsOf m) (singlesOf m) T X ws₀ (p .marking) (q .marking) ws vs (p .marked) (q .marked) in
+    (e .1, p .numbers ∙ ap (λ (k : Marking). markingCells src k) (e .0) ∙ sym (q .numbers))
+
+pub next-face-one : (src m : List ℕ) (T : Tables) (X : Indexes) (ws at₀ at at' a b : List ℕ) → NextFace src m T X ws at₀ at a → NextFace src m T X ws at₀ at' b → (at ≡ at') × (a ≡ b)
+next-face-one src m T X ws at₀ at at' a b p q =
+    let e = next-one src (countsOf m) (singlesOf m) T X ws (standingOf at₀) (p .next) (q .next) (p .stands) (q .stands) (p .advanced) (q .advanced) in
+    (p .record-is ∙ ap (λ (s : Standing). standingCells s) (e .1) ∙ sym (q .record-is), p .numbers ∙ ap (λ (n : Next). nextCells src n) (e .0) ∙ sym (q .numbers))

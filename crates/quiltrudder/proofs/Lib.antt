@@ -4,3 +4,4 @@ pub mod Answers
 pub mod Face
 pub mod Promises
 pub mod Spots
+pub mod Walked

@@ -8,7 +8,7 @@ use native.Mathlib.Omega.{arith}
 use lib.Dec.{leb}
 use lib.ListN.{length, getD}
 use Rattle.scan.proofs.Bytes.{told}
-use Rattle.tables.specs.Layout.{epps, faultWidth}
+use Rattle.tables.specs.Layout.{tokens, epps, rules, faultWidth}
 use Rattle.grammar.specs.declared.Counts.{Counts}
 use Rattle.grammar.specs.declared.Singles.{Singles}
 use Rattle.grammar.specs.Sound.{Tables, Indexes}
@@ -27,10 +27,15 @@ use Rattle.validation.proofs.Order.{validity-unsound}
 use Rattle.reach.specs.Reach.{Grammar, need}
 use Rattle.usage.specs.declared.Listing.{Listing}
 use Rattle.usage.specs.declared.Listing.the-variants.{Unused, OfUnsound, NoRoom}
-use Rattle.usage.specs.Report.{Excuses, Told, Reported}
+use Rattle.usage.specs.declared.Marking.the-variants.{MarksUnsound}
+use Rattle.usage.specs.Report.{Excuses, Told, Reported, MarkTold, MarkedBits}
 use Rattle.usage.specs.Standing.{UnusedRows, TooMany}
 use Rattle.usage.proofs.Outcome.{report-room}
 use Rattle.usage.proofs.Standing.{report-rows, listed-or-many, listed-in-room, no-room-iff}
+use Rattle.walks.specs.declared.Next.{Next}
+use Rattle.walks.specs.declared.Next.the-variants.{NotFitting}
+use Rattle.walks.specs.declared.Standing.{Standing}
+use Rattle.walks.specs.Walk.{Passes, rule-next, token-next, none-next, Advanced, fitting, unfitting}
 use Rattle.names.specs.Name.{nameOf}
 use Rattle.values.specs.Value.{valuationNumbers, eppValue}
 use Rattle.values.proofs.Meaning.{value-not-44}
@@ -68,6 +73,26 @@ module _ (src : List ℕ) (kind : ℕ) (T : Tables) (X : Indexes) (full : FullLo
       go Valid e p = p
       go UnsoundTables e p = validate-not-44 e
       go (Invalid f) e p = let q = p .0 in let z : _≡_ {A = ℕ} 0 1 = cc in omega arith
+
+  -- nor its marking by itself,
+  pub mark-not-44 : (ws₀ ws : List ℕ) → MarkedBits src (o .counts) (o .singles) (o .tables) (o .indexes) MarksUnsound ws₀ ws → ⊥
+  mark-not-44 ws₀ ws = go (validity src (o .counts) (o .singles) (o .tables) (o .indexes)) refl
+    where
+      go : (v : Validity) → validity src (o .counts) (o .singles) (o .tables) (o .indexes) ≡ v → MarkTold v (grammarRead src o) MarksUnsound ws₀ ws → ⊥
+      go Valid e p = p
+      go UnsoundTables e p = validate-not-44 e
+      go (Invalid f) e p = let q = p .0 in let z : _≡_ {A = ℕ} 0 1 = cc in omega arith
+
+  -- nor a step of a walk whose record is not past the counts, with words enough,
+  pub next-not-44 : (ws : List ℕ) (s : Standing) (n : Next) (t : Standing) → s .rules ≤ countAt (o .counts) rules → s .tokens ≤ countAt (o .counts) tokens → need (grammarRead src o) ≤ length ws
+      → Advanced src (o .counts) (o .singles) (o .tables) (o .indexes) ws s n t → n ≡ NotFitting → ⊥
+  next-not-44 ws s n t h k l (fitting f p) e = passed p e
+    where
+      passed : Passes ws (excusesRead src o) (grammarRead src o .rules) (grammarRead src o .tokens) s n t → n ≡ NotFitting → ⊥
+      passed (rule-next r x a b) e = let z : _≡_ {A = ℕ} 0 1 = cc in omega arith
+      passed (token-next r x y a b) e = let z : _≡_ {A = ℕ} 0 1 = cc in omega arith
+      passed (none-next x y a b) e = let z : _≡_ {A = ℕ} 0 1 = cc in omega arith
+  next-not-44 ws s n t h k l (unfitting f a b) e = f (record { sound = load-sound src kind T X full; rules-passed = h; tokens-passed = k; words = l })
 
   -- nor the value of an `%epp` row.
   pub value-row-not-44 : (row : ℕ) (out : List ℕ) → row < countAt (o .counts) epps → getD (valuationNumbers (eppValue src (o .counts) (o .singles) (o .tables) (o .indexes) row out .answer)) 0 0 ≡ 44 → ⊥
@@ -107,6 +132,6 @@ pub load-report-exactly : (src : List ℕ) (kind : ℕ) (T : Tables) (X : Indexe
 load-report-exactly src kind T X i l ws₀ ws out₀ out e room p =
     report-exactly src kind T X (told FullLoad (sym e) tt) l ws₀ ws out₀ out (load-valid src kind T X i e) room p
 
--- "Any two outcomes allowed by it are proved equal": of a name. `load-one`, `validity-first`, `faults-one`, `reported-one` and `valued-one` say it of the other operations.
+-- "Any two outcomes allowed by it are proved equal": of a name. `load-one`, `validity-first`, `faults-one`, `reported-one`, `marking-one`, `next-one` and `valued-one` say it of the other operations.
 pub name-one : (src : List ℕ) (c : Counts) (g : Singles) (T : Tables) (X : Indexes) (table row : ℕ) (a b : List ℕ) → a ≡ nameOf src c g T X table row → b ≡ nameOf src c g T X table row → a ≡ b
 name-one src c g T X table row a b p q = p ∙ sym q

@@ -38,13 +38,18 @@ use Rattle.validation.specs.Walk.{faultListing, faultListingNumbers}
 use Rattle.validation.proofs.Places.{flaw-inside}
 use Rattle.usage.specs.declared.Listing.{Listing}
 use Rattle.usage.specs.declared.Listing.the-variants.{Unused, OfUnsound, OfInvalid, NoWords, NoRoom}
-use Rattle.usage.specs.Report.{listingNumbers, excusesOf, Told, Reported}
+use Rattle.usage.specs.declared.Marking.{Marking}
+use Rattle.usage.specs.declared.Marking.the-variants.{AllMarked, MarksUnsound, MarksInvalid, MarksNoWords}
+use Rattle.usage.specs.Report.{listingNumbers, markingNumbers, excusesOf, Told, Reported, MarkTold, MarkedBits}
+use Rattle.walks.specs.declared.Next.{Next}
+use Rattle.walks.specs.declared.Next.the-variants.{NextUnused, NoneLeft, NotFitting}
+use Rattle.walks.specs.Walk.{nextNumbers}
 use Rattle.reach.specs.Reach.{grammarOf}
 use Rattle.values.specs.declared.Valuation.{Valuation}
 use Rattle.values.specs.declared.Valuation.the-variants.{Written, OfUnsoundTables, PastCount, NotString, NoTextRoom}
 use Rattle.values.specs.Value.{valuationNumbers, eppValue}
 use Rattle.names.specs.Name.{nowhere, namePlace}
-use Rattle.quiltrudder.specs.Face.{halves, answerSpot, spotCells, AnswerSpotted, CellsSpotted, singlesCells, countsCells, loadingCells, loadingNumbers, loadFace, countsOf, singlesOf, validateFace, countedCells, faultsFace, ReportFace, nameAt, nameFace, valueFace}
+use Rattle.quiltrudder.specs.Face.{halves, answerSpot, spotCells, AnswerSpotted, CellsSpotted, singlesCells, countsCells, loadingCells, loadingNumbers, loadFace, countsOf, singlesOf, validateFace, countedCells, faultsFace, ReportFace, MarkFace, NextFace, nameAt, nameFace, valueFace}
 use Rattle.quiltrudder.proofs.Answers.{flaw-from, validity-from, place-lies}
 use Rattle.quiltrudder.proofs.Cells.{singles-length}
 use Rattle.quiltrudder.proofs.Face.{judgement-four}
@@ -108,6 +113,23 @@ module _ (src : List ℕ) (c : Counts) (g : Singles) (T : Tables) (X : Indexes) 
   report-spotted NoWords ws₀ ws out₀ out p = spotted-first src
   report-spotted NoRoom ws₀ ws out₀ out p = spotted-first src
 
+  -- its marking, a step of a walk,
+  pub mark-spotted : (k : Marking) (ws₀ ws : List ℕ) → MarkedBits src c g T X k ws₀ ws → AnswerSpotted src (markingNumbers k)
+  mark-spotted AllMarked ws₀ ws p = spotted-first src
+  mark-spotted MarksUnsound ws₀ ws p = spotted-first src
+  mark-spotted (MarksInvalid f) ws₀ ws p = told (λ (k : ℕ). Spotted src k (spotAt src k)) (sym (flaw-from f (0 ∷ []))) (flaw-spotted src c g T X f (go (validity src c g T X) p))
+    where
+      go : (v : Validity) → MarkTold v (grammarOf src c (g .start) (T .t1) (T .t7) (T .t8) (T .t9)) (MarksInvalid f) ws₀ ws → v ≡ Invalid f
+      go Valid q = absurd q
+      go UnsoundTables q = let e = q .0 in let z : _≡_ {A = ℕ} 0 1 = cc in absurd (omega arith)
+      go (Invalid h) q = let e = q .0 in let k : h ≡ f = cc in ap (λ (x : Flaw). Invalid x) k
+  mark-spotted MarksNoWords ws₀ ws p = spotted-first src
+
+  pub next-spotted : (n : Next) → AnswerSpotted src (nextNumbers n)
+  next-spotted (NextUnused kd r) = spotted-first src
+  next-spotted NoneLeft = spotted-first src
+  next-spotted NotFitting = spotted-first src
+
   -- the value of an `%epp` row, and the place of a name.
   pub value-spotted : (v : Valuation) → AnswerSpotted src (valuationNumbers v)
   value-spotted (Written n) = spotted-first src
@@ -157,6 +179,17 @@ listing-five OfUnsound = refl
 listing-five (OfInvalid f) = flaw-long f (0 ∷ 0 ∷ [])
 listing-five NoWords = refl
 listing-five NoRoom = refl
+
+marking-four : (k : Marking) → length (markingNumbers k) ≡ 4
+marking-four AllMarked = refl
+marking-four MarksUnsound = refl
+marking-four (MarksInvalid f) = flaw-long f (0 ∷ [])
+marking-four MarksNoWords = refl
+
+next-six : (n : Next) → length (nextNumbers n) ≡ 6
+next-six (NextUnused kd r) = refl
+next-six NoneLeft = refl
+next-six NotFitting = refl
 
 fault-listing-five : (l : FaultListing) → length (faultListingNumbers l) ≡ 5
 fault-listing-five (Faulted n) = refl
@@ -210,6 +243,18 @@ module _ (src m : List ℕ) (T : Tables) (X : Indexes) where
   face-report-spotted ws₀ ws out₀ out a r =
       let l = r .listing in
       told (λ (x : List ℕ). CellsSpotted src x 1 6) (sym (r .numbers)) (counted-spotted src (listingNumbers l) (listing-five l) (report-spotted src (countsOf m) (singlesOf m) T X l ws₀ ws out₀ out (r .reported)))
+
+  pub face-mark-spotted : (ws₀ ws a : List ℕ) → MarkFace src m T X ws₀ ws a → CellsSpotted src a 1 4
+  face-mark-spotted ws₀ ws a r =
+      let l = markingNumbers (r .marking) in
+      let h = marking-four (r .marking) in
+      told (λ (x : List ℕ). CellsSpotted src x 1 4) (sym (r .numbers)) (cells-spotted src l 1 4 (getD l 1 0) (answerSpot src l) h (List·getD-append l _ 0 1 (omega (arith, h))) (mark-spotted src (countsOf m) (singlesOf m) T X (r .marking) ws₀ ws (r .marked)))
+
+  pub face-next-spotted : (ws at₀ at a : List ℕ) → NextFace src m T X ws at₀ at a → CellsSpotted src a 1 6
+  face-next-spotted ws at₀ at a r =
+      let l = nextNumbers (r .next) in
+      let h = next-six (r .next) in
+      told (λ (x : List ℕ). CellsSpotted src x 1 6) (sym (r .numbers)) (cells-spotted src l 1 6 (getD l 1 0) (answerSpot src l) h (List·getD-append l _ 0 1 (omega (arith, h))) (next-spotted src (countsOf m) (singlesOf m) T X (r .next)))
 
   pub face-value-spotted : (row : ℕ) (out : List ℕ) → CellsSpotted src (valueFace src m T X row out .answer) 1 6
   face-value-spotted row out = let v = eppValue src (countsOf m) (singlesOf m) T X row out .answer in counted-spotted src (valuationNumbers v) (valuation-five v) (value-spotted src (countsOf m) (singlesOf m) T X v)

@@ -1,5 +1,5 @@
 -- The C names' numbers: the same operations over numbers and slices alone, each with its answer written as 32-bit numbers into a lent array of fixed size.
-use Prim.Native.Nat.{ℕ, _+_, _*_, _/_, _%_, _≤_, _<_, _^_}
+use Prim.Native.Nat.{ℕ, suc, _+_, _*_, _/_, _%_, _≤_, _<_, _^_}
 use mathlib.Core.Path.{_≡_}
 use mathlib.Core.Bool.{true, false}
 use mathlib.Core.List.{List, [], _∷_, _++_}
@@ -28,8 +28,12 @@ use Rattle.validation.specs.declared.FaultListing.{FaultListing}
 use Rattle.validation.specs.Walk.{AllFaults, faultListing, faultListingNumbers}
 use Rattle.reach.specs.Reach.{Grammar}
 use Rattle.usage.specs.declared.Listing.{Listing}
-use Rattle.usage.specs.Report.{listingNumbers, Excuses, Reported}
+use Rattle.usage.specs.declared.Marking.{Marking}
+use Rattle.usage.specs.Report.{listingNumbers, markingNumbers, Excuses, Reported, MarkedBits}
 use Rattle.usage.specs.Standing.{UnusedRows, TooMany}
+use Rattle.walks.specs.declared.Next.{Next}
+use Rattle.walks.specs.declared.Standing.{Standing}
+use Rattle.walks.specs.Walk.{nextNumbers, nextSpot, Advanced}
 use Rattle.names.specs.Name.{nowhere, namePlace}
 use Rattle.values.specs.declared.Valuation.{Valuation}
 use Rattle.values.specs.Value.{valuationNumbers, Valued, eppValue}
@@ -170,6 +174,39 @@ pub record ExactlyFace (g : Grammar) (x : Excuses) (out answer : List ℕ) : Typ
 pub record CrowdedFace (g : Grammar) (x : Excuses) (out answer : List ℕ) : Type 0 where
   pub numbers : answer ≡ 42 ∷ 0 ∷ 0 ∷ 12 ∷ 0 ∷ 0 ∷ 1 ∷ 1 ∷ []
   pub many : TooMany g x out
+
+-- the marking: number and place; "table number (0 unless 42)"; line and column
+abbrev pub markingCells : List ℕ → Marking → List ℕ
+markingCells src k = markingNumbers k ++ spotCells (answerSpot src (markingNumbers k))
+
+pub record MarkFace (src m : List ℕ) (T : Tables) (X : Indexes) (ws₀ ws answer : List ℕ) : Type 0 where
+  pub marking : Marking
+  pub marked : MarkedBits src (countsOf m) (singlesOf m) T X marking ws₀ ws
+  pub numbers : answer ≡ markingCells src marking
+
+-- a record of where a walk stands: rule rows and token rows passed
+abbrev pub standingOf : List ℕ → Standing
+standingOf a = record { rules = getD a 0 0; tokens = getD a 1 0 }
+
+abbrev pub standingCells : Standing → List ℕ
+standingCells s = s .rules ∷ s .tokens ∷ []
+
+-- the next unused row: number, place and table number, kind and row, line and column
+abbrev pub nextCells : List ℕ → Next → List ℕ
+nextCells src n = nextNumbers n ++ spotCells (nextSpot src n)
+
+-- from the record's numbers at entry to those at exit
+pub record NextFace (src m : List ℕ) (T : Tables) (X : Indexes) (ws at₀ at answer : List ℕ) : Type 0 where
+  pub next : Next
+  pub stands : Standing
+  pub advanced : Advanced src (countsOf m) (singlesOf m) T X ws (standingOf at₀) next stands
+  pub record-is : at ≡ standingCells stands
+  pub numbers : answer ≡ nextCells src next
+
+-- the first N calls of the C name from a record of zeros, each with the record that the one before left
+pub record FreshFaces (src m : List ℕ) (T : Tables) (X : Indexes) (ws : List ℕ) (N : ℕ) (at said : ℕ → List ℕ) : Type 0 where
+  pub begins : at 0 ≡ 0 ∷ 0 ∷ []
+  pub calls : (k : ℕ) → k < N → NextFace src m T X ws (at k) (at (suc k)) (said k)
 
 -- the place of a row's name; 0, 0 where "another table number, a row number not below its count or unsound tables give an empty part"
 unfoldable pub nameAt : List ℕ → Counts → Singles → Tables → Indexes → ℕ → ℕ → Place

@@ -1,5 +1,5 @@
-// Quiltrudder's operations: loading a Yacc specification (it is read, and what was read is validated), validating tables from elsewhere, the list of all faults, the unused report, the name of a row and
-// the value of an `%epp` row, each with line and column of its answer's place, and line and column of any place. None of them requires anything.
+// Quiltrudder's operations: loading a Yacc specification (it is read, and what was read is validated), validating tables from elsewhere, the list of all faults, the unused report, its marking by itself,
+// the unused rows one by one, the name of a row and the value of an `%epp` row, each with line and column of its answer's place, and line and column of any place. None of them requires anything.
 use grammar::Counts;
 use grammar::Expect;
 use grammar::Param;
@@ -9,9 +9,15 @@ use grammar::Told;
 use loading::Judgement;
 use places::Spot;
 use usage::Listing;
+use usage::Marking;
 use validation::FaultListing;
 use validation::Validity;
 use values::Valuation;
+use walks::Next;
+use walks::NextAt;
+use walks::Standing;
+// The next unused row, with the record of where the walk stands moved on in place.
+pub use walks::next_unused;
 ghost use mathlib.Core.Path.{_≡_};
 ghost use mathlib.Core.List.{List, _++_};
 ghost use Rattle.tables.specs.Table.{put};
@@ -21,11 +27,12 @@ ghost use Rattle.places.specs.Places.{spotAt};
 ghost use Rattle.loading.specs.Load.{judgementNumbers, LoadResult, loadAll};
 ghost use Rattle.validation.specs.Faults.{validityNumbers, validity};
 ghost use Rattle.validation.specs.Walk.{AllFaults, faultListing, faultListingNumbers};
-ghost use Rattle.usage.specs.Report.{listingNumbers, Reported};
+ghost use Rattle.usage.specs.Report.{listingNumbers, markingNumbers, Reported, MarkedBits};
+ghost use Rattle.walks.specs.Walk.{nextNumbers};
 ghost use Rattle.names.specs.Name.{nameOf};
 ghost use Rattle.values.specs.Value.{valuationNumbers, Valued, eppValue};
 ghost use Rattle.numbers.specs.Numbers.{toldNumbers};
-ghost use Rattle.quiltrudder.specs.Face.{halves, answerSpot, spotCells, expectCells, singlesCells, loadingCells, LoadFace, loadFace, countsOf, partOf, expectOf, paramOf, singlesOf, validateFace, FaultsFace, faultsFace, ReportFace, nameAt, nameCells, nameFace, ValueFace, valueFace};
+ghost use Rattle.quiltrudder.specs.Face.{halves, answerSpot, spotCells, expectCells, singlesCells, loadingCells, LoadFace, loadFace, countsOf, partOf, expectOf, paramOf, singlesOf, validateFace, FaultsFace, faultsFace, ReportFace, MarkFace, NextFace, nameAt, nameCells, nameFace, ValueFace, valueFace};
 
 // A load's answer, its counts and singles, and line and column of the answer's place.
 pub struct LoadingAt {
@@ -48,6 +55,11 @@ pub struct FaultListingAt {
 
 pub struct ListingAt {
     pub answer: Listing,
+    pub spot: Spot,
+}
+
+pub struct MarkingAt {
+    pub answer: Marking,
     pub spot: Spot,
 }
 
@@ -222,6 +234,52 @@ pub fn report(
     ListingAt {
         answer,
         spot: spot_of(src, numbers::of_listing(answer)),
+    }
+}
+
+// The report's work bits of a valid reading, without the list.
+pub fn mark(
+    src: &[u8],
+    c: Counts,
+    g: Singles,
+    t1: &[u32],
+    t2: &[u32],
+    t3: &[u32],
+    t4: &[u32],
+    t5: &[u32],
+    t6: &[u32],
+    t7: &[u32],
+    t8: &[u32],
+    t9: &[u32],
+    t10: &[u32],
+    i1: &[u32],
+    i7: &[u32],
+    work: &mut [u32],
+) -> MarkingAt
+    ensures { λ r. ⌜ MarkedBits (now (src .entry)) c g (record { t1 = now (t1 .entry); t2 = now (t2 .entry); t3 = now (t3 .entry); t4 = now (t4 .entry); t5 = now (t5 .entry); t6 = now (t6 .entry); t7 = now (t7 .entry); t8 = now (t8 .entry); t9 = now (t9 .entry); t10 = now (t10 .entry) }) (record { tokens = now (i1 .entry); rules = now (i7 .entry) }) (r .answer) (now (work .entry)) (now (work .exit)) ⌝ }
+    ensures { λ r. ⌜ r .spot ≡ answerSpot (now (src .entry)) (markingNumbers (r .answer)) ⌝ }
+{
+    let answer = usage::mark(
+        src,
+        c,
+        g,
+        t1,
+        t2,
+        t3,
+        t4,
+        t5,
+        t6,
+        t7,
+        t8,
+        t9,
+        t10,
+        i1,
+        i7,
+        work,
+    );
+    MarkingAt {
+        answer,
+        spot: spot_of(src, numbers::of_marking(answer)),
     }
 }
 
@@ -473,6 +531,19 @@ fn counted_cells(t: Told, n: usize, s: Spot) -> [u32; 8]
     ]
 }
 
+// The next unused row: number, place and table, kind and row, line and column.
+fn next_cells(n: NextAt) -> [u32; 8]
+    ensures { λ r. ⌜ r ≡ nextNumbers (n .answer) ++ spotCells (n .spot) ⌝ }
+{
+    let answer = n.answer;
+    let spot = n.spot;
+    match answer {
+        Next::NextUnused(kind, row) => [0, 0, 0, 0, kind, row, spot.line, spot.column],
+        Next::NoneLeft => [0, 0, 0, 0, 0, 0, spot.line, spot.column],
+        Next::NotFitting => [44, 0, 0, 0, 0, 0, spot.line, spot.column],
+    }
+}
+
 // The place of a row's name, with its line and column; 0, 0 where the name is an empty part for another table, a row past its count or unsound tables.
 fn name_cells(
     src: &[u8],
@@ -657,6 +728,108 @@ pub extern "C" fn quiltrudder_report(
     let a = l.answer;
     let s = l.spot;
     *answer = counted_cells(numbers::of_listing(a), numbers::listed(a), s);
+}
+
+// The report's work bits of a valid reading, without the list.
+#[no_mangle]
+pub extern "C" fn quiltrudder_mark(
+    src: &[u8],
+    reading: &[u32; 40],
+    t1: &[u32],
+    t2: &[u32],
+    t3: &[u32],
+    t4: &[u32],
+    t5: &[u32],
+    t6: &[u32],
+    t7: &[u32],
+    t8: &[u32],
+    t9: &[u32],
+    t10: &[u32],
+    i1: &[u32],
+    i7: &[u32],
+    work: &mut [u32],
+    answer: &mut [u32; 6],
+)
+    ensures { λ r. ⌜ MarkFace (now (src .entry)) (now (reading .entry)) (record { t1 = now (t1 .entry); t2 = now (t2 .entry); t3 = now (t3 .entry); t4 = now (t4 .entry); t5 = now (t5 .entry); t6 = now (t6 .entry); t7 = now (t7 .entry); t8 = now (t8 .entry); t9 = now (t9 .entry); t10 = now (t10 .entry) }) (record { tokens = now (i1 .entry); rules = now (i7 .entry) }) (now (work .entry)) (now (work .exit)) (now (answer .exit)) ⌝ }
+{
+    let c = counts_of(reading);
+    let g = singles_of(reading);
+    let l = mark(
+        src,
+        c,
+        g,
+        t1,
+        t2,
+        t3,
+        t4,
+        t5,
+        t6,
+        t7,
+        t8,
+        t9,
+        t10,
+        i1,
+        i7,
+        work,
+    );
+    let a = l.answer;
+    let s = l.spot;
+    let t = numbers::of_marking(a);
+    *answer = [t.number, t.from, t.to, t.table, s.line, s.column];
+}
+
+// The next unused row by the bits; the record's two numbers, rule rows and token rows passed, are moved on in place.
+#[no_mangle]
+pub extern "C" fn quiltrudder_next_unused(
+    src: &[u8],
+    reading: &[u32; 40],
+    t1: &[u32],
+    t2: &[u32],
+    t3: &[u32],
+    t4: &[u32],
+    t5: &[u32],
+    t6: &[u32],
+    t7: &[u32],
+    t8: &[u32],
+    t9: &[u32],
+    t10: &[u32],
+    i1: &[u32],
+    i7: &[u32],
+    work: &[u32],
+    at: &mut [u32; 2],
+    answer: &mut [u32; 8],
+)
+    ensures { λ r. ⌜ NextFace (now (src .entry)) (now (reading .entry)) (record { t1 = now (t1 .entry); t2 = now (t2 .entry); t3 = now (t3 .entry); t4 = now (t4 .entry); t5 = now (t5 .entry); t6 = now (t6 .entry); t7 = now (t7 .entry); t8 = now (t8 .entry); t9 = now (t9 .entry); t10 = now (t10 .entry) }) (record { tokens = now (i1 .entry); rules = now (i7 .entry) }) (now (work .entry)) (now (at .entry)) (now (at .exit)) (now (answer .exit)) ⌝ }
+{
+    let c = counts_of(reading);
+    let g = singles_of(reading);
+    let before = Standing {
+        rules: at[0],
+        tokens: at[1],
+    };
+    let s = walks::step(
+        src,
+        c,
+        g,
+        t1,
+        t2,
+        t3,
+        t4,
+        t5,
+        t6,
+        t7,
+        t8,
+        t9,
+        t10,
+        i1,
+        i7,
+        work,
+        before,
+    );
+    let next = s.next;
+    let after = s.at;
+    *at = [after.rules, after.tokens];
+    *answer = next_cells(next);
 }
 
 // The place of the name of a row of table 1 or 7, with its line and column.

@@ -15,16 +15,14 @@ fn print_line(word: &[u8], from: u32, to: u32) {
     io::write_all(1, b"\n");
 }
 
-fn print_answer(t: Told) {
+pub fn print_answer(t: Told) {
     io::write_all(1, b"answer ");
     io::print_decimal(1, t.number as u64);
     print_line(b"", t.from, t.to);
 }
 
-// Row `row` of the report, with the place of the rule's or token's name.
-fn print_row(t1: &[u32], t7: &[u32], out: &[u32], row: u32) {
-    let kind = tables::cell(out, 2, row, 0);
-    let r = tables::cell(out, 2, row, 1);
+// Rule or token `r`, with the place of its name.
+pub fn print_named(t1: &[u32], t7: &[u32], kind: u32, r: u32) {
     if kind == 1 {
         let w = tables::RULE_WIDTH;
         print_line(
@@ -40,6 +38,16 @@ fn print_row(t1: &[u32], t7: &[u32], out: &[u32], row: u32) {
             tables::cell(t1, w, r, 1),
         );
     }
+}
+
+// Row `row` of the report.
+fn print_row(t1: &[u32], t7: &[u32], out: &[u32], row: u32) {
+    print_named(
+        t1,
+        t7,
+        tables::cell(out, 2, row, 0),
+        tables::cell(out, 2, row, 1),
+    );
 }
 
 fn print_rows(t1: &[u32], t7: &[u32], out: &[u32], count: usize) {

@@ -23,17 +23,10 @@ use Rattle.reach.proofs.Works.{work-one}
 use Rattle.reach.proofs.Fair.{fair-sound}
 use Rattle.usage.specs.declared.Listing.{Listing}
 use Rattle.usage.specs.declared.Listing.the-variants.{Unused, OfUnsound, OfInvalid, NoWords, NoRoom}
-use Rattle.usage.specs.Report.{Excuses, excusesOf, UnusedRule, UnusedToken, Free, Lists, Filled, Crowded, Accepted, ValidReport, Told, Reported, ByBits}
+use Rattle.usage.specs.declared.Marking.{Marking}
+use Rattle.usage.specs.declared.Marking.the-variants.{AllMarked, MarksUnsound, MarksInvalid, MarksNoWords}
+use Rattle.usage.specs.Report.{Excuses, excusesOf, UnusedRule, UnusedToken, Free, Lists, Filled, Crowded, Accepted, ValidReport, Told, Reported, ValidMarking, MarkTold, MarkedBits, ByBits, BitsLeft}
 use Rattle.usage.proofs.Picked.{picks-one, picks-same, picks-bound}
-
--- what the marking says, by its answer
-pub marks-no : (g : Grammar) (b : Bool) (ws vs : List ℕ) → b ≡ false → Marks g b ws vs → (length ws < need g) × (vs ≡ zeroed ws)
-marks-no g true ws vs e m = let z : _≡_ {A = ℕ} 0 1 = cc in absurd (omega arith)
-marks-no g false ws vs e m = m
-
-pub marks-yes : (g : Grammar) (b : Bool) (ws vs : List ℕ) → b ≡ true → Marks g b ws vs → (need g ≤ length ws) × (length vs ≡ length ws) × Work g vs
-marks-yes g true ws vs e m = m
-marks-yes g false ws vs e m = let z : _≡_ {A = ℕ} 0 1 = cc in absurd (omega arith)
 
 -- ---- from the bits to chains: rules' bits are the first, and tokens' lie behind them
 
@@ -46,18 +39,18 @@ module _ (g : Grammar) (x : Excuses) (ws : List ℕ) (first : g .rules .sort .ba
   on-token t (rule l c) = absurd (omega arith)
   on-token t (token u l f m) = let e : u ≡ t = omega arith in rw e at m
 
-  free-rule : (r : ℕ) → r < g .rules .sort .count → Free ws x (g .rules) r → UnusedRule g x r
+  pub free-rule : (r : ℕ) → r < g .rules .sort .count → Free ws x (g .rules) r → UnusedRule g x r
   free-rule r h f =
       let e : g .rules .sort .base + r ≡ r = omega arith in
       record { unreached = λ c. f .off (k .all _ (rule (omega arith) (rw e c))); unexcused = f .unexcused }
 
-  rule-free : (r : ℕ) → r < g .rules .sort .count → UnusedRule g x r → Free ws x (g .rules) r
+  pub rule-free : (r : ℕ) → r < g .rules .sort .count → UnusedRule g x r → Free ws x (g .rules) r
   rule-free r h u = record { off = λ o. u .unreached (on-rule r h _ (omega arith) (k .only (g .rules .sort .base + r) o)); unexcused = u .unexcused }
 
-  free-token : (t : ℕ) → t < g .tokens .sort .count → Free ws x (g .tokens) t → UnusedToken g x t
+  pub free-token : (t : ℕ) → t < g .tokens .sort .count → Free ws x (g .tokens) t → UnusedToken g x t
   free-token t h f = record { unreached = λ c. f .off (k .all _ (token t h refl c)); unexcused = f .unexcused }
 
-  token-free : (t : ℕ) → t < g .tokens .sort .count → UnusedToken g x t → Free ws x (g .tokens) t
+  pub token-free : (t : ℕ) → t < g .tokens .sort .count → UnusedToken g x t → Free ws x (g .tokens) t
   token-free t h u = record { off = λ o. u .unreached (on-token t (k .only _ o)); unexcused = u .unexcused }
 
   lists-are : Lists (Free ws x (g .rules)) (Free ws x (g .tokens)) (g .rules .sort .count) (g .tokens .sort .count) → Lists (UnusedRule g x) (UnusedToken g x) (g .rules .sort .count) (g .tokens .sort .count)
@@ -72,14 +65,58 @@ module _ (g : Grammar) (x : Excuses) (ws : List ℕ) (first : g .rules .sort .ba
   crowded-are f = record { lists = lists-are (f .lists); room = f .room }
 
 -- what marking and then listing come to: the rows, or no room for them, and nothing else
-module _ (g : Grammar) (x : Excuses) (ws₀ ws : List ℕ) (first : g .rules .sort .base ≡ 0) (behind : g .rules .sort .count ≤ g .tokens .sort .base) (m : (need g ≤ length ws₀) × (length ws ≡ length ws₀) × Work g ws) (l : Listing) (out₀ out : List ℕ) (b : ByBits ws x (g .rules) (g .tokens) l out₀ out) where
-  pub listed-rows : (n : ℕ) → l ≡ Unused n → ValidReport g x l ws₀ ws out₀ out
-  listed-rows n e = rw e (record { words = m .0; size = m .1; work = m .2; filled = filled-are g x ws first behind (m .2) (rw e at b) })
+module _ (g : Grammar) (x : Excuses) (ws₀ ws : List ℕ) (first : g .rules .sort .base ≡ 0) (behind : g .rules .sort .count ≤ g .tokens .sort .base) (m : Marks g true ws₀ ws) where
+  listed : (l : Listing) (vs out₀ out : List ℕ) → ByBits ws x (g .rules) (g .tokens) l out₀ out → BitsLeft l ws vs → ValidReport g x l ws₀ vs out₀ out
+  listed (Unused n) vs out₀ out b k = rw k (record { words = m .0; size = m .1; work = m .2; filled = filled-are g x ws first behind (m .2) b })
+  listed OfUnsound vs out₀ out b k = absurd b
+  listed (OfInvalid f) vs out₀ out b k = absurd b
+  listed NoWords vs out₀ out b k = absurd b
+  listed NoRoom vs out₀ out b k = (m .0, crowded-are g x ws first behind (m .2) (b .0), record { work = k ∙ ap (λ n. replicate n 0) (m .1); cells = b .1 })
 
-  pub listed-crowded : (vs : List ℕ) → l ≡ NoRoom → vs ≡ zeroed ws → ValidReport g x l ws₀ vs out₀ out
-  listed-crowded vs e z =
-      let c = rw e at b in
-      rw e (m .0, crowded-are g x ws first behind (m .2) (c .0), record { work = z ∙ ap (λ n. replicate n 0) (m .1); cells = c .1 })
+-- ---- the marking by itself
+
+-- all is marked of a valid reading only
+told-marked : (v : Validity) (g : Grammar) (m : Marking) (ws₀ ws : List ℕ) → m ≡ AllMarked → MarkTold v g m ws₀ ws → (v ≡ Valid) × Marks g true ws₀ ws
+told-marked Valid g AllMarked ws₀ ws e k = (refl, k)
+told-marked Valid g MarksUnsound ws₀ ws e k = absurd k
+told-marked Valid g (MarksInvalid f) ws₀ ws e k = absurd k
+told-marked Valid g MarksNoWords ws₀ ws e k = let z : _≡_ {A = ℕ} 0 1 = cc in absurd (omega arith)
+told-marked UnsoundTables g m ws₀ ws e k = let p = k .0 in let z : _≡_ {A = ℕ} 0 1 = cc in absurd (omega arith)
+told-marked (Invalid f) g m ws₀ ws e k = let p = k .0 in let z : _≡_ {A = ℕ} 0 1 = cc in absurd (omega arith)
+
+-- a refusal of the marking is that of the report
+abbrev pub refusalOf : Marking → Listing
+refusalOf AllMarked = Unused 0
+refusalOf MarksUnsound = OfUnsound
+refusalOf (MarksInvalid f) = OfInvalid f
+refusalOf MarksNoWords = NoWords
+
+told-refused : (v : Validity) (g : Grammar) (x : Excuses) (m : Marking) (ws₀ ws out₀ out : List ℕ) → (m ≡ AllMarked → ⊥) → MarkTold v g m ws₀ ws → out ≡ zeroed out₀ → Told v g x (refusalOf m) ws₀ ws out₀ out
+told-refused Valid g x AllMarked ws₀ ws out₀ out h k z = absurd (h refl)
+told-refused Valid g x MarksUnsound ws₀ ws out₀ out h k z = absurd k
+told-refused Valid g x (MarksInvalid f) ws₀ ws out₀ out h k z = absurd k
+told-refused Valid g x MarksNoWords ws₀ ws out₀ out h k z = (k .0, record { work = k .1; cells = z })
+told-refused UnsoundTables g x m ws₀ ws out₀ out h k z = (rw (k .0) refl, record { work = k .1; cells = z })
+told-refused (Invalid f) g x m ws₀ ws out₀ out h k z = (rw (k .0) refl, record { work = k .1; cells = z })
+
+-- the marking of a valid reading allows one outcome,
+valid-marking-one : (g : Grammar) (a b : Marking) (ws₀ ws vs : List ℕ) → ValidMarking g a ws₀ ws → ValidMarking g b ws₀ vs → (a ≡ b) × (ws ≡ vs)
+valid-marking-one g AllMarked AllMarked ws₀ ws vs p q = (refl, work-one g ws vs (p .1 ∙ sym (q .1)) (p .2) (q .2))
+valid-marking-one g MarksNoWords MarksNoWords ws₀ ws vs p q = (refl, p .1 ∙ sym (q .1))
+valid-marking-one g AllMarked MarksNoWords ws₀ ws vs p q = absurd (omega (arith, p .0, q .0))
+valid-marking-one g MarksNoWords AllMarked ws₀ ws vs p q = absurd (omega (arith, p .0, q .0))
+valid-marking-one g MarksUnsound b ws₀ ws vs p q = absurd p
+valid-marking-one g (MarksInvalid f) b ws₀ ws vs p q = absurd p
+valid-marking-one g AllMarked MarksUnsound ws₀ ws vs p q = absurd q
+valid-marking-one g AllMarked (MarksInvalid f) ws₀ ws vs p q = absurd q
+valid-marking-one g MarksNoWords MarksUnsound ws₀ ws vs p q = absurd q
+valid-marking-one g MarksNoWords (MarksInvalid f) ws₀ ws vs p q = absurd q
+
+-- and so does that of any other
+mark-told-one : (v : Validity) (g : Grammar) (a b : Marking) (ws₀ ws vs : List ℕ) → MarkTold v g a ws₀ ws → MarkTold v g b ws₀ vs → (a ≡ b) × (ws ≡ vs)
+mark-told-one Valid g a b ws₀ ws vs p q = valid-marking-one g a b ws₀ ws vs p q
+mark-told-one UnsoundTables g a b ws₀ ws vs p q = (p .0 ∙ sym (q .0), p .1 ∙ sym (q .1))
+mark-told-one (Invalid f) g a b ws₀ ws vs p q = (p .0 ∙ sym (q .0), p .1 ∙ sym (q .1))
 
 -- ---- any two outcomes are equal
 
@@ -162,14 +199,32 @@ module _ (src : List ℕ) (c : Counts) (g : Singles) (T : Tables) (X : Indexes) 
       let s = sound-iff src c g T X .0 (validity-first src c g T X .0 .0 v .0) .indexes in
       (s .tokens, s .rules)
 
-  pub reported-valid : (l : Listing) (ws₀ ws out₀ out : List ℕ) → validity src c g T X ≡ Valid → ValidReport grammar excuses l ws₀ ws out₀ out → Reported src c g T X l ws₀ ws out₀ out
-  reported-valid l ws₀ ws out₀ out v p = rw v p
+  -- what was marked, and then listed
+  pub report-listed : (m : Marking) (l : Listing) (ws₀ ws vs out₀ out : List ℕ) → m ≡ AllMarked → MarkedBits src c g T X m ws₀ ws → ByBits ws excuses (grammar .rules) (grammar .tokens) l out₀ out → BitsLeft l ws vs → Reported src c g T X l ws₀ vs out₀ out
+  report-listed m l ws₀ ws vs out₀ out e k b q =
+      let y = told-marked (validity src c g T X) grammar m ws₀ ws e k in
+      rw (y .0) (listed grammar excuses ws₀ ws refl (omega arith) (y .1) l vs out₀ out b q)
 
-  pub reported-unsound : (ws₀ ws out₀ out : List ℕ) → validity src c g T X ≡ UnsoundTables → ws ≡ zeroed ws₀ → out ≡ zeroed out₀ → Reported src c g T X OfUnsound ws₀ ws out₀ out
-  reported-unsound ws₀ ws out₀ out v p q = rw v (refl, record { work = p; cells = q })
+  -- what was not
+  pub report-refused : (m : Marking) (ws₀ ws out₀ out : List ℕ) → (m ≡ AllMarked → ⊥) → MarkedBits src c g T X m ws₀ ws → out ≡ zeroed out₀ → Reported src c g T X (refusalOf m) ws₀ ws out₀ out
+  report-refused = told-refused (validity src c g T X) grammar excuses
 
-  pub reported-flaw : (f : Flaw) (ws₀ ws out₀ out : List ℕ) → validity src c g T X ≡ Invalid f → ws ≡ zeroed ws₀ → out ≡ zeroed out₀ → Reported src c g T X (OfInvalid f) ws₀ ws out₀ out
-  reported-flaw f ws₀ ws out₀ out v p q = rw v (refl, record { work = p; cells = q })
+  pub marked-valid : (m : Marking) (ws₀ ws : List ℕ) → validity src c g T X ≡ Valid → ValidMarking grammar m ws₀ ws → MarkedBits src c g T X m ws₀ ws
+  marked-valid m ws₀ ws v p = rw v p
+
+  pub marked-unsound : (ws₀ ws : List ℕ) → validity src c g T X ≡ UnsoundTables → ws ≡ zeroed ws₀ → MarkedBits src c g T X MarksUnsound ws₀ ws
+  marked-unsound ws₀ ws v p = rw v (refl, p)
+
+  pub marked-flaw : (f : Flaw) (ws₀ ws : List ℕ) → validity src c g T X ≡ Invalid f → ws ≡ zeroed ws₀ → MarkedBits src c g T X (MarksInvalid f) ws₀ ws
+  marked-flaw f ws₀ ws v p = rw v (refl, p)
+
+  -- the marking's contract allows one outcome only
+  pub marking-one : (ws₀ : List ℕ) (a b : Marking) (ws vs : List ℕ) → MarkedBits src c g T X a ws₀ ws → MarkedBits src c g T X b ws₀ vs → (a ≡ b) × (ws ≡ vs)
+  marking-one ws₀ a b ws vs = mark-told-one (validity src c g T X) grammar a b ws₀ ws vs
+
+  -- a marking is given of a valid reading with words enough, and then the bits are the used rows
+  pub all-marked : (ws₀ ws : List ℕ) → MarkedBits src c g T X AllMarked ws₀ ws → (validity src c g T X ≡ Valid) × Marks grammar true ws₀ ws
+  all-marked ws₀ ws = told-marked (validity src c g T X) grammar AllMarked ws₀ ws refl
 
   -- the contract allows one outcome only
   pub reported-one : (ws₀ out₀ : List ℕ) (a b : Listing) (ws vs out out' : List ℕ) → Reported src c g T X a ws₀ ws out₀ out → Reported src c g T X b ws₀ vs out₀ out' → _≡_ {A = Outcome} (record { answer = a; work = ws; cells = out }) (record { answer = b; work = vs; cells = out' })
@@ -177,6 +232,15 @@ module _ (src : List ℕ) (c : Counts) (g : Singles) (T : Tables) (X : Indexes) 
 
   pub reported-rows : (n : ℕ) (ws₀ ws out₀ out : List ℕ) → Reported src c g T X (Unused n) ws₀ ws out₀ out → Accepted grammar excuses n ws₀ ws out₀ out
   reported-rows n ws₀ ws out₀ out = told-rows grammar excuses ws₀ out₀ (validity src c g T X) n ws out
+
+  -- "writes the report's bits": those of a report that is given are those that the marking gives
+  pub report-marks : (n : ℕ) (ws₀ ws out₀ out : List ℕ) → Reported src c g T X (Unused n) ws₀ ws out₀ out → MarkedBits src c g T X AllMarked ws₀ ws
+  report-marks n ws₀ ws out₀ out p = go (validity src c g T X) p
+    where
+      go : (v : Validity) → Told v grammar excuses (Unused n) ws₀ ws out₀ out → MarkTold v grammar AllMarked ws₀ ws
+      go Valid q = (q .words, q .size, q .work)
+      go UnsoundTables q = let e = q .0 in let z : _≡_ {A = ℕ} 0 1 = cc in absurd (omega arith)
+      go (Invalid f) q = let e = q .0 in let z : _≡_ {A = ℕ} 0 1 = cc in absurd (omega arith)
 
   -- a valid reading, words and room enough for every row: the report is given
   pub report-room : (l : Listing) (ws₀ ws out₀ out : List ℕ) → validity src c g T X ≡ Valid → need grammar ≤ length ws₀ → (grammar .rules .sort .count + grammar .tokens .sort .count) * 2 ≤ length out₀ → Reported src c g T X l ws₀ ws out₀ out → (n : ℕ) × (l ≡ Unused n)

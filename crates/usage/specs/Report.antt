@@ -16,9 +16,11 @@ use Rattle.validation.specs.declared.Validity.{Validity}
 use Rattle.validation.specs.declared.Validity.the-variants.{Valid, UnsoundTables, Invalid}
 use Rattle.validation.specs.Faults.{flawNumbers, validity}
 use Rattle.bits.specs.Bits.{bit}
-use Rattle.reach.specs.Reach.{Named, named, ruleSort, tokenSort, Grammar, grammarOf, need, UsedRule, UsedToken, Work}
+use Rattle.reach.specs.Reach.{Named, named, ruleSort, tokenSort, Grammar, grammarOf, need, UsedRule, UsedToken, Work, Marks}
 use Rattle.usage.specs.declared.Listing.{Listing}
 use Rattle.usage.specs.declared.Listing.the-variants.{Unused, OfUnsound, OfInvalid, NoWords, NoRoom}
+use Rattle.usage.specs.declared.Marking.{Marking}
+use Rattle.usage.specs.declared.Marking.the-variants.{AllMarked, MarksUnsound, MarksInvalid, MarksNoWords}
 
 -- number, place, table number (0 unless 42) and count: "44, then (report) validate's number, then 42 for 11 [..], then for its output. Each also answers a count; a refusal zeroes it"
 abbrev pub listingNumbers : Listing → List ℕ
@@ -27,6 +29,13 @@ listingNumbers OfUnsound = 44 ∷ 0 ∷ 0 ∷ 0 ∷ 0 ∷ []
 listingNumbers (OfInvalid f) = flawNumbers f ++ (0 ∷ 0 ∷ [])
 listingNumbers NoWords = 42 ∷ 0 ∷ 0 ∷ 11 ∷ 0 ∷ []
 listingNumbers NoRoom = 42 ∷ 0 ∷ 0 ∷ 12 ∷ 0 ∷ []
+
+-- the same of the marking, which answers no count: "with the report's refusals except the one for its output" (document 02, request Thirteen)
+abbrev pub markingNumbers : Marking → List ℕ
+markingNumbers AllMarked = 0 ∷ 0 ∷ 0 ∷ 0 ∷ []
+markingNumbers MarksUnsound = 44 ∷ 0 ∷ 0 ∷ 0 ∷ []
+markingNumbers (MarksInvalid f) = flawNumbers f ++ (0 ∷ [])
+markingNumbers MarksNoWords = 42 ∷ 0 ∷ 0 ∷ 11 ∷ []
 
 -- a yes or no says whether P
 abbrev pub Says : Bool → Type 0 → Type 0
@@ -145,6 +154,22 @@ abbrev pub Reported : List ℕ → Counts → Singles → Tables → Indexes →
 Reported src c g T X l ws₀ ws out₀ out =
     Told (validity src c g T X) (grammarOf src c (g .start) (T .t1) (T .t7) (T .t8) (T .t9)) (excusesOf src c (T .t4) (T .t6)) l ws₀ ws out₀ out
 
+-- "A marking without the list writes the report's bits" (document 02, request Thirteen): of a valid reading the used rows, or zeros where there are too few words
+abbrev pub ValidMarking : Grammar → Marking → List ℕ → List ℕ → Type 0
+ValidMarking g AllMarked ws₀ ws = Marks g true ws₀ ws
+ValidMarking g MarksUnsound ws₀ ws = ⊥
+ValidMarking g (MarksInvalid f) ws₀ ws = ⊥
+ValidMarking g MarksNoWords ws₀ ws = Marks g false ws₀ ws
+
+-- 44 and validate's number come first here too, "each leaving the bits zero"
+abbrev pub MarkTold : Validity → Grammar → Marking → List ℕ → List ℕ → Type 0
+MarkTold Valid g m ws₀ ws = ValidMarking g m ws₀ ws
+MarkTold UnsoundTables g m ws₀ ws = (m ≡ MarksUnsound) × (ws ≡ zeroed ws₀)
+MarkTold (Invalid f) g m ws₀ ws = (m ≡ MarksInvalid f) × (ws ≡ zeroed ws₀)
+
+abbrev pub MarkedBits : List ℕ → Counts → Singles → Tables → Indexes → Marking → List ℕ → List ℕ → Type 0
+MarkedBits src c g T X m ws₀ ws = MarkTold (validity src c g T X) (grammarOf src c (g .start) (T .t1) (T .t7) (T .t8) (T .t9)) m ws₀ ws
+
 -- ---- what the steps promise
 
 -- row r is to be listed, by the bits
@@ -182,3 +207,11 @@ ByBits ws x d e OfUnsound out₀ out = ⊥
 ByBits ws x d e (OfInvalid f) out₀ out = ⊥
 ByBits ws x d e NoWords out₀ out = ⊥
 ByBits ws x d e NoRoom out₀ out = Crowded (Free ws x d) (Free ws x e) (d .sort .count) (e .sort .count) out₀ × (out ≡ zeroed out₀)
+
+-- the work bits behind the list: zero where it has no room
+abbrev pub BitsLeft : Listing → List ℕ → List ℕ → Type 0
+BitsLeft (Unused n) ws vs = vs ≡ ws
+BitsLeft OfUnsound ws vs = vs ≡ ws
+BitsLeft (OfInvalid f) ws vs = vs ≡ ws
+BitsLeft NoWords ws vs = vs ≡ ws
+BitsLeft NoRoom ws vs = vs ≡ zeroed ws

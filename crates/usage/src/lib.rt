@@ -1,6 +1,5 @@
 // The unused report: rules and tokens that no chain from the start rule reaches and no declaration excuses.
 use grammar::Counts;
-use grammar::Part;
 use grammar::Singles;
 use reach::Sort;
 use tables::Found;
@@ -9,12 +8,9 @@ use validation::Validity;
 ghost use mathlib.Core.Path.{_≡_};
 ghost use Prim.Native.Nat.{ℕ, _+_, _*_, _^_, _<_, _≤_};
 ghost use lib.ListN.{length};
-ghost use Rattle.tables.specs.Layout.{tokens, rules, width};
-ghost use Rattle.index.specs.Index.{Indexed};
 ghost use Rattle.grammar.specs.Sound.{Tables};
-ghost use Rattle.sound.specs.Test.{countAt};
-ghost use Rattle.reach.specs.Reach.{named, ruleSort, tokenSort, grammarOf, Fair, need};
-ghost use Rattle.usage.specs.Report.{Says, Expects, Expected, Implicit, Excused, excusesOf, Free, Counted, Wrote, Room, Written, ByBits, ValidReport, Reported};
+ghost use Rattle.reach.specs.Reach.{named, ruleSort, tokenSort};
+ghost use Rattle.usage.specs.Report.{Says, Expects, Expected, Implicit, Excused, excusesOf, Free, Counted, Wrote, Room, Written, ByBits, BitsLeft, MarkedBits, Reported};
 
 pub enum Listing {
     // How many rows the report has.
@@ -24,6 +20,14 @@ pub enum Listing {
     // Too few words for the work bits, too little room for the report.
     NoWords,
     NoRoom,
+}
+
+pub enum Marking {
+    AllMarked,
+    MarksUnsound,
+    MarksInvalid(Flaw),
+    // Too few words for the work bits.
+    MarksNoWords,
 }
 
 // Whether row `e` of table 6 has the kind and the name.
@@ -77,7 +81,7 @@ fn is_excused(src: &[u8], c: Counts, t4: &[u32], t6: &[u32], kind: u32, a: u32, 
 }
 
 // Whether the row is to be listed.
-fn is_free(
+pub fn is_free(
     w: &[u32],
     src: &[u8],
     c: Counts,
@@ -199,29 +203,19 @@ fn list_unused(
     Listing::Unused(all)
 }
 
-// The report of a valid reading.
-fn list_used(
+// The list behind a marking. Where the report has no room for it the work bits are zero too.
+fn list_marked(
     work: &mut [u32],
     out: &mut [u32],
     src: &[u8],
     c: Counts,
-    start: Part,
     t1: &[u32],
     t4: &[u32],
     t6: &[u32],
     t7: &[u32],
-    t8: &[u32],
-    t9: &[u32],
-    i1: &[u32],
-    i7: &[u32],
 ) -> Listing
-    requires { ⌜ Fair (grammarOf (now src) c start (now t1) (now t7) (now t8) (now t9)) × Indexed (now src) (width tokens) 0 (countAt c tokens) (now t1) (now i1) × Indexed (now src) (width rules) 0 (countAt c rules) (now t7) (now i7) ⌝ }
-    ensures { λ r. ⌜ ValidReport (grammarOf (now (src .entry)) c start (now (t1 .entry)) (now (t7 .entry)) (now (t8 .entry)) (now (t9 .entry))) (excusesOf (now (src .entry)) c (now (t4 .entry)) (now (t6 .entry))) r (now (work .entry)) (now (work .exit)) (now (out .entry)) (now (out .exit)) ⌝ }
+    ensures { λ r. ⌜ ByBits (now (work .entry)) (excusesOf (now (src .entry)) c (now (t4 .entry)) (now (t6 .entry))) (named (now (t7 .entry)) (ruleSort c)) (named (now (t1 .entry)) (tokenSort c)) r (now (out .entry)) (now (out .exit)) × BitsLeft r (now (work .entry)) (now (work .exit)) ⌝ }
 {
-    if !reach::mark_used(work, src, c, start, t1, t7, t8, t9, i1, i7) {
-        tables::zero(out);
-        return Listing::NoWords;
-    }
     let l = list_unused(out, work, src, c, t1, t4, t6, t7);
     match l {
         Listing::NoRoom => {
@@ -235,7 +229,47 @@ fn list_used(
     }
 }
 
-// The unused rules, then the unused tokens; 44 and validate's number come first, and a refusal leaves zeros.
+// A bit for each row that is used, without the list; 44 and validate's number come first, and a refusal leaves zeros.
+pub fn mark(
+    src: &[u8],
+    c: Counts,
+    g: Singles,
+    t1: &[u32],
+    t2: &[u32],
+    t3: &[u32],
+    t4: &[u32],
+    t5: &[u32],
+    t6: &[u32],
+    t7: &[u32],
+    t8: &[u32],
+    t9: &[u32],
+    t10: &[u32],
+    i1: &[u32],
+    i7: &[u32],
+    work: &mut [u32],
+) -> Marking
+    ensures { λ r. ⌜ MarkedBits (now (src .entry)) c g (record { t1 = now (t1 .entry); t2 = now (t2 .entry); t3 = now (t3 .entry); t4 = now (t4 .entry); t5 = now (t5 .entry); t6 = now (t6 .entry); t7 = now (t7 .entry); t8 = now (t8 .entry); t9 = now (t9 .entry); t10 = now (t10 .entry) }) (record { tokens = now (i1 .entry); rules = now (i7 .entry) }) r (now (work .entry)) (now (work .exit)) ⌝ }
+{
+    match validation::validate(src, c, g, t1, t2, t3, t4, t5, t6, t7, t8, t9, t10, i1, i7) {
+        Validity::Valid => {
+            let start = g.start;
+            if reach::mark_used(work, src, c, start, t1, t7, t8, t9, i1, i7) {
+                return Marking::AllMarked;
+            }
+            Marking::MarksNoWords
+        }
+        Validity::UnsoundTables => {
+            tables::zero(work);
+            Marking::MarksUnsound
+        }
+        Validity::Invalid(f) => {
+            tables::zero(work);
+            Marking::MarksInvalid(f)
+        }
+    }
+}
+
+// The unused rules, then the unused tokens: the marking, and then the list. A refusal leaves zeros.
 pub fn report(
     src: &[u8],
     c: Counts,
@@ -257,20 +291,36 @@ pub fn report(
 ) -> Listing
     ensures { λ r. ⌜ Reported (now (src .entry)) c g (record { t1 = now (t1 .entry); t2 = now (t2 .entry); t3 = now (t3 .entry); t4 = now (t4 .entry); t5 = now (t5 .entry); t6 = now (t6 .entry); t7 = now (t7 .entry); t8 = now (t8 .entry); t9 = now (t9 .entry); t10 = now (t10 .entry) }) (record { tokens = now (i1 .entry); rules = now (i7 .entry) }) r (now (work .entry)) (now (work .exit)) (now (out .entry)) (now (out .exit)) ⌝ }
 {
-    match validation::validate(src, c, g, t1, t2, t3, t4, t5, t6, t7, t8, t9, t10, i1, i7) {
-        Validity::Valid => {
-            let start = g.start;
-            list_used(work, out, src, c, start, t1, t4, t6, t7, t8, t9, i1, i7)
-        }
-        Validity::UnsoundTables => {
-            tables::zero(work);
+    match mark(
+        src,
+        c,
+        g,
+        t1,
+        t2,
+        t3,
+        t4,
+        t5,
+        t6,
+        t7,
+        t8,
+        t9,
+        t10,
+        i1,
+        i7,
+        work,
+    ) {
+        Marking::AllMarked => list_marked(work, out, src, c, t1, t4, t6, t7),
+        Marking::MarksUnsound => {
             tables::zero(out);
             Listing::OfUnsound
         }
-        Validity::Invalid(f) => {
-            tables::zero(work);
+        Marking::MarksInvalid(f) => {
             tables::zero(out);
             Listing::OfInvalid(f)
+        }
+        Marking::MarksNoWords => {
+            tables::zero(out);
+            Listing::NoWords
         }
     }
 }

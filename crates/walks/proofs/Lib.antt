@@ -1,0 +1,4 @@
+pub mod Owned
+pub mod Laws
+pub mod Once
+pub mod Theorems
