@@ -2,15 +2,10 @@
    without them each table has a row for each byte. Tables and indexes are lent full of rubbish; a cell past a count that is not zero afterwards is told on standard error, and a slot
    that is taken by more or fewer rows than there are. Each report is walked row by row too, by the bits of the marking; a step that is not the report's is told in the text, where the comparison
    finds it. How many were walked is told on standard error. */
-#include "lent.h"
+#include "text.h"
 
 /* How many readings were walked. */
 static long walked;
-
-static void text(const uint8_t *s, uint32_t from, uint32_t to) {
-    putchar('x');
-    for (uint32_t i = from; i < to; i++) printf("%02x", s[i]);
-}
 
 static void errors(void) {
     uint32_t *r = t[10], count = o[13];
@@ -28,54 +23,6 @@ static void errors(void) {
         }
     free(done);
     if (o[0] >= 1 && o[0] <= 19) printf("error %u %u %u\n", o[0], o[1], o[2]);
-}
-
-static void epp(uint32_t row) {
-    uint32_t *x = t[5] + 6 * row, a[QUILTRUDDER_VALUATION_CELLS];
-    uint8_t *out = malloc(len + 1);
-    quiltrudder_epp_value(src, len, o, TABLES, row, out, len, a);
-    printf("t5 %u %u %u ", row, x[0], x[1]);
-    text(src, x[2], x[3]);
-    printf(" %u %u ", x[4], x[5]);
-    if (a[0] == 0) text(out, 0, a[4]); else printf("refused %u", a[0]);
-    printf("\n");
-    free(out);
-}
-
-static void tables(void) {
-    for (uint32_t i = 0; i < o[4]; i++) { uint32_t *x = t[1] + 3 * i; printf("t1 %u %u %u %u ", i, x[0], x[1], x[2]); text(src, x[0], x[1]); printf("\n"); }
-    for (uint32_t i = 0; i < o[5]; i++) { uint32_t *x = t[2] + 4 * i; printf("t2 %u %u %u %u %u ", i, x[0], x[1], x[2], x[3]); text(src, x[0], x[1]); printf("\n"); }
-    for (int k = 3; k <= 4; k++)
-        for (uint32_t i = 0; i < o[3 + k]; i++) { uint32_t *x = t[k] + 2 * i; printf("t%d %u %u %u ", k, i, x[0], x[1]); text(src, x[0], x[1]); printf("\n"); }
-    for (uint32_t i = 0; i < o[8]; i++) epp(i);
-    for (uint32_t i = 0; i < o[9]; i++) { uint32_t *x = t[6] + 3 * i; printf("t6 %u %u %u %u ", i, x[0], x[1], x[2]); text(src, x[1], x[2]); printf("\n"); }
-    for (uint32_t i = 0; i < o[10]; i++) { uint32_t *x = t[7] + 5 * i; printf("t7 %u %u %u ", i, x[0], x[1]); text(src, x[0], x[1]); printf(" "); if (x[2]) text(src, x[3], x[4]); else printf("-"); printf("\n"); }
-    for (uint32_t i = 0; i < o[11]; i++) {
-        uint32_t *x = t[8] + 13 * i;
-        printf("t8 %u %u %u %u %u %u ", i, x[0], x[1], x[2], x[3], x[4]);
-        if (x[5]) text(src, x[6], x[7]); else printf("-");
-        if (x[8]) { printf(" %u %u ", x[11], x[12]); text(src, x[9], x[10]); } else printf(" - - -");
-        printf("\n");
-    }
-    for (uint32_t i = 0; i < o[12]; i++) { uint32_t *x = t[9] + QUILTRUDDER_T9_WIDTH * i; printf("t9 %u %u %u %u ", i, x[0], x[1], x[2]); text(src, x[1], x[2]); if (x[3] == QUILTRUDDER_NO_ROW) printf(" -\n"); else printf(" %u\n", x[3]); }
-}
-
-static void part(const char *what, const uint32_t *x) {
-    printf("%s ", what);
-    if (x[0]) text(src, x[1], x[2]); else printf("-");
-    printf("\n");
-}
-
-static void singles(void) {
-    if (o[14]) { printf("start %u %u ", o[15], o[16]); text(src, o[15], o[16]); printf("\n"); } else printf("start - - -\n");
-    for (int k = 0; k < 2; k++) {
-        uint32_t *x = o + 17 + 5 * k;
-        const char *what = k ? "expect-rr" : "expect";
-        if (x[0]) printf("%s %llu %u %u\n", what, (unsigned long long)x[1] | (unsigned long long)x[2] << 32, x[3], x[4]); else printf("%s - - -\n", what);
-    }
-    if (o[27]) { printf("param "); text(src, o[28], o[29]); printf(" "); text(src, o[30], o[31]); printf("\n"); } else printf("param - -\n");
-    part("generics", o + 32);
-    part("programs", o + 35);
 }
 
 /* An answer at 0..0 is on line 1, column 1. */
@@ -197,7 +144,7 @@ int main(int argc, char **argv) {
         printf("counts");
         for (int k = 1; k <= 10; k++) printf(" %u", o[3 + k]);
         printf("\n");
-        if (!fatal) tables();
+        if (!fatal) tables(1);
         for (uint32_t i = 0; i < o[13]; i++) { uint32_t *x = t[10] + 5 * i; printf("t10 %u %u %u %u %u %u\n", i, x[0], x[1], x[2], x[3], x[4]); }
         if (!fatal) { singles(); use(); }
         for (int k = 1; k <= 10; k++)

@@ -31,6 +31,13 @@ mod quiltrudder {
             };
         }
         extern "C" {
+            #[rustfmt::skip]
+            pub fn quiltrudder_prune(
+                src: *const u8, src_length: usize, reading: *mut [u32; 40],
+                t1: *mut u32, t1_length: usize, t2: *const u32, t2_length: usize, t3: *mut u32, t3_length: usize, t4: *const u32, t4_length: usize, t5: *mut u32, t5_length: usize,
+                t6: *const u32, t6_length: usize, t7: *mut u32, t7_length: usize, t8: *mut u32, t8_length: usize, t9: *mut u32, t9_length: usize, t10: *const u32, t10_length: usize,
+                i1: *mut u32, i1_length: usize, i7: *mut u32, i7_length: usize, work: *mut u32, work_length: usize, answer: *mut [u32; 6],
+            );
             pub fn quiltrudder_locate(src: *const u8, src_length: usize, at: u32, answer: *mut [u32; 2]);
         }
         declare! {
@@ -208,6 +215,21 @@ mod quiltrudder {
             Ok(Unused { reading: self, work, at: [0; 2] })
         }
 
+        /// Drops the rows that nothing keeps. Says which rules and tokens stayed, by their old rows; after a refusal nothing has changed.
+        pub fn prune(&mut self) -> Result<Vec<Row>, Answer> {
+            let (rules, tokens) = (self.rows(7), self.rows(1));
+            let words = |rows: u32| (rows as usize).div_ceil(32);
+            let mut work = vec![0u32; words(rules) + words(tokens)];
+            let mut cells = [0; 6];
+            call!(quiltrudder_prune, self.src, (&mut self.cells), &mut self.lent, as_mut_ptr, (work.as_mut_ptr(), work.len(), &mut cells));
+            if cells[0] != 0 {
+                return Err(answer(cells));
+            }
+            let stayed = |first: usize, row: u32| work[first + row as usize / 32] >> (row % 32) & 1 == 1;
+            let tokens = (0..tokens).filter(|&row| stayed(words(rules), row)).map(Row::Token);
+            Ok((0..rules).filter(|&row| stayed(0, row)).map(Row::Rule).chain(tokens).collect())
+        }
+
         /// The place of the name of a row of table 1 or 7.
         pub fn name_place(&self, table: u32, row: u32) -> (u32, u32) {
             let mut cells = [0; 4];
@@ -360,6 +382,18 @@ mod tests {
         assert_eq!(unused.by_ref().collect::<Vec<_>>(), rows);
         assert_eq!([unused.next(), unused.next(), unused.next()], [None; 3]);
         assert_eq!(load(b"%%s:x;", 1, 8).unused().err().map(|refused| refused.number), Some(32));
+    }
+
+    #[test]
+    fn pruning_keeps_what_is_reached_or_excused() {
+        let mut reading = load(b"%token A B%avoid_insert 'y'\n%expect-unused q%%s:'x';t:A;u:'y';q:'z';", 1, 16);
+        let stayed = [Row::Rule(0), Row::Rule(3), Row::Token(3), Row::Token(4)];
+        assert_eq!(reading.prune().unwrap(), stayed);
+        assert_eq!([1, 3, 6, 7, 8, 9].map(|table| reading.rows(table)), [2, 0, 1, 2, 2, 2]);
+        assert_eq!((reading.name(7, 1), reading.name(1, 1)), (&b"q"[..], &b"z"[..]));
+        assert_eq!((reading.validate().number, reading.report().unwrap()), (0, vec![Row::Token(1)]));
+        assert_eq!(reading.prune().unwrap(), [Row::Rule(0), Row::Rule(1), Row::Token(0), Row::Token(1)]);
+        assert_eq!(load(b"%%s:x;", 1, 8).prune().unwrap_err().number, 32);
     }
 
     #[test]

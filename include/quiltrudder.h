@@ -1,5 +1,5 @@
 /* Quiltrudder for C: loading a Yacc specification (it is read, and what was read is validated), validating tables from elsewhere, the list of all faults, the unused report, its marking by itself, the unused
- * rows one by one, the name of a row, the value of an `%epp` row, and line and column of a place. Each function's contract is proved; the comments here say what the contracts say.
+ * rows one by one, pruning, the name of a row, the value of an `%epp` row, and line and column of a place. Each function's contract is proved; the comments here say what the contracts say.
  *
  * A slice is a pointer and a length, the length counted in elements. A pointer is never null, also where the length is 0, and no memory that a
  * function writes overlaps any other that it is lent. That is all a caller owes: every function takes any bytes, numbers and lengths, and ends. It
@@ -60,6 +60,7 @@ extern "C" {
 #define QUILTRUDDER_LISTING_CELLS 8
 #define QUILTRUDDER_MARKING_CELLS 6
 #define QUILTRUDDER_NEXT_CELLS 8
+#define QUILTRUDDER_PRUNING_CELLS 6
 #define QUILTRUDDER_PLACE_CELLS 4
 #define QUILTRUDDER_VALUATION_CELLS 8
 #define QUILTRUDDER_SPOT_CELLS 2
@@ -81,6 +82,8 @@ extern "C" {
 #define QUILTRUDDER_MARKING_COLUMN 5
 #define QUILTRUDDER_NEXT_LINE 6
 #define QUILTRUDDER_NEXT_COLUMN 7
+#define QUILTRUDDER_PRUNING_LINE 4
+#define QUILTRUDDER_PRUNING_COLUMN 5
 #define QUILTRUDDER_PLACE_LINE 2
 #define QUILTRUDDER_PLACE_COLUMN 3
 #define QUILTRUDDER_SPOT_LINE 0
@@ -292,6 +295,31 @@ void quiltrudder_next_unused(
     const uint32_t *work, size_t work_length,
     uint32_t at[QUILTRUDDER_STANDING_CELLS],
     uint32_t answer[QUILTRUDDER_NEXT_CELLS]);
+
+/* Drops the rows of a valid reading that nothing keeps. Rows stay for the start rule, for each rule that %expect-unused excuses and for every rule that a chain of
+ * productions from one of these reaches, with their productions and symbols; for the tokens that those use, as the report has it; and for the tokens that %expect-unused or
+ * %implicit_tokens excuses. The rows of tables 3 and 5 whose name is that of a token that goes go with it; tables 2, 4, 6 and 10 stay as they are. What is left closes up in its old order, the
+ * rows freed are zero, row numbers, ranges of symbols and both indexes follow, and the ten counts in `reading` are rewritten; nothing else in `reading` changes. `work` holds a bit for each
+ * rule and token that stayed, by its old number, laid out as for the report. What is left is a valid reading, which the other functions take; pruning it again changes nothing.
+ *
+ * Number 0; 44; validate's number and place; 42 with table 11 where `work` has too few words. After a refusal nothing is changed but `work`, which is zero. */
+void quiltrudder_prune(
+    const uint8_t *src, size_t src_length,
+    uint32_t reading[QUILTRUDDER_READING_CELLS],
+    uint32_t *t1, size_t t1_length,
+    const uint32_t *t2, size_t t2_length,
+    uint32_t *t3, size_t t3_length,
+    const uint32_t *t4, size_t t4_length,
+    uint32_t *t5, size_t t5_length,
+    const uint32_t *t6, size_t t6_length,
+    uint32_t *t7, size_t t7_length,
+    uint32_t *t8, size_t t8_length,
+    uint32_t *t9, size_t t9_length,
+    const uint32_t *t10, size_t t10_length,
+    uint32_t *i1, size_t i1_length,
+    uint32_t *i7, size_t i7_length,
+    uint32_t *work, size_t work_length,
+    uint32_t answer[QUILTRUDDER_PRUNING_CELLS]);
 
 /* The place of the name of a row of table 1 or 7: from, to, line, column. 0, 0, 1, 1 for another table, a row that is not below the table's count, or unsound
  * tables. The source's bytes at that place are the name. */

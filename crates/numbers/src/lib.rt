@@ -1,6 +1,7 @@
 // Each operation's answer as document 01's number, place and table number.
 use grammar::Told;
 use loading::Judgement;
+use pruning::Pruning;
 use usage::Listing;
 use usage::Marking;
 use validation::FaultListing;
@@ -13,6 +14,7 @@ ghost use lib.ListN.{take, getD};
 ghost use Rattle.validation.specs.Faults.{flawNumbers, validityNumbers};
 ghost use Rattle.validation.specs.Walk.{faultListingNumbers};
 ghost use Rattle.usage.specs.Report.{listingNumbers, markingNumbers};
+ghost use Rattle.pruning.specs.Pruned.{pruningNumbers};
 ghost use Rattle.values.specs.Value.{valuationNumbers};
 ghost use Rattle.loading.specs.Load.{judgementNumbers};
 ghost use Rattle.numbers.specs.Numbers.{toldNumbers};
@@ -164,6 +166,32 @@ pub fn of_marking(m: Marking) -> Told
         },
         Marking::MarksInvalid(f) => of_flaw(f),
         Marking::MarksNoWords => Told {
+            number: 42,
+            from: 0,
+            to: 0,
+            table: 11,
+        },
+    }
+}
+
+pub fn of_pruning(p: Pruning) -> Told
+    ensures { λ r. ⌜ toldNumbers r ≡ pruningNumbers p ⌝ }
+{
+    match p {
+        Pruning::AllPruned => Told {
+            number: 0,
+            from: 0,
+            to: 0,
+            table: 0,
+        },
+        Pruning::PruningUnsound => Told {
+            number: 44,
+            from: 0,
+            to: 0,
+            table: 0,
+        },
+        Pruning::PruningInvalid(f) => of_flaw(f),
+        Pruning::PruningNoWords => Told {
             number: 42,
             from: 0,
             to: 0,

@@ -39,6 +39,8 @@ use Rattle.validation.specs.Walk.{AllFaults, faultListing, faultListingNumbers}
 use Rattle.usage.specs.declared.Listing.{Listing}
 use Rattle.usage.specs.declared.Marking.{Marking}
 use Rattle.usage.specs.Report.{listingNumbers, markingNumbers, Reported, MarkedBits}
+use Rattle.pruning.specs.declared.Pruning.{Pruning}
+use Rattle.pruning.specs.Pruned.{pruningNumbers, Prunings}
 use Rattle.walks.specs.declared.Next.{Next}
 use Rattle.walks.specs.declared.Standing.{Standing}
 use Rattle.walks.specs.Walk.{nextNumbers, nextSpot, Advanced}
@@ -46,7 +48,7 @@ use Rattle.names.specs.Name.{nowhere, rowPlace, namePlace}
 use Rattle.values.specs.declared.Valuation.{Valuation}
 use Rattle.values.specs.Value.{valuationNumbers, Valued, eppValue}
 use Rattle.numbers.specs.Numbers.{toldNumbers}
-use Rattle.quiltrudder.specs.Face.{halves, answerSpot, spotCells, loadingNumbers, LoadFace, loadFaceOf, loadFace, countsOf, partOf, expectOf, paramOf, singlesOf, validityCells, validateFace, FaultsFace, countedCells, faultListingCells, faultsFaceOf, faultsFace, ReportFace, MarkFace, standingOf, standingCells, NextFace, nameAt, nameCells, nameFace, ValueFace, valuationCells, valueFaceOf, valueFace}
+use Rattle.quiltrudder.specs.Face.{halves, answerSpot, spotCells, loadingNumbers, LoadFace, loadFaceOf, loadFace, countsOf, partOf, expectOf, paramOf, singlesOf, validityCells, validateFace, FaultsFace, countedCells, faultListingCells, faultsFaceOf, faultsFace, ReportFace, MarkFace, standingOf, standingCells, NextFace, readingAfter, PruneFace, nameAt, nameCells, nameFace, ValueFace, valuationCells, valueFaceOf, valueFace}
 
 -- a single by its flag
 module _ (f a b : ℕ) where
@@ -139,6 +141,11 @@ module _ (src m : List ℕ) (T : Tables) (X : Indexes) (c : Counts) (g : Singles
 
   pub face-next : (ws at₀ a : List ℕ) (n : Next) (u : Standing) (s : Spot) → Advanced src c g T X ws (standingOf at₀) n u → s ≡ nextSpot src n → a ≡ nextNumbers n ++ spotCells s → NextFace src m T X ws at₀ (standingCells u) a
   face-next ws at₀ a n u s p hs ha = record { next = n; stands = u; advanced = rw (hc, hg) at p; record-is = refl; numbers = ha ∙ ap (λ (x : Spot). nextNumbers n ++ spotCells x) hs }
+
+  pub face-prune : (m' : List ℕ) (d : Counts) (T' : Tables) (X' : Indexes) (ws₀ ws : List ℕ) (k : Pruning) (t : Told) (s : Spot) → Prunings src g k (record { counts = c; tables = T; indexes = X; work = ws₀ }) (record { counts = d; tables = T'; indexes = X'; work = ws })
+      → m' ≡ readingAfter k d m → toldNumbers t ≡ pruningNumbers k → s ≡ answerSpot src (pruningNumbers k) → PruneFace src m m' T T' X X' ws₀ ws (toldNumbers t ++ spotCells s)
+  face-prune m' d T' X' ws₀ ws k t s p hm ht hs =
+      record { pruning = k; counts = d; pruned = rw (hc, hg) at p; reading = hm; numbers = ap (λ (x : List ℕ). x ++ spotCells s) ht ∙ ap (λ (x : Spot). pruningNumbers k ++ spotCells x) hs }
 
   pub face-name : (table row : ℕ) (a : List ℕ) → a ≡ nameCells src (nameAt src c g T X table row) → a ≡ nameFace src m T X table row
   face-name table row a h = h ∙ rw (hc, hg)

@@ -26,12 +26,15 @@ use Rattle.loading.specs.Load.{judgementNumbers, LoadResult}
 use Rattle.sound.specs.Test.{soundTest}
 use Rattle.usage.specs.declared.Marking.{Marking}
 use Rattle.usage.proofs.Outcome.{Outcome, reported-one, marking-one}
+use Rattle.pruning.specs.declared.Pruning.{Pruning}
+use Rattle.pruning.specs.Pruned.{Lent}
+use Rattle.pruning.proofs.Outcome.{pruning-one}
 use Rattle.walks.specs.declared.Next.{Next}
 use Rattle.walks.specs.declared.Standing.{Standing}
 use Rattle.walks.proofs.Once.{next-one}
 use Rattle.names.specs.Name.{nowhere, namePlace, partAt, nameOf}
 use Rattle.names.proofs.Laws.{part-none}
-use Rattle.quiltrudder.specs.Face.{expectCells, singlesCells, countsCells, loadingCells, loadingNumbers, countsOf, partOf, expectOf, paramOf, singlesOf, listingCells, ReportFace, markingCells, MarkFace, standingOf, standingCells, nextCells, NextFace, nameAt}
+use Rattle.quiltrudder.specs.Face.{expectCells, singlesCells, countsCells, loadingCells, loadingNumbers, countsOf, partOf, expectOf, paramOf, singlesOf, listingCells, ReportFace, markingCells, MarkFace, standingOf, standingCells, nextCells, NextFace, pruningCells, readingAfter, PruneFace, nameAt}
 use Rattle.quiltrudder.proofs.Cells.{three, five, part-three, expect-five, param-five}
 
 -- each single by itself
@@ -83,7 +86,7 @@ module _ (h a e r p n q z : List ℕ) (c : Counts) (hh : h ≡ four h) where
       → singlesOf ((h ++ countsCells c ++ (a ++ e ++ r ++ p ++ n ++ q)) ++ z) ≡ g
   looked-singles ha he hr hp hn hq g ks ke kr kp kn kq = rw (hh, ha, he, hr, hp, hn, hq) (rw (ks, ke, kr, kp, kn, kq))
 
-cells-at : (c : Counts) (k : ℕ) → k < 10 → getD (countsCells c) k 0 ≡ getD (c .n) k 0
+pub cells-at : (c : Counts) (k : ℕ) → k < 10 → getD (countsCells c) k 0 ≡ getD (c .n) k 0
 cells-at c zero h = refl
 cells-at c (suc zero) h = refl
 cells-at c (suc (suc zero)) h = refl
@@ -123,13 +126,13 @@ name-part src c g T X table row = go (soundTest src c g T X)
     go true = refl
     go false = sym (part-none src)
 
--- "Any two outcomes allowed by it are proved equal": of the report; the contracts of the others but the two below are equations.
+-- "Any two outcomes allowed by it are proved equal": of the report; the contracts of the others but the three below are equations.
 pub report-face-one : (src m : List ℕ) (T : Tables) (X : Indexes) (ws₀ ws vs out₀ out out' a b : List ℕ) → ReportFace src m T X ws₀ ws out₀ out a → ReportFace src m T X ws₀ vs out₀ out' b → (ws ≡ vs) × (out ≡ out') × (a ≡ b)
 report-face-one src m T X ws₀ ws vs out₀ out out' a b p q =
     let e = reported-one src (countsOf m) (singlesOf m) T X ws₀ out₀ (p .listing) (q .listing) ws vs out out' (p .reported) (q .reported) in
     (ap (λ (o : Outcome). o .work) e, ap (λ (o : Outcome). o .cells) e, p .numbers ∙ ap (λ (o : Outcome). listingCells src (o .answer)) e ∙ sym (q .numbers))
 
--- of the marking, and of a step of a walk
+-- of the marking, a step of a walk, and pruning
 pub mark-face-one : (src m : List ℕ) (T : Tables) (X : Indexes) (ws₀ ws vs a b : List ℕ) → MarkFace src m T X ws₀ ws a → MarkFace src m T X ws₀ vs b → (ws ≡ vs) × (a ≡ b)
 mark-face-one src m T X ws₀ ws vs a b p q =
     let e = marking-one src (countsOf m) (singlesOf m) T X ws₀ (p .marking) (q .marking) ws vs (p .marked) (q .marked) in
@@ -139,3 +142,13 @@ pub next-face-one : (src m : List ℕ) (T : Tables) (X : Indexes) (ws at₀ at a
 next-face-one src m T X ws at₀ at at' a b p q =
     let e = next-one src (countsOf m) (singlesOf m) T X ws (standingOf at₀) (p .next) (q .next) (p .stands) (q .stands) (p .advanced) (q .advanced) in
     (p .record-is ∙ ap (λ (s : Standing). standingCells s) (e .1) ∙ sym (q .record-is), p .numbers ∙ ap (λ (n : Next). nextCells src n) (e .0) ∙ sym (q .numbers))
+
+pub prune-face-one : (src m₀ m m' : List ℕ) (T₀ T T' : Tables) (X₀ X X' : Indexes) (ws₀ ws ws' a a' : List ℕ) → PruneFace src m₀ m T₀ T X₀ X ws₀ ws a → PruneFace src m₀ m' T₀ T' X₀ X' ws₀ ws' a' → (m ≡ m') × (T ≡ T') × (X ≡ X') × (ws ≡ ws') × (a ≡ a')
+prune-face-one src m₀ m m' T₀ T T' X₀ X X' ws₀ ws ws' a a' p q =
+    let e = pruning-one src (singlesOf m₀) (record { counts = countsOf m₀; tables = T₀; indexes = X₀; work = ws₀ }) (p .pruning) (q .pruning) _ _ (p .pruned) (q .pruned) in (
+      p .reading ∙ ap (λ (k : Pruning). readingAfter k (p .counts) m₀) (e .0) ∙ ap (λ (l : Lent). readingAfter (q .pruning) (l .counts) m₀) (e .1) ∙ sym (q .reading),
+      ap (λ (l : Lent). l .tables) (e .1),
+      ap (λ (l : Lent). l .indexes) (e .1),
+      ap (λ (l : Lent). l .work) (e .1),
+      p .numbers ∙ ap (λ (k : Pruning). pruningCells src k) (e .0) ∙ sym (q .numbers),
+    )

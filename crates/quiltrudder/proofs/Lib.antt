@@ -5,3 +5,4 @@ pub mod Face
 pub mod Promises
 pub mod Spots
 pub mod Walked
+pub mod Pruned

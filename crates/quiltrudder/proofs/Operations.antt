@@ -32,6 +32,8 @@ use Rattle.usage.specs.Report.{Excuses, Told, Reported, MarkTold, MarkedBits}
 use Rattle.usage.specs.Standing.{UnusedRows, TooMany}
 use Rattle.usage.proofs.Outcome.{report-room}
 use Rattle.usage.proofs.Standing.{report-rows, listed-or-many, listed-in-room, no-room-iff}
+use Rattle.pruning.specs.declared.Pruning.the-variants.{PruningUnsound}
+use Rattle.pruning.specs.Pruned.{Lent, ToldPruning, Prunings}
 use Rattle.walks.specs.declared.Next.{Next}
 use Rattle.walks.specs.declared.Next.the-variants.{NotFitting}
 use Rattle.walks.specs.declared.Standing.{Standing}
@@ -94,6 +96,15 @@ module _ (src : List ℕ) (kind : ℕ) (T : Tables) (X : Indexes) (full : FullLo
       passed (none-next x y a b) e = let z : _≡_ {A = ℕ} 0 1 = cc in omega arith
   next-not-44 ws s n t h k l (unfitting f a b) e = f (record { sound = load-sound src kind T X full; rules-passed = h; tokens-passed = k; words = l })
 
+  -- nor does pruning,
+  pub prune-not-44 : (ws₀ : List ℕ) (b : Lent) → Prunings src (o .singles) PruningUnsound (record { counts = o .counts; tables = o .tables; indexes = o .indexes; work = ws₀ }) b → ⊥
+  prune-not-44 ws₀ b = go (validity src (o .counts) (o .singles) (o .tables) (o .indexes)) refl
+    where
+      go : (v : Validity) → validity src (o .counts) (o .singles) (o .tables) (o .indexes) ≡ v → ToldPruning v src (grammarRead src o) (excusesRead src o) PruningUnsound (record { counts = o .counts; tables = o .tables; indexes = o .indexes; work = ws₀ }) b → ⊥
+      go Valid e p = p
+      go UnsoundTables e p = validate-not-44 e
+      go (Invalid f) e p = let q = p .0 in let z : _≡_ {A = ℕ} 0 1 = cc in omega arith
+
   -- nor the value of an `%epp` row.
   pub value-row-not-44 : (row : ℕ) (out : List ℕ) → row < countAt (o .counts) epps → getD (valuationNumbers (eppValue src (o .counts) (o .singles) (o .tables) (o .indexes) row out .answer)) 0 0 ≡ 44 → ⊥
   value-row-not-44 row out h = value-not-44 src (o .counts) (o .singles) (o .tables) (o .indexes) row out load-passes h (load-values src kind T X row h)
@@ -132,6 +143,6 @@ pub load-report-exactly : (src : List ℕ) (kind : ℕ) (T : Tables) (X : Indexe
 load-report-exactly src kind T X i l ws₀ ws out₀ out e room p =
     report-exactly src kind T X (told FullLoad (sym e) tt) l ws₀ ws out₀ out (load-valid src kind T X i e) room p
 
--- "Any two outcomes allowed by it are proved equal": of a name. `load-one`, `validity-first`, `faults-one`, `reported-one`, `marking-one`, `next-one` and `valued-one` say it of the other operations.
+-- "Any two outcomes allowed by it are proved equal": of a name. `load-one`, `validity-first`, `faults-one`, `reported-one`, `marking-one`, `next-one`, `pruning-one` and `valued-one` say it of the other operations.
 pub name-one : (src : List ℕ) (c : Counts) (g : Singles) (T : Tables) (X : Indexes) (table row : ℕ) (a b : List ℕ) → a ≡ nameOf src c g T X table row → b ≡ nameOf src c g T X table row → a ≡ b
 name-one src c g T X table row a b p q = p ∙ sym q

@@ -41,6 +41,9 @@ use Rattle.usage.specs.declared.Listing.the-variants.{Unused, OfUnsound, OfInva
 use Rattle.usage.specs.declared.Marking.{Marking}
 use Rattle.usage.specs.declared.Marking.the-variants.{AllMarked, MarksUnsound, MarksInvalid, MarksNoWords}
 use Rattle.usage.specs.Report.{listingNumbers, markingNumbers, excusesOf, Told, Reported, MarkTold, MarkedBits}
+use Rattle.pruning.specs.declared.Pruning.{Pruning}
+use Rattle.pruning.specs.declared.Pruning.the-variants.{AllPruned, PruningUnsound, PruningInvalid, PruningNoWords}
+use Rattle.pruning.specs.Pruned.{pruningNumbers, Lent, ToldPruning, Prunings}
 use Rattle.walks.specs.declared.Next.{Next}
 use Rattle.walks.specs.declared.Next.the-variants.{NextUnused, NoneLeft, NotFitting}
 use Rattle.walks.specs.Walk.{nextNumbers}
@@ -49,7 +52,7 @@ use Rattle.values.specs.declared.Valuation.{Valuation}
 use Rattle.values.specs.declared.Valuation.the-variants.{Written, OfUnsoundTables, PastCount, NotString, NoTextRoom}
 use Rattle.values.specs.Value.{valuationNumbers, eppValue}
 use Rattle.names.specs.Name.{nowhere, namePlace}
-use Rattle.quiltrudder.specs.Face.{halves, answerSpot, spotCells, AnswerSpotted, CellsSpotted, singlesCells, countsCells, loadingCells, loadingNumbers, loadFace, countsOf, singlesOf, validateFace, countedCells, faultsFace, ReportFace, MarkFace, NextFace, nameAt, nameFace, valueFace}
+use Rattle.quiltrudder.specs.Face.{halves, answerSpot, spotCells, AnswerSpotted, CellsSpotted, singlesCells, countsCells, loadingCells, loadingNumbers, loadFace, countsOf, singlesOf, validateFace, countedCells, faultsFace, ReportFace, MarkFace, NextFace, PruneFace, nameAt, nameFace, valueFace}
 use Rattle.quiltrudder.proofs.Answers.{flaw-from, validity-from, place-lies}
 use Rattle.quiltrudder.proofs.Cells.{singles-length}
 use Rattle.quiltrudder.proofs.Face.{judgement-four}
@@ -113,7 +116,7 @@ module _ (src : List ℕ) (c : Counts) (g : Singles) (T : Tables) (X : Indexes) 
   report-spotted NoWords ws₀ ws out₀ out p = spotted-first src
   report-spotted NoRoom ws₀ ws out₀ out p = spotted-first src
 
-  -- its marking, a step of a walk,
+  -- its marking, pruning, a step of a walk,
   pub mark-spotted : (k : Marking) (ws₀ ws : List ℕ) → MarkedBits src c g T X k ws₀ ws → AnswerSpotted src (markingNumbers k)
   mark-spotted AllMarked ws₀ ws p = spotted-first src
   mark-spotted MarksUnsound ws₀ ws p = spotted-first src
@@ -124,6 +127,17 @@ module _ (src : List ℕ) (c : Counts) (g : Singles) (T : Tables) (X : Indexes) 
       go UnsoundTables q = let e = q .0 in let z : _≡_ {A = ℕ} 0 1 = cc in absurd (omega arith)
       go (Invalid h) q = let e = q .0 in let k : h ≡ f = cc in ap (λ (x : Flaw). Invalid x) k
   mark-spotted MarksNoWords ws₀ ws p = spotted-first src
+
+  pub prune-spotted : (k : Pruning) (ws₀ : List ℕ) (b : Lent) → Prunings src g k (record { counts = c; tables = T; indexes = X; work = ws₀ }) b → AnswerSpotted src (pruningNumbers k)
+  prune-spotted AllPruned ws₀ b p = spotted-first src
+  prune-spotted PruningUnsound ws₀ b p = spotted-first src
+  prune-spotted (PruningInvalid f) ws₀ b p = told (λ (k : ℕ). Spotted src k (spotAt src k)) (sym (flaw-from f (0 ∷ []))) (flaw-spotted src c g T X f (go (validity src c g T X) p))
+    where
+      go : (v : Validity) → ToldPruning v src (grammarOf src c (g .start) (T .t1) (T .t7) (T .t8) (T .t9)) (excusesOf src c (T .t4) (T .t6)) (PruningInvalid f) (record { counts = c; tables = T; indexes = X; work = ws₀ }) b → v ≡ Invalid f
+      go Valid q = absurd q
+      go UnsoundTables q = let e = q .0 in let z : _≡_ {A = ℕ} 0 1 = cc in absurd (omega arith)
+      go (Invalid h) q = let e = q .0 in let k : h ≡ f = cc in ap (λ (x : Flaw). Invalid x) k
+  prune-spotted PruningNoWords ws₀ b p = spotted-first src
 
   pub next-spotted : (n : Next) → AnswerSpotted src (nextNumbers n)
   next-spotted (NextUnused kd r) = spotted-first src
@@ -185,6 +199,12 @@ marking-four AllMarked = refl
 marking-four MarksUnsound = refl
 marking-four (MarksInvalid f) = flaw-long f (0 ∷ [])
 marking-four MarksNoWords = refl
+
+pruning-four : (k : Pruning) → length (pruningNumbers k) ≡ 4
+pruning-four AllPruned = refl
+pruning-four PruningUnsound = refl
+pruning-four (PruningInvalid f) = flaw-long f (0 ∷ [])
+pruning-four PruningNoWords = refl
 
 next-six : (n : Next) → length (nextNumbers n) ≡ 6
 next-six (NextUnused kd r) = refl
@@ -249,6 +269,12 @@ module _ (src m : List ℕ) (T : Tables) (X : Indexes) where
       let l = markingNumbers (r .marking) in
       let h = marking-four (r .marking) in
       told (λ (x : List ℕ). CellsSpotted src x 1 4) (sym (r .numbers)) (cells-spotted src l 1 4 (getD l 1 0) (answerSpot src l) h (List·getD-append l _ 0 1 (omega (arith, h))) (mark-spotted src (countsOf m) (singlesOf m) T X (r .marking) ws₀ ws (r .marked)))
+
+  pub face-prune-spotted : (m' : List ℕ) (T' : Tables) (X' : Indexes) (ws₀ ws a : List ℕ) → PruneFace src m m' T T' X X' ws₀ ws a → CellsSpotted src a 1 4
+  face-prune-spotted m' T' X' ws₀ ws a r =
+      let l = pruningNumbers (r .pruning) in
+      let h = pruning-four (r .pruning) in
+      told (λ (x : List ℕ). CellsSpotted src x 1 4) (sym (r .numbers)) (cells-spotted src l 1 4 (getD l 1 0) (answerSpot src l) h (List·getD-append l _ 0 1 (omega (arith, h))) (prune-spotted src (countsOf m) (singlesOf m) T X (r .pruning) ws₀ _ (r .pruned)))
 
   pub face-next-spotted : (ws at₀ at a : List ℕ) → NextFace src m T X ws at₀ at a → CellsSpotted src a 1 6
   face-next-spotted ws at₀ at a r =

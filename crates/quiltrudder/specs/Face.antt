@@ -7,6 +7,7 @@ use mathlib.Core.Logic.{_⊎_}
 use lib.Dec.{eqb}
 use lib.ListN.{getD, take}
 use Rattle.scan.specs.declared.Place.{Place}
+use Rattle.tables.specs.Table.{put}
 use Rattle.places.specs.declared.Spot.{Spot}
 use Rattle.places.specs.Places.{Spotted, spotAt}
 use Rattle.grammar.specs.declared.Part.{Part}
@@ -31,6 +32,9 @@ use Rattle.usage.specs.declared.Listing.{Listing}
 use Rattle.usage.specs.declared.Marking.{Marking}
 use Rattle.usage.specs.Report.{listingNumbers, markingNumbers, Excuses, Reported, MarkedBits}
 use Rattle.usage.specs.Standing.{UnusedRows, TooMany}
+use Rattle.pruning.specs.declared.Pruning.{Pruning}
+use Rattle.pruning.specs.declared.Pruning.the-variants.{AllPruned, PruningUnsound, PruningInvalid, PruningNoWords}
+use Rattle.pruning.specs.Pruned.{pruningNumbers, Prunings}
 use Rattle.walks.specs.declared.Next.{Next}
 use Rattle.walks.specs.declared.Standing.{Standing}
 use Rattle.walks.specs.Walk.{nextNumbers, nextSpot, Advanced}
@@ -207,6 +211,25 @@ pub record NextFace (src m : List ℕ) (T : Tables) (X : Indexes) (ws at₀ at a
 pub record FreshFaces (src m : List ℕ) (T : Tables) (X : Indexes) (ws : List ℕ) (N : ℕ) (at said : ℕ → List ℕ) : Type 0 where
   pub begins : at 0 ≡ 0 ∷ 0 ∷ []
   pub calls : (k : ℕ) → k < N → NextFace src m T X ws (at k) (at (suc k)) (said k)
+
+-- pruning: number and place; "table number (0 unless 42)"; line and column
+abbrev pub pruningCells : List ℕ → Pruning → List ℕ
+pruningCells src k = pruningNumbers k ++ spotCells (answerSpot src (pruningNumbers k))
+
+-- a reading's numbers behind it: the ten counts are those that are left, and nothing else changes
+abbrev pub readingAfter : Pruning → Counts → List ℕ → List ℕ
+readingAfter AllPruned d m = put m 4 (countsCells d)
+readingAfter PruningUnsound d m = m
+readingAfter (PruningInvalid f) d m = m
+readingAfter PruningNoWords d m = m
+
+-- from the numbers, tables and indexes at entry to those at exit
+pub record PruneFace (src m₀ m : List ℕ) (T₀ T : Tables) (X₀ X : Indexes) (ws₀ ws answer : List ℕ) : Type 0 where
+  pub pruning : Pruning
+  pub counts : Counts
+  pub pruned : Prunings src (singlesOf m₀) pruning (record { counts = countsOf m₀; tables = T₀; indexes = X₀; work = ws₀ }) (record { counts = counts; tables = T; indexes = X; work = ws })
+  pub reading : m ≡ readingAfter pruning counts m₀
+  pub numbers : answer ≡ pruningCells src pruning
 
 -- the place of a row's name; 0, 0 where "another table number, a row number not below its count or unsound tables give an empty part"
 unfoldable pub nameAt : List ℕ → Counts → Singles → Tables → Indexes → ℕ → ℕ → Place

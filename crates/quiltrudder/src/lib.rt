@@ -1,5 +1,5 @@
 // Quiltrudder's operations: loading a Yacc specification (it is read, and what was read is validated), validating tables from elsewhere, the list of all faults, the unused report, its marking by itself,
-// the unused rows one by one, the name of a row and the value of an `%epp` row, each with line and column of its answer's place, and line and column of any place. None of them requires anything.
+// the unused rows one by one, pruning, the name of a row and the value of an `%epp` row, each with line and column of its answer's place, and line and column of any place. None of them requires anything.
 use grammar::Counts;
 use grammar::Expect;
 use grammar::Param;
@@ -8,6 +8,7 @@ use grammar::Singles;
 use grammar::Told;
 use loading::Judgement;
 use places::Spot;
+use pruning::Pruning;
 use usage::Listing;
 use usage::Marking;
 use validation::FaultListing;
@@ -28,11 +29,12 @@ ghost use Rattle.loading.specs.Load.{judgementNumbers, LoadResult, loadAll};
 ghost use Rattle.validation.specs.Faults.{validityNumbers, validity};
 ghost use Rattle.validation.specs.Walk.{AllFaults, faultListing, faultListingNumbers};
 ghost use Rattle.usage.specs.Report.{listingNumbers, markingNumbers, Reported, MarkedBits};
+ghost use Rattle.pruning.specs.Pruned.{Lent, pruningNumbers, Prunings};
 ghost use Rattle.walks.specs.Walk.{nextNumbers};
 ghost use Rattle.names.specs.Name.{nameOf};
 ghost use Rattle.values.specs.Value.{valuationNumbers, Valued, eppValue};
 ghost use Rattle.numbers.specs.Numbers.{toldNumbers};
-ghost use Rattle.quiltrudder.specs.Face.{halves, answerSpot, spotCells, expectCells, singlesCells, loadingCells, LoadFace, loadFace, countsOf, partOf, expectOf, paramOf, singlesOf, validateFace, FaultsFace, faultsFace, ReportFace, MarkFace, NextFace, nameAt, nameCells, nameFace, ValueFace, valueFace};
+ghost use Rattle.quiltrudder.specs.Face.{halves, answerSpot, spotCells, expectCells, singlesCells, loadingCells, LoadFace, loadFace, countsOf, partOf, expectOf, paramOf, singlesOf, validateFace, FaultsFace, faultsFace, ReportFace, MarkFace, NextFace, readingAfter, PruneFace, nameAt, nameCells, nameFace, ValueFace, valueFace};
 
 // A load's answer, its counts and singles, and line and column of the answer's place.
 pub struct LoadingAt {
@@ -60,6 +62,13 @@ pub struct ListingAt {
 
 pub struct MarkingAt {
     pub answer: Marking,
+    pub spot: Spot,
+}
+
+// Pruning answers the counts that are left, too; after a refusal those that were.
+pub struct PruningAt {
+    pub answer: Pruning,
+    pub counts: Counts,
     pub spot: Spot,
 }
 
@@ -280,6 +289,55 @@ pub fn mark(
     MarkingAt {
         answer,
         spot: spot_of(src, numbers::of_marking(answer)),
+    }
+}
+
+// Drops the rows of a valid reading that neither the start nor an excused rule or token keeps; what is left closes up. `work` holds a bit for each row that stayed, by its old number. Tables 2, 4, 6 and 10 stay as they are.
+pub fn prune(
+    src: &[u8],
+    c: Counts,
+    g: Singles,
+    t1: &mut [u32],
+    t2: &[u32],
+    t3: &mut [u32],
+    t4: &[u32],
+    t5: &mut [u32],
+    t6: &[u32],
+    t7: &mut [u32],
+    t8: &mut [u32],
+    t9: &mut [u32],
+    t10: &[u32],
+    i1: &mut [u32],
+    i7: &mut [u32],
+    work: &mut [u32],
+) -> PruningAt
+    ensures { λ r. ⌜ Prunings (now (src .entry)) g (r .answer) (record { counts = c; tables = record { t1 = now (t1 .entry); t2 = now (t2 .entry); t3 = now (t3 .entry); t4 = now (t4 .entry); t5 = now (t5 .entry); t6 = now (t6 .entry); t7 = now (t7 .entry); t8 = now (t8 .entry); t9 = now (t9 .entry); t10 = now (t10 .entry) }; indexes = record { tokens = now (i1 .entry); rules = now (i7 .entry) }; work = now (work .entry) }) (record { counts = r .counts; tables = record { t1 = now (t1 .exit); t2 = now (t2 .entry); t3 = now (t3 .exit); t4 = now (t4 .entry); t5 = now (t5 .exit); t6 = now (t6 .entry); t7 = now (t7 .exit); t8 = now (t8 .exit); t9 = now (t9 .exit); t10 = now (t10 .entry) }; indexes = record { tokens = now (i1 .exit); rules = now (i7 .exit) }; work = now (work .exit) }) ⌝ }
+    ensures { λ r. ⌜ r .spot ≡ answerSpot (now (src .entry)) (pruningNumbers (r .answer)) ⌝ }
+{
+    let p = pruner::prune(
+        src,
+        c,
+        g,
+        t1,
+        t2,
+        t3,
+        t4,
+        t5,
+        t6,
+        t7,
+        t8,
+        t9,
+        t10,
+        i1,
+        i7,
+        work,
+    );
+    let answer = p.answer;
+    let counts = p.counts;
+    PruningAt {
+        answer,
+        counts,
+        spot: spot_of(src, numbers::of_pruning(answer)),
     }
 }
 
@@ -830,6 +888,81 @@ pub extern "C" fn quiltrudder_next_unused(
     let after = s.at;
     *at = [after.rules, after.tokens];
     *answer = next_cells(next);
+}
+
+// The numbers of a reading behind a pruning: the counts are those that are left.
+fn reading_after(m: &[u32; 40], p: Pruning, d: Counts) -> [u32; 40]
+    ensures { λ r. ⌜ r ≡ readingAfter p d (now (m .entry)) ⌝ }
+{
+    let mut r = *m;
+    match p {
+        Pruning::AllPruned => {
+            r[4] = d.n[0];
+            r[5] = d.n[1];
+            r[6] = d.n[2];
+            r[7] = d.n[3];
+            r[8] = d.n[4];
+            r[9] = d.n[5];
+            r[10] = d.n[6];
+            r[11] = d.n[7];
+            r[12] = d.n[8];
+            r[13] = d.n[9];
+            r
+        }
+        Pruning::PruningUnsound => r,
+        Pruning::PruningInvalid(_) => r,
+        Pruning::PruningNoWords => r,
+    }
+}
+
+// Drops what nothing keeps; the reading's counts are rewritten.
+#[no_mangle]
+pub extern "C" fn quiltrudder_prune(
+    src: &[u8],
+    reading: &mut [u32; 40],
+    t1: &mut [u32],
+    t2: &[u32],
+    t3: &mut [u32],
+    t4: &[u32],
+    t5: &mut [u32],
+    t6: &[u32],
+    t7: &mut [u32],
+    t8: &mut [u32],
+    t9: &mut [u32],
+    t10: &[u32],
+    i1: &mut [u32],
+    i7: &mut [u32],
+    work: &mut [u32],
+    answer: &mut [u32; 6],
+)
+    ensures { λ r. ⌜ PruneFace (now (src .entry)) (now (reading .entry)) (now (reading .exit)) (record { t1 = now (t1 .entry); t2 = now (t2 .entry); t3 = now (t3 .entry); t4 = now (t4 .entry); t5 = now (t5 .entry); t6 = now (t6 .entry); t7 = now (t7 .entry); t8 = now (t8 .entry); t9 = now (t9 .entry); t10 = now (t10 .entry) }) (record { t1 = now (t1 .exit); t2 = now (t2 .entry); t3 = now (t3 .exit); t4 = now (t4 .entry); t5 = now (t5 .exit); t6 = now (t6 .entry); t7 = now (t7 .exit); t8 = now (t8 .exit); t9 = now (t9 .exit); t10 = now (t10 .entry) }) (record { tokens = now (i1 .entry); rules = now (i7 .entry) }) (record { tokens = now (i1 .exit); rules = now (i7 .exit) }) (now (work .entry)) (now (work .exit)) (now (answer .exit)) ⌝ }
+{
+    let c = counts_of(reading);
+    let g = singles_of(reading);
+    let l = prune(
+        src,
+        c,
+        g,
+        t1,
+        t2,
+        t3,
+        t4,
+        t5,
+        t6,
+        t7,
+        t8,
+        t9,
+        t10,
+        i1,
+        i7,
+        work,
+    );
+    let a = l.answer;
+    let s = l.spot;
+    let d = l.counts;
+    *reading = reading_after(reading, a, d);
+    let t = numbers::of_pruning(a);
+    *answer = [t.number, t.from, t.to, t.table, s.line, s.column];
 }
 
 // The place of the name of a row of table 1 or 7, with its line and column.

@@ -22,11 +22,11 @@ pub from-next : {g : Net} {d : Named} {ws : List ℕ} {b c : ℕ} → From g d w
 from-next f n = record { root = f .root; marked = f .marked; chain = next (f .chain) n }
 
 -- what is named lies below the count
-begins-in : (src : List ℕ) (d : Named) (s : Part) (r : ℕ) → Begins src d s r → r < d .sort .count
+pub begins-in : (src : List ℕ) (d : Named) (s : Part) (r : ℕ) → Begins src d s r → r < d .sort .count
 begins-in src d Absent r x = absurd x
 begins-in src d (At a b) r x = x .inside
 
-chain-in : {g : Net} {d : Named} {a b : ℕ} → a < d .sort .count → Chain g d a b → b < d .sort .count
+pub chain-in : {g : Net} {d : Named} {a b : ℕ} → a < d .sort .count → Chain g d a b → b < d .sort .count
 chain-in h here = h
 chain-in h (next q n) = n .holds .row .inside
 

@@ -69,7 +69,15 @@ fn mark(w: &mut [u32], k: usize) -> bool
 }
 
 // Sets the bit of the row that has the name from `a` to `b`, if there is one. Says whether it was 0.
-fn mark_name(w: &mut [u32], src: &[u8], names: &[u32], ix: &[u32], z: Sort, a: u32, b: u32) -> bool
+pub fn mark_name(
+    w: &mut [u32],
+    src: &[u8],
+    names: &[u32],
+    ix: &[u32],
+    z: Sort,
+    a: u32,
+    b: u32,
+) -> bool
     requires { ⌜ Fits z (now w) × Apart (now src) (named (now names) z) × Indexed (now src) (z .wide) 0 (z .count) (now names) (now ix) ⌝ }
     ensures { λ r. ⌜ Added (Called (now (src .entry)) (named (now (names .entry)) z) a b) (now (w .entry)) (now (w .exit)) r ⌝ }
 {
@@ -245,7 +253,7 @@ fn round(
 }
 
 // Passes until no mark is new. Rows past 16,384 are never done, which costs time alone: no source has so many rules.
-fn spread(w: &mut [u32], src: &[u8], c: Counts, rules: &[u32], prods: &[u32], syms: &[u32])
+pub fn spread(w: &mut [u32], src: &[u8], c: Counts, rules: &[u32], prods: &[u32], syms: &[u32])
     requires { ⌜ Fits (ruleSort c) (now w) × Informed (net (now src) c (now prods) (now syms)) (named (now rules) (ruleSort c)) ⌝ }
     ensures { λ r. ⌜ Spread (net (now (src .entry)) c (now (prods .entry)) (now (syms .entry))) (named (now (rules .entry)) (ruleSort c)) (now (w .entry)) (now (w .exit)) ⌝ }
 {
@@ -254,7 +262,7 @@ fn spread(w: &mut [u32], src: &[u8], c: Counts, rules: &[u32], prods: &[u32], sy
 }
 
 // One pass that marks the tokens of productions of marked rules: symbols', and that of the `%prec`.
-fn mark_tokens(
+pub fn mark_tokens(
     w: &mut [u32],
     src: &[u8],
     c: Counts,
@@ -277,7 +285,7 @@ fn mark_tokens(
 }
 
 // The start rule's bit.
-fn mark_start(w: &mut [u32], src: &[u8], c: Counts, start: Part, rules: &[u32], ix: &[u32])
+pub fn mark_start(w: &mut [u32], src: &[u8], c: Counts, start: Part, rules: &[u32], ix: &[u32])
     requires { ⌜ Fits (ruleSort c) (now w) × Apart (now src) (named (now rules) (ruleSort c)) × Indexed (now src) (ruleSort c .wide) 0 (ruleSort c .count) (now rules) (now ix) ⌝ }
     ensures { λ r. ⌜ Adds (Begins (now (src .entry)) (named (now (rules .entry)) (ruleSort c)) start) (now (w .entry)) (now (w .exit)) ⌝ }
 {

@@ -1,0 +1,4 @@
+pub mod Stays
+pub mod Pruned
+pub mod Again
+pub mod Cases
