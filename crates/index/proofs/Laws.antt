@@ -7,22 +7,21 @@ use native.Mathlib.Omega.{arith}
 use native.Mathlib.Numerals.{add-one}
 use native.Mathlib.Decide.{decLt, ℕ-discrete}
 use native.Mathlib.Nat.{mod-add-mod, add-mod}
-use borrow.Author.Tests.{eq-eqb, ne-eqb, lt-leb, le-leb, lt-ltb, le-ltb, eqb-true, eqb-false, not-true, not-false}
+use borrow.Author.Tests.{eq-eqb, ne-eqb, lt-leb, le-leb, lt-ltb, le-ltb, not-true, not-false}
 use lib.ListN.{length, getD, set, drop, drop-of-length-le}
 use lib.Seq.{slice, slice-cons, slice-empty, set-out}
 use mathlib.Core.Logic.{⊎-elim}
 use lib.Dec.{eqb, ltb, leb}
 use Rattle.scan.proofs.Bytes.{le-or-lt, drop-at, within-true}
 use Rattle.tables.specs.Below.{below}
-use Rattle.tables.proofs.Below.{below-not}
 use Rattle.tables.specs.Table.{cell, setCell, put, Added, added, addRow, lies, samePart, hasName, findName, First}
 use Rattle.tables.proofs.Cases.{add-cases, same-part-iff, find-cases, find-iff, none-iff}
 use Rattle.tables.specs.declared.Found.{Found}
 use Rattle.tables.specs.declared.Found.the-variants.{RowAt, NoRow}
 use Rattle.index.specs.Hash.{mixed, hashFrom, hashOf}
-use Rattle.index.specs.Index.{home, nextSlot, freeSlot, enterRow, Indexed, probed, lookup, stands, rowStands, filled, indexTest, halved, isPower, unfound, freshName, sizeTest}
+use Rattle.index.specs.Index.{home, nextSlot, freeSlot, enterRow, Indexed, probed, lookup, rowStands, filled, indexTest, halved, isPower, unfound, freshName, sizeTest}
 use Rattle.index.proofs.Theorems.{indexed-set, indexed-add}
-use Rattle.index.proofs.Slots.{next-on, next-round, free-here, free-on, probe-free, probe-hit, probe-on, stands-here, stands-on, stands-free, stands-later, filled-zero, filled-one}
+use Rattle.index.proofs.Slots.{next-on, next-round, free-here, free-on, probe-free, probe-hit, probe-on, filled-zero, filled-one}
 
 -- 33 times the number plus the byte
 twice : (y x z : ℕ) → x ≡ y % 4294967296 → z ≡ (x + x) % 4294967296 → z ≡ (y + y) % 4294967296
@@ -84,21 +83,6 @@ module _ (ix : List ℕ) (f p : ℕ) (l : 0 < f) where
       pub look-on : has (getD ix p 0 - 1) ≡ false → (q : ℕ) → q ≡ nextSlot (length ix) p → probed has ix (f - 1) q ≡ o
       look-on e q g = rw g (sym (probe-on ix (f - 1) p has h e) ∙ rw (← one) inv)
 
-  module _ (r : ℕ) (o : Bool) (inv : stands ix r f p ≡ o) where
-    pub stand-free : getD ix p 0 ≡ 0 → false ≡ o
-    stand-free h = sym (stands-free ix (f - 1) p r h) ∙ rw (← one) inv
-
-    module _ (h : getD ix p 0 ≡ 0 → ⊥) where
-      pub stand-told : r < getD ix p 0 → eqb (getD ix p 0 - 1) r ≡ o
-      stand-told k = go (eqb (getD ix p 0 - 1) r) refl
-        where
-          go : (q : Bool) → eqb (getD ix p 0 - 1) r ≡ q → q ≡ o
-          go true e = let g : getD ix p 0 - 1 ≡ r = eqb-true _ _ e in sym (stands-here ix (f - 1) p r (omega arith)) ∙ rw (← one) inv
-          go false e = let g : getD ix p 0 - 1 ≡ r → ⊥ = eqb-false _ _ e in sym (stands-later ix (f - 1) p r (omega arith)) ∙ rw (← one) inv
-
-      pub stand-on : getD ix p 0 ≤ r → (q : ℕ) → q ≡ nextSlot (length ix) p → stands ix r (f - 1) q ≡ o
-      stand-on k q g = rw g (sym (stands-on ix (f - 1) p r h k) ∙ rw (← one) inv)
-
 -- no slot is left
 module _ (ix : List ℕ) (f p : ℕ) (l : f ≤ 0) where
   nil : f ≡ 0
@@ -112,10 +96,6 @@ module _ (ix : List ℕ) (f p : ℕ) (l : f ≤ 0) where
   unfolding probed
   look-end has o inv = rw nil at inv
 
-  pub stand-end : (r : ℕ) (o : Bool) → stands ix r f p ≡ o → false ≡ o
-  unfolding stands
-  stand-end r o inv = rw nil at inv
-
 -- an index without slots
 module _ (src : List ℕ) (w k : ℕ) (t ix : List ℕ) (h : length ix ≡ 0) where
   pub enter-nowhere : (r : ℕ) → ix ≡ enterRow src w k t r ix
@@ -125,10 +105,6 @@ module _ (src : List ℕ) (w k : ℕ) (t ix : List ℕ) (h : length ix ≡ 0) wh
   pub look-nowhere : (a b : ℕ) → NoRow ≡ lookup src w k t ix a b
   unfolding lookup
   look-nowhere a b = look-end ix (length ix) _ (omega arith) _ _ refl
-
-  pub stand-nowhere : (r : ℕ) → false ≡ rowStands src w k t ix r
-  unfolding rowStands
-  stand-nowhere r = stand-end ix (length ix) _ (omega arith) r _ refl
 
 -- a row is entered in the free slot, if there is one
 module _ (src : List ℕ) (w k r : ℕ) (t ix : List ℕ) (a b p z : ℕ) (x : a ≡ cell w t r k) (y : b ≡ cell w t r (k + 1)) (e : p ≡ home src (length ix) a b) (g : z ≡ freeSlot ix (length ix) p) where
@@ -142,10 +118,6 @@ module _ (src : List ℕ) (w k r : ℕ) (t ix : List ℕ) (a b p z : ℕ) (x : a
 pub look-start : (src : List ℕ) (w k : ℕ) (t ix : List ℕ) (a b p : ℕ) → p ≡ home src (length ix) a b → probed (hasName src w k t a b) ix (length ix) p ≡ lookup src w k t ix a b
 unfolding lookup
 look-start src w k t ix a b p e = rw e
-
-pub stand-start : (src : List ℕ) (w k r : ℕ) (t ix : List ℕ) (a b p : ℕ) → a ≡ cell w t r k → b ≡ cell w t r (k + 1) → p ≡ home src (length ix) a b → stands ix r (length ix) p ≡ rowStands src w k t ix r
-unfolding rowStands
-stand-start src w k r t ix a b p x y e = rw (e, x, y)
 
 -- taken slots, one by one
 module _ (ix : List ℕ) (i n o : ℕ) (inv : n + filled (drop i ix) ≡ o) (l : i < length ix) where
@@ -236,20 +208,15 @@ module _ (src : List ℕ) (w k n : ℕ) (t : List ℕ) (r : ℕ) (l : r < n) (a 
                 (λ none. eq-eqb q r s)
           ]
 
--- every row stands
+-- as many slots are taken as there are rows, and every row stands
 module _ (src : List ℕ) (w k n : ℕ) (t ix : List ℕ) (c : ℕ) (e : c ≡ filled ix) where
   pub index-count : (c ≡ n → ⊥) → false ≡ indexTest src w k n t ix
   unfolding indexTest
   index-count h = rw (← e, ne-eqb c n h)
 
-  module _ (h : c ≡ n) where
-    pub index-not : (r : ℕ) (q : Bool) → r < n → q ≡ rowStands src w k t ix r → not q ≡ true → false ≡ indexTest src w k n t ix
-    unfolding indexTest
-    index-not r q l g z = rw (← e, eq-eqb c n h) (below-not (rowStands src w k t ix) r n q l g z)
-
-    pub index-all : (r : ℕ) → below r (rowStands src w k t ix) ≡ true → r ≤ n → n ≤ r → true ≡ indexTest src w k n t ix
-    unfolding indexTest
-    index-all r i l m = let s : r ≡ n = omega arith in rw (← e, eq-eqb c n h, ← s, i)
+  pub index-rows : c ≡ n → (q : Bool) → q ≡ below n (rowStands src w k t ix) → q ≡ indexTest src w k n t ix
+  unfolding indexTest
+  index-rows h q g = rw (← e, eq-eqb c n h) g
 
 pub size-is : (m n w : ℕ) (p : Bool) (x : ℕ) → p ≡ isPower m → x ≡ min (n / w) 4294967295 → (p && leb (x * 2) m) ≡ sizeTest m n w
 unfolding sizeTest

@@ -66,6 +66,25 @@ stands ix r (suc f) p =
 unfoldable pub rowStands : List ℕ → ℕ → ℕ → List ℕ → List ℕ → ℕ → Bool
 rowStands src w k t ix r = stands ix r (length ix) (home src (length ix) (cell w t r k) (cell w t r (k + 1)))
 
+-- the slot in which that is: the first of f slots from p on that no row before row r has; as many as there are slots, where they have all
+unfoldable pub openSlot : List ℕ → ℕ → ℕ → ℕ → ℕ
+openSlot ix r zero p = length ix
+openSlot ix r (suc f) p = elim (ltb 0 (getD ix p 0) && leb (getD ix p 0) r) [ true ↦ openSlot ix r f (nextSlot (length ix) p) | false ↦ p ]
+
+unfoldable pub rowSlot : List ℕ → ℕ → ℕ → List ℕ → List ℕ → ℕ → ℕ
+rowSlot src w k t ix r = openSlot ix r (length ix) (home src (length ix) (cell w t r k) (cell w t r (k + 1)))
+
+-- rows before row r have the slots from a up to b
+pub record Taken (ix : List ℕ) (r a b : ℕ) : Type 0 where
+  pub each : (q : ℕ) → a ≤ q → q < b → (0 < getD ix q 0) × (getD ix q 0 ≤ r)
+
+-- and what a list of blocks tells of them: all from block k on, up to the block that it names
+abbrev pub block : ℕ
+block = 16
+
+pub record Skips (ix : List ℕ) (r : ℕ) (skips : List ℕ) : Type 0 where
+  pub taken : (k : ℕ) → Taken ix r (block * k) (block * getD skips k 0)
+
 -- how many slots are taken
 unfoldable pub filled : List ℕ → ℕ
 filled [] = 0
