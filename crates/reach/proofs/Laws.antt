@@ -48,15 +48,12 @@ pub added-same : {Q R : ℕ → Type 0} {ws vs : List ℕ} {r : Bool} → ((k : 
 added-same to from a = record { adds = adds-same to from (a .adds); grew = a .grew }
 
 -- one step more
-pub added-then : {Q R : ℕ → Type 0} (S : ℕ → Type 0) (a b : Bool) (ws vs us : List ℕ) → ((k : ℕ) → Q k → S k) → ((k : ℕ) → R k → S k) → ((k : ℕ) → S k → Q k ⊎ R k) → Added Q ws vs a → Added R vs us b → Added S ws us (b || a)
-added-then S a b ws vs us q r s x y = record {
-  adds = record {
-    size = y .adds .size ∙ x .adds .size;
-    kept = λ k e. y .adds .kept k (x .adds .kept k e);
-    only = λ k e. ⊎-elim (λ v. ⊎-elim (λ w. inl w) (λ p. inr (q k p)) (x .adds .only k v)) (λ p. inr (r k p)) (y .adds .only k e);
-    all = λ k p. ⊎-elim (λ v. y .adds .kept k (x .adds .all k v)) (λ v. y .adds .all k v) (s k p);
-  };
-  grew = grew-then a b ws vs us (x .grew) (y .grew);
+pub adds-then : {Q R : ℕ → Type 0} (S : ℕ → Type 0) {ws vs us : List ℕ} → ((k : ℕ) → Q k → S k) → ((k : ℕ) → R k → S k) → ((k : ℕ) → S k → Q k ⊎ R k) → Adds Q ws vs → Adds R vs us → Adds S ws us
+adds-then S q r s x y = record {
+  size = y .size ∙ x .size;
+  kept = λ k e. y .kept k (x .kept k e);
+  only = λ k e. ⊎-elim (λ v. ⊎-elim (λ w. inl w) (λ p. inr (q k p)) (x .only k v)) (λ p. inr (r k p)) (y .only k e);
+  all = λ k p. ⊎-elim (λ v. y .kept k (x .all k v)) (λ v. y .all k v) (s k p);
 }
 
 -- the words keep their size, so the bits still lie in them
@@ -147,28 +144,34 @@ module _ (ss : List ℕ) (z : Sort) where
   between : (f t f' t' k : ℕ) (q : InRow ss z f t k) → f' ≤ q .sym → q .sym < t' → InRow ss z f' t' k
   between f t f' t' k q h l = record { sym = q .sym; from = h; to = l; kind = q .kind; inside = q .inside; bit-is = q .bit-is }
 
-  pub symbols-more : (f s : ℕ) (a b : Bool) (ws vs us : List ℕ) → f ≤ s → Added (InRow ss z f s) ws vs a → Added (InRow ss z s (s + 1)) vs us b → Added (InRow ss z f (s + 1)) ws us (b || a)
-  symbols-more f s a b ws vs us h x y =
-      added-then (InRow ss z f (s + 1)) a b ws vs us
+  pub symbols-add : (f s : ℕ) {ws vs us : List ℕ} → f ≤ s → Adds (InRow ss z f s) ws vs → Adds (InRow ss z s (s + 1)) vs us → Adds (InRow ss z f (s + 1)) ws us
+  symbols-add f s h x y =
+      adds-then (InRow ss z f (s + 1))
       (λ k q. between f s f (s + 1) k q (q .from) (omega (arith, q .to)))
       (λ k q. between s (s + 1) f (s + 1) k q (omega (arith, q .from)) (q .to))
       (λ k q. elim (decLt (q .sym) s) [ yes l ↦ inl (between f (s + 1) f s k q (q .from) l) | no l ↦ inr (between f (s + 1) s (s + 1) k q (omega arith) (q .to)) ])
       x
       y
 
+  pub symbols-more : (f s : ℕ) (a b : Bool) (ws vs us : List ℕ) → f ≤ s → Added (InRow ss z f s) ws vs a → Added (InRow ss z s (s + 1)) vs us b → Added (InRow ss z f (s + 1)) ws us (b || a)
+  symbols-more f s a b ws vs us h x y = record { adds = symbols-add f s h (x .adds) (y .adds); grew = grew-then a b ws vs us (x .grew) (y .grew) }
+
   -- the end, at or past `to`, past which the walk only is where it never began
-  pub symbols-all : (f t s : ℕ) (a : Bool) (ws vs : List ℕ) → t ≤ s → (f < s → s ≤ t) → Added (InRow ss z f s) ws vs a → Added (InRow ss z f t) ws vs a
-  symbols-all f t s a ws vs h l x =
-      added-same
+  pub symbols-end : (f t s : ℕ) {ws vs : List ℕ} → t ≤ s → (f < s → s ≤ t) → Adds (InRow ss z f s) ws vs → Adds (InRow ss z f t) ws vs
+  symbols-end f t s h l x =
+      adds-same
       (λ k q. between f s f t k q (q .from) (omega (arith, q .to, l (omega (arith, q .from, q .to)))))
       (λ k q. between f t f s k q (q .from) (omega (arith, q .to)))
       x
 
+  pub symbols-all : (f t s : ℕ) (a : Bool) (ws vs : List ℕ) → t ≤ s → (f < s → s ≤ t) → Added (InRow ss z f s) ws vs a → Added (InRow ss z f t) ws vs a
+  symbols-all f t s a ws vs h l x = record { adds = symbols-end f t s h l (x .adds); grew = x .grew }
+
 -- where symbols know their rows, the rows that they have are those that they name
-pub rows-named : (src ss : List ℕ) (d : Named) (f t : ℕ) (ws vs : List ℕ) (r : Bool) → ((s : ℕ) → s < t → cell (width symbols) ss s 0 ≡ d .sort .kind → Knowing src ss d s)
-    → Added (InRow ss (d .sort) f t) ws vs r → Added (Among src ss d f t) ws vs r
-rows-named src ss d f t ws vs r told x =
-    added-same
+pub rows-named : (src ss : List ℕ) (d : Named) (f t : ℕ) {ws vs : List ℕ} → ((s : ℕ) → s < t → cell (width symbols) ss s 0 ≡ d .sort .kind → Knowing src ss d s)
+    → Adds (InRow ss (d .sort) f t) ws vs → Adds (Among src ss d f t) ws vs
+rows-named src ss d f t told x =
+    adds-same
     (λ k q. record {
       sym = q .sym;
       row = cell (width symbols) ss (q .sym) knownRow;
@@ -187,12 +190,16 @@ module _ (g : Net) (d : Named) (p rule : ℕ) (e : rule ≡ cell (width producti
   rule-unmarked ws b t h =
       added-none ws (λ k q. absurd (omega (arith, q .marked, ap (bit ws) e, is-zero ws rule b t h)))
 
+  pub rule-adds : (ws vs : List ℕ) (from to : ℕ) (b : Bool) → Informed g d → p < g .count → b ≡ eqb (bit ws rule) 1 → b ≡ true → from ≡ cell (width productions) (g .prods) p symbolsFrom → to ≡ cell (width productions) (g .prods) p symbolsTo
+      → Adds (InRow (g .syms) (d .sort) from to) ws vs → Adds (Held g d ws p) ws vs
+  rule-adds ws vs from to b told there t h ef et x =
+      let on : bit ws (cell (width productions) (g .prods) p ruleRow) ≡ 1 = sym (ap (bit ws) e) ∙ is-one ws rule b t h in
+      adds-same (λ k q. record { marked = on; among = q }) (λ k q. q .among)
+      (rows-named (g .src) (g .syms) d _ _ (λ s l. told p s there l) (rw (← ef, ← et) x))
+
   pub rule-marked : (ws vs : List ℕ) (from to : ℕ) (b r : Bool) → Informed g d → p < g .count → b ≡ eqb (bit ws rule) 1 → b ≡ true → from ≡ cell (width productions) (g .prods) p symbolsFrom → to ≡ cell (width productions) (g .prods) p symbolsTo
       → Added (InRow (g .syms) (d .sort) from to) ws vs r → Added (Held g d ws p) ws vs r
-  rule-marked ws vs from to b r told there t h ef et x =
-      let on : bit ws (cell (width productions) (g .prods) p ruleRow) ≡ 1 = sym (ap (bit ws) e) ∙ is-one ws rule b t h in
-      added-same (λ k q. record { marked = on; among = q }) (λ k q. q .among)
-      (rows-named (g .src) (g .syms) d _ _ ws vs r (λ s l. told p s there l) (rw (← ef, ← et) x))
+  rule-marked ws vs from to b r told there t h ef et x = record { adds = rule-adds ws vs from to b told there t h ef et (x .adds); grew = x .grew }
 
   -- its rule is done, or not
   pub visit-done : (ws ds : List ℕ) (b : Bool) → b ≡ eqb (bit ds rule) 1 → b ≡ true → Visited g d ds p ws ws false

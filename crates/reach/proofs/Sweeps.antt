@@ -1,9 +1,9 @@
--- A sweep, production by production, and sweeps one after the other. Assumes nothing.
+-- A sweep, production by production; sweeps one after the other, and the round before them. Assumes nothing.
 use Prim.Native.Nat.{ℕ, _+_, _*_, _-_, _<_, _≤_}
 use mathlib.Core.Path.{_≡_, refl, sym, _∙_}
 use mathlib.Core.List.{List}
 use mathlib.Core.Bool.{Bool, true, false, _||_, false≢true}
-use mathlib.Core.Logic.{⊎-elim}
+use mathlib.Core.Logic.{_⊎_, ⊎-elim}
 use native.Mathlib.Omega.{arith}
 use native.Mathlib.Decide.{decLt}
 use lib.ListN.{length}
@@ -11,7 +11,7 @@ use Rattle.bits.specs.Bits.{bit, ones}
 use Rattle.bits.proofs.Bits.{ones-le}
 use Rattle.tables.specs.Table.{cell}
 use Rattle.tables.specs.Layout.{productions, ruleRow, symbolsFrom, symbolsTo, width}
-use Rattle.reach.specs.Reach.{Net, Named, Holds, here, From, Grew, Swept, Spread, Done, Visited}
+use Rattle.reach.specs.Reach.{Net, Named, Holds, here, From, Grew, Adds, Held, Swept, Rushed, Spread, Done, Visited}
 use Rattle.reach.proofs.Laws.{grew-then}
 use Rattle.reach.proofs.Chains.{chain-then, chain-closed, from-next}
 
@@ -27,6 +27,15 @@ ruleOf g q = cell (width productions) (g .prods) q ruleRow
 -- symbol s of production q names row b
 abbrev HoldsOf : Net → Named → ℕ → ℕ → ℕ → Type 0
 HoldsOf g d q s b = Holds (g .src) (g .syms) d (cell (width productions) (g .prods) q symbolsFrom) (cell (width productions) (g .prods) q symbolsTo) s b
+
+-- a mark, or what production p adds to the marks, is at the end of a chain
+held-from : {g : Net} {d : Named} {p : ℕ} (ws vs : List ℕ) → d .sort .base ≡ 0 → p < g .count → ((b : ℕ) → bit vs b ≡ 1 → From g d ws b) → (k : ℕ) → (bit vs k ≡ 1) ⊎ Held g d vs p k → From g d ws k
+held-from {g} {d} {p} ws vs zero h from k =
+    ⊎-elim
+    (λ o. from k o)
+    (λ m.
+    let i : m .among .row ≡ k = omega (arith, m .among .bit-is) in
+    rw (← i) (from-next (from (ruleOf g p) (m .marked)) (record { prod = p; there = h; of = refl; sym = m .among .sym; holds = m .among .holds })))
 
 -- the sweep over the productions below p
 pub record SweptTo (g : Net) (d : Named) (p : ℕ) (ws vs : List ℕ) (changed : Bool) : Type 0 where
@@ -47,15 +56,6 @@ swept-none g d ws = record {
 }
 
 module _ (g : Net) (d : Named) (zero : d .sort .base ≡ 0) (p : ℕ) (ws vs us : List ℕ) (a b : Bool) (h : p < g .count) (ds : List ℕ) (done : Done g d ds ws) (x : SweptTo g d p ws vs a) (y : Visited g d ds p vs us b) where
-  swept-only : (k : ℕ) → bit us k ≡ 1 → From g d ws k
-  swept-only k e =
-      ⊎-elim
-      (λ o. x .only k o)
-      (λ m.
-      let i : m .among .row ≡ k = omega (arith, m .among .bit-is) in
-      rw (← i) (from-next (x .only (ruleOf g p) (m .marked)) (record { prod = p; there = h; of = refl; sym = m .among .sym; holds = m .among .holds })))
-      (y .only k e)
-
   swept-closed : (q : ℕ) → q < p + 1 → (s k : ℕ) → bit ws (ruleOf g q) ≡ 1 → HoldsOf g d q s k → bit us k ≡ 1
   swept-closed q l s k e n =
       elim (decLt q p) [
@@ -75,7 +75,7 @@ module _ (g : Net) (d : Named) (zero : d .sort .base ≡ 0) (p : ℕ) (ws vs us 
   swept-more = record {
     size = y .size ∙ x .size;
     kept = λ k e. y .kept k (x .kept k e);
-    only = swept-only;
+    only = λ k e. held-from ws vs zero h (x .only) k (y .only k e);
     grew = grew-then a b ws vs us (x .grew) (y .grew);
     closed = swept-closed;
   }
@@ -89,18 +89,21 @@ swept-all g d p ws vs a h x = record {
   closed = λ r b e n. x .closed (n .prod) (omega (arith, n .there)) (n .sym) b (rw (n .of) e) (n .holds);
 }
 
--- ---- sweeps one after the other
+-- ---- one after the other
 
-pub record Sweeping (g : Net) (d : Named) (ws vs : List ℕ) : Type 0 where
-  pub size : length vs ≡ length ws
-  pub kept : (k : ℕ) → bit ws k ≡ 1 → bit vs k ≡ 1
-  pub only : (b : ℕ) → bit vs b ≡ 1 → From g d ws b
+pub rushed-none : (g : Net) (d : Named) (ws : List ℕ) → Rushed g d ws ws
+rushed-none g d ws = record { size = refl; kept = λ k e. e; only = λ b e. record { root = b; marked = e; chain = here } }
 
-pub sweeping-none : (g : Net) (d : Named) (ws : List ℕ) → Sweeping g d ws ws
-sweeping-none g d ws = record { size = refl; kept = λ k e. e; only = λ b e. record { root = b; marked = e; chain = here } }
+-- one production more
+pub rushed-more : {g : Net} {d : Named} {p : ℕ} {ws vs us : List ℕ} → d .sort .base ≡ 0 → p < g .count → Rushed g d ws vs → Adds (Held g d vs p) vs us → Rushed g d ws us
+rushed-more {g} {d} {p} {ws} {vs} {us} zero h x y = record {
+  size = y .size ∙ x .size;
+  kept = λ k e. y .kept k (x .kept k e);
+  only = λ k e. held-from ws vs zero h (x .only) k (y .only k e);
+}
 
-pub sweeping-more : {g : Net} {d : Named} {ws vs us : List ℕ} {c : Bool} → Sweeping g d ws vs → Swept g d vs us c → Sweeping g d ws us
-sweeping-more x y = record {
+pub rushed-then : {g : Net} {d : Named} {ws vs us : List ℕ} → Rushed g d ws vs → Rushed g d vs us → Rushed g d ws us
+rushed-then x y = record {
   size = y .size ∙ x .size;
   kept = λ k e. y .kept k (x .kept k e);
   only = λ b e.
@@ -109,9 +112,14 @@ sweeping-more x y = record {
       record { root = f' .root; marked = f' .marked; chain = chain-then (f' .chain) (f .chain) };
 }
 
-pub sweeping-done : {g : Net} {d : Named} {ws vs us : List ℕ} {c : Bool} → c ≡ false → Sweeping g d ws vs → Swept g d vs us c → Spread g d ws us
-sweeping-done {g} {d} {ws} {vs} {us} {c} e x y =
-    let xy = sweeping-more x y in
+-- one sweep more
+pub rushed-swept : {g : Net} {d : Named} {ws vs us : List ℕ} {c : Bool} → Rushed g d ws vs → Swept g d vs us c → Rushed g d ws us
+rushed-swept x y = rushed-then x (record { size = y .size; kept = y .kept; only = y .only })
+
+-- until one adds nothing
+pub rushed-done : {g : Net} {d : Named} {ws vs us : List ℕ} {c : Bool} → c ≡ false → Rushed g d ws vs → Swept g d vs us c → Spread g d ws us
+rushed-done {g} {d} {ws} {vs} {us} {c} e x y =
+    let xy = rushed-swept x y in
     let same : us ≡ vs = grew-same c vs us e (y .grew) in
     record {
       size = xy .size;

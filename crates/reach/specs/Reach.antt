@@ -246,6 +246,12 @@ pub record Visited (g : Net) (d : Named) (ds : List ℕ) (p : ℕ) (ws vs : List
   pub all : (k : ℕ) → Held g d ws p k → (bit ds (cell (width productions) (g .prods) p ruleRow) ≡ 1) ⊎ (bit vs k ≡ 1)
   pub grew : Grew changed ws vs
 
+-- marks went along chains and no further; that they went along all of them is not said
+pub record Rushed (g : Net) (d : Named) (ws vs : List ℕ) : Type 0 where
+  pub size : length vs ≡ length ws
+  pub kept : (k : ℕ) → bit ws k ≡ 1 → bit vs k ≡ 1
+  pub only : (b : ℕ) → bit vs b ≡ 1 → From g d ws b
+
 -- marks spread along every chain, and no further
 pub record Spread (g : Net) (d : Named) (ws vs : List ℕ) : Type 0 where
   pub size : length vs ≡ length ws

@@ -10,7 +10,7 @@ ghost use Rattle.bits.specs.Bits.{bit};
 ghost use Rattle.tables.specs.Layout.{tokens, rules, productions, width};
 ghost use Rattle.sound.specs.Test.{countAt};
 ghost use Rattle.index.specs.Index.{Indexed};
-ghost use Rattle.reach.specs.Reach.{wordsFor, ruleSort, tokenSort, named, net, grammarOf, Begins, Apart, Owned, Fair, Adds, Added, Fits, Called, InRow, Informed, Held, HeldPrec, Swept, Within, Done, Visited, Spread, TokenOf, Marks};
+ghost use Rattle.reach.specs.Reach.{wordsFor, ruleSort, tokenSort, named, net, grammarOf, Begins, Apart, Owned, Fair, Adds, Added, Fits, Called, InRow, Informed, Held, HeldPrec, Swept, Within, Done, Visited, Rushed, Spread, TokenOf, Marks};
 
 // One sort of rows: its code, the width of its rows, their count, and the bit of row 0.
 pub struct Sort {
@@ -252,11 +252,185 @@ fn round(
     news
 }
 
-// Passes until no mark is new. Rows past 16,384 are never done, which costs time alone: no source has so many rules.
+// ---- a first round along the productions of each rule that is reached: it marks no more than chains do, and the passes behind it find what it misses
+
+// For each rule the number plus one of its first production, and for each production that of the next one of its rule.
+fn link(first: &mut [u16], next: &mut [u16], prods: &[u32], n: u32) {
+    let mut p = n;
+    while 0 < p {
+        p -= 1;
+        let r = tables::cell(prods, tables::PRODUCTION_WIDTH, p, tables::RULE_ROW) as usize;
+        let q = p as usize;
+        if r < first.len() && q < next.len() && q < 65535 {
+            next[q] = first[r];
+            first[r] = (q + 1) as u16;
+        }
+    }
+}
+
+// Where a link leads; 0 past the end.
+fn link_at(x: &[u16], i: usize) -> u16
+    ensures { λ r. ⌜ r ≡ getD (now (x .entry)) i 0 ⌝ }
+{
+    if i < x.len() { x[i] } else { 0 }
+}
+
+// The rules that are marked, as far as there is room.
+fn list_marked(todo: &mut [u16], w: &[u32], n: u32) -> usize {
+    let mut top = 0;
+    let mut r = n;
+    while 0 < r {
+        r -= 1;
+        if top < todo.len() && r < 65536 && bits::test_bit(w, r as usize) {
+            todo[top] = r as u16;
+            top += 1;
+        }
+    }
+    top
+}
+
+// Sets the bit of the row that symbol `s` has, as `mark_symbol` does; a rule whose bit is new is to be visited.
+fn visit_symbol(w: &mut [u32], z: Sort, syms: &[u32], s: u32, todo: &mut [u16], top: usize) -> usize
+    requires { ⌜ Fits z (now w) ⌝ }
+    ensures { λ r. ⌜ Adds (InRow (now (syms .entry)) z s (s + 1)) (now (w .entry)) (now (w .exit)) ⌝ }
+{
+    if !mark_symbol(w, z, syms, s) {
+        return top;
+    }
+    let row = tables::cell(syms, tables::SYMBOL_WIDTH, s, tables::KNOWN_ROW);
+    if top < todo.len() && row < 65536 {
+        todo[top] = row as u16;
+        return top + 1;
+    }
+    top
+}
+
+// The rules that production `p` names, if its rule is marked.
+fn visit_production(
+    w: &mut [u32],
+    src: &[u8],
+    names: &[u32],
+    z: Sort,
+    c: Counts,
+    prods: &[u32],
+    syms: &[u32],
+    p: u32,
+    todo: &mut [u16],
+    top: usize,
+) -> usize
+    requires { ⌜ Fits z (now w) × Informed (net (now src) c (now prods) (now syms)) (named (now names) z) × (p < countAt c productions) ⌝ }
+    ensures { λ r. ⌜ Adds (Held (net (now (src .entry)) c (now (prods .entry)) (now (syms .entry))) (named (now (names .entry)) z) (now (w .entry)) p) (now (w .entry)) (now (w .exit)) ⌝ }
+{
+    let wide = tables::PRODUCTION_WIDTH;
+    let head = tables::cell(prods, wide, p, tables::RULE_ROW);
+    if !bits::test_bit(w, head as usize) {
+        return top;
+    }
+    let to = tables::cell(prods, wide, p, tables::LAST);
+    let mut s = tables::cell(prods, wide, p, tables::FIRST);
+    let mut end = top;
+    while s < to {
+        end = visit_symbol(w, z, syms, s, todo, end);
+        s += 1;
+    }
+    end
+}
+
+// From the marked rules on: each rule in turn that is still to be visited, production by production. No rule and no production has more than one turn.
+fn rush(
+    w: &mut [u32],
+    src: &[u8],
+    c: Counts,
+    rules: &[u32],
+    prods: &[u32],
+    syms: &[u32],
+    first: &mut [u16],
+    next: &mut [u16],
+    todo: &mut [u16],
+)
+    requires { ⌜ Fits (ruleSort c) (now w) × Informed (net (now src) c (now prods) (now syms)) (named (now rules) (ruleSort c)) ⌝ }
+    ensures { λ r. ⌜ Rushed (net (now (src .entry)) c (now (prods .entry)) (now (syms .entry))) (named (now (rules .entry)) (ruleSort c)) (now (w .entry)) (now (w .exit)) ⌝ }
+{
+    let z = rule_sort(c);
+    let n = sound::rows_of(c, tables::PRODUCTIONS);
+    link(first, next, prods, n);
+    let mut top = list_marked(todo, w, z.count);
+    let mut p = 0u16;
+    let mut left = n as usize + z.count as usize + 1;
+    while 0 < left {
+        left -= 1;
+        if p == 0 {
+            if top == 0 {
+                return;
+            }
+            top -= 1;
+            p = link_at(first, link_at(todo, top) as usize);
+        } else {
+            let q = p - 1;
+            if (q as u32) < n {
+                top = visit_production(w, src, rules, z, c, prods, syms, q as u32, todo, top);
+                p = link_at(next, q as usize);
+            } else {
+                p = 0;
+            }
+        }
+    }
+}
+
+// With little room, which is soon cleared.
+fn rush_small(w: &mut [u32], src: &[u8], c: Counts, rules: &[u32], prods: &[u32], syms: &[u32])
+    requires { ⌜ Fits (ruleSort c) (now w) × Informed (net (now src) c (now prods) (now syms)) (named (now rules) (ruleSort c)) ⌝ }
+    ensures { λ r. ⌜ Rushed (net (now (src .entry)) c (now (prods .entry)) (now (syms .entry))) (named (now (rules .entry)) (ruleSort c)) (now (w .entry)) (now (w .exit)) ⌝ }
+{
+    let mut first = [0u16; 512];
+    let mut next = [0u16; 1024];
+    let mut todo = [0u16; 512];
+    rush(
+        w,
+        src,
+        c,
+        rules,
+        prods,
+        syms,
+        &mut first,
+        &mut next,
+        &mut todo,
+    );
+}
+
+// With room for every grammar that is read.
+fn rush_large(w: &mut [u32], src: &[u8], c: Counts, rules: &[u32], prods: &[u32], syms: &[u32])
+    requires { ⌜ Fits (ruleSort c) (now w) × Informed (net (now src) c (now prods) (now syms)) (named (now rules) (ruleSort c)) ⌝ }
+    ensures { λ r. ⌜ Rushed (net (now (src .entry)) c (now (prods .entry)) (now (syms .entry))) (named (now (rules .entry)) (ruleSort c)) (now (w .entry)) (now (w .exit)) ⌝ }
+{
+    let mut first = [0u16; 16384];
+    let mut next = [0u16; 65536];
+    let mut todo = [0u16; 16384];
+    rush(
+        w,
+        src,
+        c,
+        rules,
+        prods,
+        syms,
+        &mut first,
+        &mut next,
+        &mut todo,
+    );
+}
+
+// A first round, then passes until no mark is new, which is soon where the round missed nothing. Rows past 16,384 are never done, which costs time alone: no source has so many rules.
 pub fn spread(w: &mut [u32], src: &[u8], c: Counts, rules: &[u32], prods: &[u32], syms: &[u32])
     requires { ⌜ Fits (ruleSort c) (now w) × Informed (net (now src) c (now prods) (now syms)) (named (now rules) (ruleSort c)) ⌝ }
     ensures { λ r. ⌜ Spread (net (now (src .entry)) c (now (prods .entry)) (now (syms .entry))) (named (now (rules .entry)) (ruleSort c)) (now (w .entry)) (now (w .exit)) ⌝ }
 {
+    if (sound::rows_of(c, tables::RULES) <= 512)
+        & (sound::rows_of(c, tables::PRODUCTIONS) <= 1024)
+    {
+        rush_small(w, src, c, rules, prods, syms);
+    } else {
+        rush_large(w, src, c, rules, prods, syms);
+    }
     let mut done = [0u32; 512];
     while round(w, &mut done, src, c, rules, prods, syms) {}
 }
