@@ -5,9 +5,9 @@ use mathlib.Core.List.{List}
 use native.Mathlib.Numerals.{add-one}
 use native.Mathlib.Omega.{arith}
 use lib.Dec.{eqb}
-use lib.ListN.{length}
+use lib.ListN.{length, getD}
 use borrow.Author.Tests.{eq-eqb, ne-eqb, le-ltb, lt-ltb}
-use Rattle.scan.specs.Lines.{linesAt, linesTo}
+use Rattle.scan.specs.Lines.{linesHere, linesAt, linesTo}
 use Rattle.scan.proofs.Bytes.{on-test}
 use Rattle.scan.proofs.Lines.{lines-step}
 use Rattle.places.specs.Places.{lineStart, spotOf, spotAt}
@@ -37,6 +37,11 @@ module _ (s : List ℕ) (k m : ℕ) (q : m ≡ linesAt s k) where
   pub start-new : (m ≡ 0 → ⊥) → k + 1 ≡ lineStart s (k + 1)
   unfolding lineStart
   start-new f = rw (add-one, lineStart, ne-eqb (linesAt s k) 0 (λ z. f (q ∙ z)))
+
+-- no line ends with a byte above a CR
+pub plain-none : (s : List ℕ) (k : ℕ) → 13 < getD s k 0 → 0 ≡ linesAt s k
+unfolding linesAt linesHere
+plain-none s k h = rw (ne-eqb (getD s k 0) 10 (λ e. omega arith), ne-eqb (getD s k 0) 13 (λ e. omega arith), linesHere)
 
 -- a line begins at its bytes or before
 pub start-before : (s : List ℕ) (i : ℕ) → lineStart s i ≤ i

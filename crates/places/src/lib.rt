@@ -21,7 +21,10 @@ pub fn spot_in(s: &[u8], to: usize) -> Spot
     let mut k = 0;
     while k < to {
         let next = k + 1;
-        if scan::lines_at(s, k) == 0 {
+        // no line ends with a byte above a CR
+        if 13 < s[k] {
+            k = next;
+        } else if scan::lines_at(s, k) == 0 {
             k = next;
         } else {
             line += 1;

@@ -1,12 +1,13 @@
 -- One law for each way through the checking loop. Assumes nothing.
 use Prim.Native.Nat.{ℕ, zero, suc, _+_, _-_, _≤_, _<_}
-use mathlib.Core.Path.{_≡_, sym, _∙_}
+use mathlib.Core.Path.{_≡_, refl, sym, _∙_}
 use mathlib.Core.List.{List, [], _∷_}
 use native.Mathlib.Omega.{arith}
-use lib.ListN.{length, drop, drop-of-length-le}
+use lib.ListN.{length, getD, drop, drop-of-length-le}
 use lib.Seq.{drop-nil, drop-drop}
+use borrow.Author.Tests.{lt-ltb}
 use Rattle.scan.proofs.Bytes.{drop-at}
-use Rattle.utf8.specs.Utf8.{decode, decodeAt}
+use Rattle.utf8.specs.Utf8.{leadOf, begun, decode, decodeAt}
 use Rattle.utf8.proofs.Utf8.{decode-past}
 use Rattle.utf8.specs.declared.Decoded.{Decoded}
 use Rattle.utf8.specs.declared.Decoded.the-variants.{Point, Bad}
@@ -29,6 +30,11 @@ check-point (a ∷ bs) i p j e =
     let f : j - i ≡ suc (j - (i + 1)) = omega arith in
     let g : i + 1 + (j - (i + 1)) ≡ j = omega arith in
     rw (e, f, check) (rw g at (skip (j - (i + 1)) bs (i + 1)))
+
+-- a byte that is a code point by itself
+plain : (a : ℕ) (bs : List ℕ) (i : ℕ) → a < 128 → decode (a ∷ bs) i ≡ Point a (i + 1)
+unfolding decode leadOf begun
+plain a bs i l = rw (lt-ltb a 128 l, leadOf)
 
 module _ (s : List ℕ) (i : ℕ) (r : Checked) (inv : checkAt s i ≡ r) where
   pub check-end : length s ≤ i → Good ≡ r
@@ -54,3 +60,7 @@ module _ (s : List ℕ) (i : ℕ) (r : Checked) (inv : checkAt s i ≡ r) where
     pub check-less : (p j : ℕ) → i < length s → d ≡ Point p j → length s - j < length s - i
     unfolding decodeAt
     check-less p j h e = let k = decode-past (drop i s) i p j (sym q ∙ e) in omega arith
+
+  pub check-plain : i < length s → getD s i 0 < 128 → checkAt s (i + 1) ≡ r
+  unfolding decodeAt
+  check-plain h l = check-on (decodeAt s i) refl (getD s i 0) (i + 1) (rw (drop-at s i h) (plain (getD s i 0) (drop (i + 1) s) i l))

@@ -16,12 +16,17 @@ pub fn check(src: &[u8]) -> Checked
 {
     let mut i = 0;
     while i < src.len() {
-        match utf8::decode(src, i) {
-            Decoded::Point(_, j) => {
-                i = j;
-            }
-            Decoded::Bad => {
-                return Checked::BadAt(i);
+        // most bytes are code points by themselves
+        if src[i] < 128 {
+            i += 1;
+        } else {
+            match utf8::decode(src, i) {
+                Decoded::Point(_, j) => {
+                    i = j;
+                }
+                Decoded::Bad => {
+                    return Checked::BadAt(i);
+                }
             }
         }
     }
