@@ -9,7 +9,8 @@ use Rattle.keywords.specs.declared.Keyword.{Keyword}
 use Rattle.keywords.specs.declared.Keyword.the-variants.{Percents, TokenWord, ActiontypeWord, StartWord, EppWord, ExpectRrWord, ExpectUnusedWord, ExpectWord, AvoidInsertWord, ParseParamWord, ParseGenericsWord, ImplicitTokensWord, LeftWord, RightWord, NonassocWord, NoKeyword}
 use Rattle.keywords.specs.declared.Seen.{Seen}
 use Rattle.keywords.specs.Keywords.{seenAt}
-use Rattle.tables.specs.Layout.{avoided, implicit}
+use Rattle.tables.specs.Layout.{precedences, avoided, implicit, epps, width}
+use Rattle.grammar.specs.declared.Counts.{Counts}
 use Rattle.grammar.specs.declared.State.{State}
 use Rattle.grammar.specs.declared.Cause.the-variants.{UnknownDeclaration, PrematureEnd}
 use Rattle.grammar.specs.declared.Refusal.{Refusal}
@@ -19,7 +20,7 @@ use Rattle.grammar.specs.declared.Answer.the-variants.{Going, Done, Refused}
 use Rattle.grammar.specs.declared.Repeat.the-variants.{RepeatedAvoidInsert, RepeatedImplicitTokens}
 use Rattle.grammar.specs.declared.Gap.{Gap}
 use Rattle.grammar.specs.declared.Gap.the-variants.{GapTo, GapRefused}
-use Rattle.grammar.specs.State.{Out0, Out1, Out2, Out3, withAt, gapAt, onward}
+use Rattle.grammar.specs.State.{Out0, Out1, Out2, Out3, Tracked, withAt, gapAt, onward}
 use Rattle.settings.specs.Settings.{startDecl, expectDecl, actiontypeDecl, paramDecl, genericsDecl}
 use Rattle.lists.specs.Lists.{listDecl}
 use Rattle.lines.specs.Precedences.{precDecl}
@@ -35,6 +36,13 @@ pub record Declared : Type 0 where
   pub t5 : List ℕ
   pub t6 : List ℕ
   pub t10 : List ℕ
+
+-- the finder that tables 2 to 5 share leads to their rows
+pub record Givens (src : List ℕ) (c : Counts) (t2 t3 t4 t5 fx : List ℕ) : Type 0 where
+  pub second : Tracked src precedences (width precedences) 0 c t2 fx
+  pub third : Tracked src avoided (width avoided) 0 c t3 fx
+  pub fourth : Tracked src implicit (width avoided) 0 c t4 fx
+  pub fifth : Tracked src epps (width epps) 2 c t5 fx
 
 pub record Out : Type 0 where
   pub answer : Answer

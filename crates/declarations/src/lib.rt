@@ -9,7 +9,7 @@ use grammar::Step;
 use keywords::Keyword;
 ghost use mathlib.Core.Path.{_≡_};
 ghost use Rattle.grammar.specs.State.{Here, Passed, Moves, Tokens};
-ghost use Rattle.declarations.specs.Declarations.{Declared, Out, declStep, declRun, declAll};
+ghost use Rattle.declarations.specs.Declarations.{Declared, Givens, Out, declStep, declRun, declAll};
 
 // One declaration; done at `%%`, where the state stays.
 pub fn declaration(
@@ -23,12 +23,13 @@ pub fn declaration(
     t5: &mut [u32],
     t6: &mut [u32],
     t10: &mut [u32],
-    i1: &mut [u32],
+    i1: &mut [u16],
+    fx: &mut [u16],
 ) -> Step
-    requires { ⌜ Here (now src) (s .at) × Tokens (now src) (s .counts) (now t1) (now i1) ⌝ }
+    requires { ⌜ Here (now src) (s .at) × Tokens (now src) (s .counts) (now t1) (now i1) × Givens (now src) (s .counts) (now t2) (now t3) (now t4) (now t5) (now fx) ⌝ }
     ensures is { λ r. ⌜ _≡_ {A = Out} (record { answer = r .answer; state = r .state; tables = record { t1 = now (t1 .exit); t2 = now (t2 .exit); t3 = now (t3 .exit); t4 = now (t4 .exit); t5 = now (t5 .exit); t6 = now (t6 .exit); t10 = now (t10 .exit) } }) (declStep (now (src .entry)) kind s (record { t1 = now (t1 .entry); t2 = now (t2 .entry); t3 = now (t3 .entry); t4 = now (t4 .entry); t5 = now (t5 .entry); t6 = now (t6 .entry); t10 = now (t10 .entry) })) ⌝ }
     ensures moved { λ r. ⌜ Moves (now (src .entry)) (s .at) (r .answer) (r .state .at) ⌝ }
-    ensures indexed { λ r. ⌜ Tokens (now (src .entry)) (r .state .counts) (now (t1 .exit)) (now (i1 .exit)) ⌝ }
+    ensures indexed { λ r. ⌜ Tokens (now (src .entry)) (r .state .counts) (now (t1 .exit)) (now (i1 .exit)) × Givens (now (src .entry)) (r .state .counts) (now (t2 .exit)) (now (t3 .exit)) (now (t4 .exit)) (now (t5 .exit)) (now (fx .exit)) ⌝ }
 {
     let at = s.at;
     let seen = keywords::look(src, at, kind);
@@ -43,7 +44,7 @@ pub fn declaration(
         Keyword::TokenWord => lists::list_decl(src, n, true, t1, i1),
         Keyword::ActiontypeWord => settings::actiontype_decl(src, n, t10),
         Keyword::StartWord => settings::start_decl(src, n, t10),
-        Keyword::EppWord => epps::epp_decl(src, n, t5, t10),
+        Keyword::EppWord => epps::epp_decl(src, n, t5, t10, fx),
         Keyword::ExpectRrWord => settings::expect_decl(src, n, true, t10),
         Keyword::ExpectUnusedWord => lists::list_decl(src, n, false, t6, i1),
         Keyword::ExpectWord => settings::expect_decl(src, n, false, t10),
@@ -57,6 +58,7 @@ pub fn declaration(
                 t3,
                 t10,
                 i1,
+                fx,
             )
         }
         Keyword::ParseParamWord => settings::param_decl(src, n),
@@ -71,11 +73,12 @@ pub fn declaration(
                 t4,
                 t10,
                 i1,
+                fx,
             )
         }
-        Keyword::LeftWord => lines::prec_decl(src, n, 1, t2, t10),
-        Keyword::RightWord => lines::prec_decl(src, n, 2, t2, t10),
-        Keyword::NonassocWord => lines::prec_decl(src, n, 3, t2, t10),
+        Keyword::LeftWord => lines::prec_decl(src, n, 1, t2, t10, fx),
+        Keyword::RightWord => lines::prec_decl(src, n, 2, t2, t10, fx),
+        Keyword::NonassocWord => lines::prec_decl(src, n, 3, t2, t10, fx),
         Keyword::NoKeyword => Step {
             answer: Answer::Refused(Refusal::Fault(Cause::UnknownDeclaration, at as u32)),
             state: s,
@@ -95,12 +98,13 @@ pub fn declaration_run(
     t5: &mut [u32],
     t6: &mut [u32],
     t10: &mut [u32],
-    i1: &mut [u32],
+    i1: &mut [u16],
+    fx: &mut [u16],
 ) -> Step
-    requires { ⌜ Here (now src) (s .at) × Tokens (now src) (s .counts) (now t1) (now i1) ⌝ }
+    requires { ⌜ Here (now src) (s .at) × Tokens (now src) (s .counts) (now t1) (now i1) × Givens (now src) (s .counts) (now t2) (now t3) (now t4) (now t5) (now fx) ⌝ }
     ensures is { λ r. ⌜ _≡_ {A = Out} (record { answer = r .answer; state = r .state; tables = record { t1 = now (t1 .exit); t2 = now (t2 .exit); t3 = now (t3 .exit); t4 = now (t4 .exit); t5 = now (t5 .exit); t6 = now (t6 .exit); t10 = now (t10 .exit) } }) (declRun (now (src .entry)) kind s (record { t1 = now (t1 .entry); t2 = now (t2 .entry); t3 = now (t3 .entry); t4 = now (t4 .entry); t5 = now (t5 .entry); t6 = now (t6 .entry); t10 = now (t10 .entry) })) ⌝ }
     ensures moved { λ r. ⌜ Passed (now (src .entry)) (s .at) (r .state .at) ⌝ }
-    ensures indexed { λ r. ⌜ Tokens (now (src .entry)) (r .state .counts) (now (t1 .exit)) (now (i1 .exit)) ⌝ }
+    ensures indexed { λ r. ⌜ Tokens (now (src .entry)) (r .state .counts) (now (t1 .exit)) (now (i1 .exit)) × Givens (now (src .entry)) (r .state .counts) (now (t2 .exit)) (now (t3 .exit)) (now (t4 .exit)) (now (t5 .exit)) (now (fx .exit)) ⌝ }
 {
     let mut st = s;
     loop {
@@ -111,7 +115,7 @@ pub fn declaration_run(
                 state: st,
             };
         }
-        let r = declaration(src, kind, st, t1, t2, t3, t4, t5, t6, t10, i1);
+        let r = declaration(src, kind, st, t1, t2, t3, t4, t5, t6, t10, i1, fx);
         let a = r.answer;
         match a {
             Answer::Going => {
@@ -140,19 +144,20 @@ pub fn declarations(
     t5: &mut [u32],
     t6: &mut [u32],
     t10: &mut [u32],
-    i1: &mut [u32],
+    i1: &mut [u16],
+    fx: &mut [u16],
 ) -> Step
-    requires { ⌜ Here (now src) (s .at) × Tokens (now src) (s .counts) (now t1) (now i1) ⌝ }
+    requires { ⌜ Here (now src) (s .at) × Tokens (now src) (s .counts) (now t1) (now i1) × Givens (now src) (s .counts) (now t2) (now t3) (now t4) (now t5) (now fx) ⌝ }
     ensures is { λ r. ⌜ _≡_ {A = Out} (record { answer = r .answer; state = r .state; tables = record { t1 = now (t1 .exit); t2 = now (t2 .exit); t3 = now (t3 .exit); t4 = now (t4 .exit); t5 = now (t5 .exit); t6 = now (t6 .exit); t10 = now (t10 .exit) } }) (declAll (now (src .entry)) kind s (record { t1 = now (t1 .entry); t2 = now (t2 .entry); t3 = now (t3 .entry); t4 = now (t4 .entry); t5 = now (t5 .entry); t6 = now (t6 .entry); t10 = now (t10 .entry) })) ⌝ }
     ensures moved { λ r. ⌜ Passed (now (src .entry)) (s .at) (r .state .at) ⌝ }
-    ensures indexed { λ r. ⌜ Tokens (now (src .entry)) (r .state .counts) (now (t1 .exit)) (now (i1 .exit)) ⌝ }
+    ensures indexed { λ r. ⌜ Tokens (now (src .entry)) (r .state .counts) (now (t1 .exit)) (now (i1 .exit)) × Givens (now (src .entry)) (r .state .counts) (now (t2 .exit)) (now (t3 .exit)) (now (t4 .exit)) (now (t5 .exit)) (now (fx .exit)) ⌝ }
 {
     let at = s.at;
     match grammar::pass_gap(src, at, true) {
         Gap::GapTo(i, _) => {
             let mut n = s;
             n.at = i;
-            declaration_run(src, kind, n, t1, t2, t3, t4, t5, t6, t10, i1)
+            declaration_run(src, kind, n, t1, t2, t3, t4, t5, t6, t10, i1, fx)
         }
         Gap::GapRefused(f) => Step {
             answer: Answer::Refused(f),

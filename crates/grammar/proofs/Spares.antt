@@ -1,8 +1,9 @@
--- What leaves the count of a table alone leaves its index. Assumes nothing.
-use Prim.Native.Nat.{ℕ, _+_}
+-- What leaves the count of a table alone leaves its finder. Assumes nothing.
+use Prim.Native.Nat.{ℕ, _+_, _<_}
 use mathlib.Core.Path.{_≡_, refl, sym, ap, _∙_}
 use mathlib.Core.List.{List}
 use mathlib.Core.Bool.{Bool, true, false}
+use native.Mathlib.Omega.{arith}
 use lib.ListN.{length, length-set, getD}
 use lib.Seq.{getD-set-other}
 use Rattle.tables.specs.Table.{addRow, enterToken, findName, flag}
@@ -30,9 +31,9 @@ spares-none k c = record { long = refl; same = refl }
 pub spares-on : {k : ℕ} {c d e : Counts} → Spares k c d → Spares k d e → Spares k c e
 spares-on x y = record { long = y .long ∙ x .long; same = y .same ∙ x .same }
 
--- so the index stays
+-- so the finder stays
 pub spared : {src : List ℕ} {k w name : ℕ} {c d : Counts} {t ix : List ℕ} → Spares k c d → Tracked src k w name c t ix → Tracked src k w name d t ix
-spared x I = record { ten = x .long ∙ I .ten; index = rw (x .same) (I .index) }
+spared x I = record { ten = x .long ∙ I .ten; held = rw (x .same) (I .held) }
 
 pub spares-count : (k : ℕ) (s : State) (j n : ℕ) → (j ≡ k → ⊥) → Spares k (s .counts) (withCount s j n .counts)
 spares-count k s j n d = record { long = length-set (s .counts .n) j n; same = getD-set-other (s .counts .n) j k n 0 (λ e. d (sym e)) }
@@ -76,9 +77,13 @@ spares-pass k src line j a s = rw (pass-counts src line j a s) (spares-none k (s
 pub spares-behind : (k : ℕ) (src : List ℕ) (line : Bool) (j : ℕ) (a : Answer) (s : State) {c : Counts} → Spares k c (s .counts) → Spares k c (passOn src line j a s .state .counts)
 spares-behind k src line j a s x = spares-on x (spares-pass k src line j a s)
 
--- the index stays behind spacing, and with a row of another table
+-- the finder stays behind spacing, and with a row of another table
 pub tracked-passed : (src : List ℕ) (k w name : ℕ) (line : Bool) (j : ℕ) (a : Answer) (s : State) (b : Answer) (q : State) (t ix : List ℕ) → _≡_ {A = Out0} (record { answer = b; state = q }) (passOn src line j a s) → Tracked src k w name (s .counts) t ix → Tracked src k w name (q .counts) t ix
 tracked-passed src k w name line j a s b q t ix e I = rw (ap (λ (o : Out0). o .state .counts) e) (spared (spares-pass k src line j a s) I)
 
 pub tracked-pushed : (src : List ℕ) (k w name : ℕ) (s : State) (j : ℕ) (row u : List ℕ) (answer : Answer) (next : State) (cells t ix : List ℕ) → (j ≡ k → ⊥) → record { answer = answer; state = next; a = cells } ≡ pushRow s j row u → Tracked src k w name (s .counts) t ix → Tracked src k w name (next .counts) t ix
 tracked-pushed src k w name s j row u answer next cells t ix d e I = rw (ap (λ (o : Out1). o .state .counts) e) (spared (spares-push k s j row u d) I)
+
+-- a repeat is a row of table 10
+pub tracked-repeated : (src : List ℕ) (k w name : ℕ) (s : State) (what : Repeat) (a b c d : ℕ) (u : List ℕ) (answer : Answer) (next : State) (cells t ix : List ℕ) → k < 9 → record { answer = answer; state = next; a = cells } ≡ listRepeat s what a b c d u → Tracked src k w name (s .counts) t ix → Tracked src k w name (next .counts) t ix
+tracked-repeated src k w name s what a b c d u answer next cells t ix l e I = rw (ap (λ (o : Out1). o .state .counts) e) (spared (spares-repeat k s what a b c d u (λ z. omega arith)) I)

@@ -9,8 +9,9 @@ use mir.Syntax.{w32}
 use mir.Val.{Fits}
 use lib.ListN.{length, length-set, getD, List·getD-eq-default}
 use lib.Seq.{set-out, getD-set-same}
-use Rattle.index.proofs.Laws.{row-new, row-full}
-use Rattle.index.specs.Index.{Indexed, enterRow, rowsNow}
+use Rattle.finder.proofs.Laws.{held-new, held-full}
+use Rattle.index.specs.Index.{rowsNow}
+use Rattle.finder.specs.Finder.{Held, LeadsTo, Grown}
 use borrow.Author.Tests.{lt-ltb, le-ltb}
 use Rattle.spacing.specs.declared.Spaced.{Spaced}
 use Rattle.spacing.specs.declared.Spaced.the-variants.{To, LineEnd, OpenComment}
@@ -74,19 +75,23 @@ module _ (s : State) (k n : ℕ) (row t cells : List ℕ) (q : Bool) (c : n ≡ 
   unfolding pushRow
   push-full f h w = rw (← c, ← e, h, w)
 
--- and its index follows
+-- the name of a row that was sought and not found
+pub name-new : (src : List ℕ) (s : State) (k w name n a b : ℕ) (row t : List ℕ) (f : Found) → n ≡ count s k → a ≡ getD row name 0 → b ≡ getD row (name + 1) 0 → f ≡ findName src w name n t a b → f ≡ NoRow → findName src w name (count s k) t (getD row name 0) (getD row (name + 1) 0) ≡ NoRow
+name-new src s k w name n a b row t f c x y e h = rw (← c, ← x, ← y) (sym e ∙ h)
+
+-- and its finder follows
 module _ (src : List ℕ) (s : State) (k w name n : ℕ) (row t cells ix : List ℕ) (q : Bool) (c : n ≡ count s k) (e : record { ok = q; cells = cells } ≡ addRow n row t) (x : Enters k w name row) (I : Tracked src k w name (s .counts) t ix) where
-  pub push-tracked : (next : State) → q ≡ true → next ≡ withCount s k (n + 1) → (jx : List ℕ) → jx ≡ enterRow src w name cells n ix → Tracked src k w name (next .counts) cells jx
-  push-tracked next h f jx g =
+  pub push-tracked : (next : State) → q ≡ true → next ≡ withCount s k (n + 1) → findName src w name (count s k) t (getD row name 0) (getD row (name + 1) 0) ≡ NoRow → (jx : List ℕ) → Grown ix jx → LeadsTo src w name cells jx n → Tracked src k w name (next .counts) cells jx
+  push-tracked next h f none jx g l =
       let b : k < length (s .counts .n) = rw (I .ten) (let l = x .table in omega arith) in
       rw f
       (record {
         ten = length-set (s .counts .n) k (n + 1) ∙ I .ten;
-        index = rw (getD-set-same (s .counts .n) k (n + 1) 0 b) (row-new src w name n t ix (rw c (I .index)) row (x .wide) q cells e (x .named) h jx g);
+        held = rw (getD-set-same (s .counts .n) k (n + 1) 0 b) (held-new src w name n t ix (rw c (I .held)) row (x .wide) q cells e (x .named) (rw c none) h jx g l);
       })
 
   pub push-untracked : q ≡ false → Tracked src k w name (s .counts) cells ix
-  push-untracked h = record { ten = I .ten; index = rw (← c) (row-full src w name n t ix (rw c (I .index)) row (x .wide) q cells e h) }
+  push-untracked h = record { ten = I .ten; held = rw (← c) (held-full src w name n t ix (rw c (I .held)) row (x .wide) q cells e h) }
 
 -- a token entered
 module _ (src : List ℕ) (s : State) (a b n : ℕ) (d : Bool) (t cells : List ℕ) (o : Entered) (c : n ≡ count s 0) (e : record { entered = o; cells = cells } ≡ enterToken src n a b d t) where
@@ -94,14 +99,14 @@ module _ (src : List ℕ) (s : State) (a b n : ℕ) (d : Bool) (t cells : List �
   unfolding enterStep
   enter-rows m next h w = rw (← c, ← e, h, w)
 
-  -- and the index follows
-  pub enter-tracked : length (s .counts .n) ≡ 10 → (m : ℕ) (next : State) → o ≡ Rows m → next ≡ withCount s 0 m → (ix : List ℕ) → Indexed src 3 0 (rowsNow n o) cells ix → Tokens src (next .counts) cells ix
+  -- and the finder follows
+  pub enter-tracked : length (s .counts .n) ≡ 10 → (m : ℕ) (next : State) → o ≡ Rows m → next ≡ withCount s 0 m → (ix : List ℕ) → Held src 3 0 (rowsNow n o) cells ix → Tokens src (next .counts) cells ix
   enter-tracked ten m next h w ix I =
       let k : count (withCount s 0 m) 0 ≡ m = getD-set-same (s .counts .n) 0 m 0 (rw ten (omega arith)) in
-      rw w (record { ten = length-set (s .counts .n) 0 m ∙ ten; index = rw k (rw h at I) })
+      rw w (record { ten = length-set (s .counts .n) 0 m ∙ ten; held = rw k (rw h at I) })
 
-  pub full-tracked : length (s .counts .n) ≡ 10 → o ≡ Full → (ix : List ℕ) → Indexed src 3 0 (rowsNow n o) cells ix → Tokens src (s .counts) cells ix
-  full-tracked ten h ix I = record { ten = ten; index = rw (← c) (rw h at I) }
+  pub full-tracked : length (s .counts .n) ≡ 10 → o ≡ Full → (ix : List ℕ) → Held src 3 0 (rowsNow n o) cells ix → Tokens src (s .counts) cells ix
+  full-tracked ten h ix I = record { ten = ten; held = rw (← c) (rw h at I) }
 
   pub enter-full : (f : Refusal) → o ≡ Full → f ≡ noRoom tokens (a ∷ b ∷ 0 ∷ []) → record { answer = Refused f; state = s; a = cells } ≡ enterStep src s a b d t
   unfolding enterStep

@@ -31,7 +31,7 @@ use Rattle.grammar.specs.declared.Repeat.{Repeat}
 use Rattle.grammar.specs.declared.Gap.{Gap}
 use Rattle.grammar.specs.declared.Gap.the-variants.{GapTo, GapRefused}
 use Rattle.tables.specs.Layout.{tokens, rules, repeats, rowPlace, width}
-use Rattle.index.specs.Index.{Indexed}
+use Rattle.finder.specs.Finder.{Held, Grown}
 use Rattle.grammar.specs.Refusals.{numberOfRepeat}
 use Rattle.grammar.specs.Cells.{tokenCells, repeatCells}
 
@@ -81,10 +81,14 @@ count s k = getD (s .counts .n) k 0
 abbrev pub withCount : State → ℕ → ℕ → State
 withCount s k n = withCounts s (record { n = set (s .counts .n) k n })
 
--- the index of table k + 1, whose rows are w wide and have their names in the cells `name` and `name + 1`, holds the rows that are counted
+-- the finder of table k + 1, whose rows are w wide and have their names in the cells `name` and `name + 1`, leads to the rows that are counted
 pub record Tracked (src : List ℕ) (k w name : ℕ) (c : Counts) (t ix : List ℕ) : Type 0 where
   pub ten : length (c .n) ≡ 10
-  pub index : Indexed src w name (getD (c .n) k 0) t ix
+  pub held : Held src w name (getD (c .n) k 0) t ix
+
+-- a finder that was ix and is jx follows its table, and keeps what it leads to for others that share it
+abbrev pub Follows : List ℕ → ℕ → ℕ → ℕ → Counts → List ℕ → List ℕ → List ℕ → Type 0
+Follows src k w name c t ix jx = Tracked src k w name c t jx × Grown ix jx
 
 -- that of table 1, and that of table 7
 abbrev pub Tokens : List ℕ → Counts → List ℕ → List ℕ → Type 0
@@ -93,14 +97,14 @@ Tokens src c t ix = Tracked src tokens (width tokens) 0 c t ix
 abbrev pub Rules : List ℕ → Counts → List ℕ → List ℕ → Type 0
 Rules src c t ix = Tracked src rules (width rules) 0 c t ix
 
--- a list of tokens keeps the index of table 1, which was ix and is jx; another list leaves it
+-- a list of tokens keeps the finder of table 1, which was ix and is jx; another list leaves it
 pub record Tracks (listed : Bool) (src : List ℕ) (c : Counts) (t ix jx : List ℕ) : Type 0 where
   pub keeps : listed ≡ true → Tokens src c t jx
   pub leaves : listed ≡ false → jx ≡ ix
 
--- a row that can be entered into such an index
+-- a row that can be entered into such a finder
 pub record Enters (k w name : ℕ) (row : List ℕ) : Type 0 where
-  pub table : k < 10
+  pub table : k < 9
   pub wide : length row ≡ w
   pub named : name + 1 < w
 

@@ -4,10 +4,13 @@ use tables::Entered;
 use tables::Found;
 ghost use mathlib.Core.Path.{_≡_};
 ghost use mathlib.Core.List.{List, [], _∷_};
-ghost use lib.ListN.{length};
+ghost use Prim.Native.Nat.{_+_};
+ghost use lib.ListN.{length, getD};
+ghost use Rattle.tables.specs.Table.{findName};
+ghost use Rattle.tables.specs.declared.Found.the-variants.{NoRow};
 ghost use Rattle.grammar.specs.Refusals.{numberOfCause, numberOfRepeat, repeatOf, told};
 ghost use Rattle.grammar.specs.Numbers.{partNumbers};
-ghost use Rattle.grammar.specs.State.{count, withCount, noRoom, Out1, Here, gapAt, Gapped, pushRow, listRepeat, enterStep, nextLevel, Out0, Out2, Onward, pastGap, passOn, onceStep, Tokens, Tracked, Enters};
+ghost use Rattle.grammar.specs.State.{count, withCount, noRoom, Out1, Here, gapAt, Gapped, pushRow, listRepeat, enterStep, nextLevel, Out0, Out2, Onward, pastGap, passOn, onceStep, Tokens, Tracked, Follows, Enters};
 
 // The rows of tables 1 to 10.
 pub struct Counts {
@@ -309,7 +312,7 @@ pub fn push(s: State, k: u8, row: &[u32], t: &mut [u32]) -> Step
     }
 }
 
-// The same, and the new row is entered into the table's index.
+// The same of a name that is new in the table, and the new row is entered into the table's finder.
 pub fn push_entered(
     src: &[u8],
     s: State,
@@ -318,16 +321,16 @@ pub fn push_entered(
     name: u8,
     row: &[u32],
     t: &mut [u32],
-    ix: &mut [u32],
+    ix: &mut [u16],
 ) -> Step
-    requires { ⌜ Enters k w name (now row) × Tracked (now src) k w name (s .counts) (now t) (now ix) ⌝ }
+    requires { ⌜ Enters k w name (now row) × Tracked (now src) k w name (s .counts) (now t) (now ix) × (findName (now src) w name (count s k) (now t) (getD (now row) name 0) (getD (now row) (name + 1) 0) ≡ NoRow) ⌝ }
     ensures is { λ r. ⌜ _≡_ {A = Out1} (record { answer = r .answer; state = r .state; a = now (t .exit) }) (pushRow s k (now (row .entry)) (now (t .entry))) ⌝ }
     ensures kept { λ r. ⌜ r .state .at ≡ s .at ⌝ }
-    ensures indexed { λ r. ⌜ Tracked (now (src .entry)) k w name (r .state .counts) (now (t .exit)) (now (ix .exit)) ⌝ }
+    ensures indexed { λ r. ⌜ Follows (now (src .entry)) k w name (r .state .counts) (now (t .exit)) (now (ix .entry)) (now (ix .exit)) ⌝ }
 {
     let n = count_of(s, k);
     if tables::add_row(t, n, row) {
-        index::enter_row(src, t, w, name, n, ix);
+        finder::enter(src, t, w, name, n, ix);
         Step {
             answer: Answer::Going,
             state: with_count(s, k, n + 1),
@@ -357,7 +360,7 @@ pub fn enter(
     to: u32,
     declared: bool,
     t: &mut [u32],
-    ix: &mut [u32],
+    ix: &mut [u16],
 ) -> Step
     requires { ⌜ Tokens (now src) (s .counts) (now t) (now ix) ⌝ }
     ensures is { λ r. ⌜ _≡_ {A = Out1} (record { answer = r .answer; state = r .state; a = now (t .exit) }) (enterStep (now (src .entry)) s from to declared (now (t .entry))) ⌝ }
@@ -365,7 +368,7 @@ pub fn enter(
     ensures indexed { λ r. ⌜ Tokens (now (src .entry)) (r .state .counts) (now (t .exit)) (now (ix .exit)) ⌝ }
 {
     let n = count_of(s, tables::TOKENS);
-    match index::enter_token(src, t, n, ix, from, to, declared) {
+    match finder::enter_token(src, t, n, ix, from, to, declared) {
         Entered::Rows(m) => Step {
             answer: Answer::Going,
             state: with_count(s, tables::TOKENS, m),
@@ -447,15 +450,18 @@ pub fn once(
     row: &[u32],
     t: &mut [u32],
     t10: &mut [u32],
+    ix: &mut [u16],
 ) -> Step
+    requires { ⌜ Enters k w name (now row) × Tracked (now src) k w name (s .counts) (now t) (now ix) ⌝ }
     ensures is { λ r. ⌜ _≡_ {A = Out2} (record { answer = r .answer; state = r .state; a = now (t .exit); b = now (t10 .exit) }) (onceStep (now (src .entry)) s k w name what (now (row .entry)) (now (t .entry)) (now (t10 .entry))) ⌝ }
     ensures kept { λ r. ⌜ r .state .at ≡ s .at ⌝ }
+    ensures indexed { λ r. ⌜ Follows (now (src .entry)) k w name (r .state .counts) (now (t .exit)) (now (ix .entry)) (now (ix .exit)) ⌝ }
 {
     let n = count_of(s, k);
     let first = name as u32;
     let from = tables::cell_in_row(row, first);
     let to = tables::cell_in_row(row, first + 1);
-    match tables::find(src, t, w, name, n, from, to) {
+    match finder::find(src, t, w, name, n, ix, from, to) {
         Found::RowAt(r) => {
             let p = tables::row_place(k);
             let a = tables::cell(t, w, r, p);
@@ -464,6 +470,6 @@ pub fn once(
             let d = tables::cell_in_row(row, p + 1);
             list_repeat(s, what, a, b, c, d, t10)
         }
-        Found::NoRow => push(s, k, row, t),
+        Found::NoRow => push_entered(src, s, k, w, name, row, t, ix),
     }
 }

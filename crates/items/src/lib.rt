@@ -17,7 +17,7 @@ ghost use Prim.Native.Nat.{_≤_};
 ghost use lib.ListN.{length};
 ghost use Rattle.grammar.specs.State.{Out1, Out2, Here, Passed, Moves, Onward, Tokens};
 ghost use Rattle.tables.specs.Layout.{tokens, width};
-ghost use Rattle.index.specs.Index.{Indexed};
+ghost use Rattle.finder.specs.Finder.{Held};
 ghost use Rattle.items.specs.Items.{Inside, sortAt, Spots, begun, withPrec, withAction, tokenSymbol, quotedRows, quotedItem, precName, precItem, mayEnd, afterAction, actionItem, mayFollow, emptyItem, symbolKind, bareItem, endProduction, barItem, endItem, Made0, Made1, Made2, Made3, itemStep, itemList, Itemed};
 
 // What stands at a place in a production.
@@ -147,7 +147,7 @@ pub fn token_symbol(
     to: u32,
     t1: &mut [u32],
     t9: &mut [u32],
-    i1: &mut [u32],
+    i1: &mut [u16],
 ) -> Step
     requires { ⌜ Tokens (now src) (s .counts) (now t1) (now i1) ⌝ }
     ensures is { λ r. ⌜ _≡_ {A = Out2} (record { answer = r .answer; state = r .state; a = now (t1 .exit); b = now (t9 .exit) }) (tokenSymbol (now (src .entry)) s from to (now (t1 .entry)) (now (t9 .entry))) ⌝ }
@@ -183,7 +183,7 @@ pub fn quoted_rows(
     end: usize,
     t1: &mut [u32],
     t9: &mut [u32],
-    i1: &mut [u32],
+    i1: &mut [u16],
 ) -> Drafted
     requires { ⌜ Here (now src) end × Tokens (now src) (s .counts) (now t1) (now i1) ⌝ }
     ensures is { λ r. ⌜ _≡_ {A = Made2} (record { answer = r .answer; state = r .state; draft = r .draft; a = now (t1 .exit); b = now (t9 .exit) }) (quotedRows (now (src .entry)) s d from to end (now (t1 .entry)) (now (t9 .entry))) ⌝ }
@@ -213,7 +213,7 @@ pub fn quoted_item(
     d: Production,
     t1: &mut [u32],
     t9: &mut [u32],
-    i1: &mut [u32],
+    i1: &mut [u16],
 ) -> Drafted
     requires { ⌜ Here (now src) (s .at) × Tokens (now src) (s .counts) (now t1) (now i1) ⌝ }
     ensures is { λ r. ⌜ _≡_ {A = Made2} (record { answer = r .answer; state = r .state; draft = r .draft; a = now (t1 .exit); b = now (t9 .exit) }) (quotedItem (now (src .entry)) s d (now (t1 .entry)) (now (t9 .entry))) ⌝ }
@@ -234,7 +234,7 @@ pub fn quoted_item(
 }
 
 // The name behind `%prec` is a token and joins table 1, undeclared; a later `%prec` replaces an earlier one.
-pub fn prec_name(src: &[u8], s: State, d: Production, t1: &mut [u32], i1: &mut [u32]) -> Drafted
+pub fn prec_name(src: &[u8], s: State, d: Production, t1: &mut [u32], i1: &mut [u16]) -> Drafted
     requires { ⌜ Here (now src) (s .at) × Tokens (now src) (s .counts) (now t1) (now i1) ⌝ }
     ensures is { λ r. ⌜ _≡_ {A = Made1} (record { answer = r .answer; state = r .state; draft = r .draft; a = now (t1 .exit) }) (precName (now (src .entry)) s d (now (t1 .entry))) ⌝ }
     ensures moved { λ r. ⌜ Passed (now (src .entry)) (s .at) (r .state .at) ⌝ }
@@ -260,7 +260,7 @@ pub fn prec_name(src: &[u8], s: State, d: Production, t1: &mut [u32], i1: &mut [
 }
 
 // `%prec`, behind its keyword.
-pub fn prec_item(src: &[u8], s: State, d: Production, t1: &mut [u32], i1: &mut [u32]) -> Drafted
+pub fn prec_item(src: &[u8], s: State, d: Production, t1: &mut [u32], i1: &mut [u16]) -> Drafted
     requires { ⌜ Here (now src) (s .at) × Tokens (now src) (s .counts) (now t1) (now i1) ⌝ }
     ensures is { λ r. ⌜ _≡_ {A = Made1} (record { answer = r .answer; state = r .state; draft = r .draft; a = now (t1 .exit) }) (precItem (now (src .entry)) s d (now (t1 .entry))) ⌝ }
     ensures moved { λ r. ⌜ Passed (now (src .entry)) (s .at) (r .state .at) ⌝ }
@@ -389,11 +389,11 @@ pub fn empty_item(src: &[u8], s: State, d: Production, first: u32) -> Drafted
 }
 
 // A bare symbol is a token only if `%token` declared it, else a rule.
-pub fn symbol_kind(src: &[u8], n: u32, t1: &[u32], i1: &[u32], from: u32, to: u32) -> u32
-    requires { ⌜ Indexed (now src) (width tokens) 0 n (now t1) (now i1) ⌝ }
+pub fn symbol_kind(src: &[u8], n: u32, t1: &[u32], i1: &[u16], from: u32, to: u32) -> u32
+    requires { ⌜ Held (now src) (width tokens) 0 n (now t1) (now i1) ⌝ }
     ensures { λ r. ⌜ r ≡ symbolKind (now (src .entry)) n (now (t1 .entry)) from to ⌝ }
 {
-    match index::find(src, t1, tables::TOKEN_WIDTH, tables::NAME, n, i1, from, to) {
+    match finder::find(src, t1, tables::TOKEN_WIDTH, tables::NAME, n, i1, from, to) {
         Found::RowAt(r) => {
             if tables::cell(t1, tables::TOKEN_WIDTH, r, tables::DECLARED) == 1 {
                 2
@@ -412,7 +412,7 @@ pub fn bare_item(
     d: Production,
     t1: &[u32],
     t9: &mut [u32],
-    i1: &[u32],
+    i1: &[u16],
 ) -> Drafted
     requires { ⌜ Here (now src) (s .at) × Tokens (now src) (s .counts) (now t1) (now i1) ⌝ }
     ensures is { λ r. ⌜ _≡_ {A = Made1} (record { answer = r .answer; state = r .state; draft = r .draft; a = now (t9 .exit) }) (bareItem (now (src .entry)) s d (now (t1 .entry)) (now (t9 .entry))) ⌝ }
@@ -499,7 +499,7 @@ pub fn item(
     t1: &mut [u32],
     t8: &mut [u32],
     t9: &mut [u32],
-    i1: &mut [u32],
+    i1: &mut [u16],
 ) -> Drafted
     requires { ⌜ Here (now src) (s .at) × Tokens (now src) (s .counts) (now t1) (now i1) ⌝ }
     ensures is { λ r. ⌜ _≡_ {A = Made3} (record { answer = r .answer; state = r .state; draft = r .draft; t1 = now (t1 .exit); t8 = now (t8 .exit); t9 = now (t9 .exit) }) (itemStep (now (src .entry)) s d (now (t1 .entry)) (now (t8 .entry)) (now (t9 .entry))) ⌝ }
@@ -530,7 +530,7 @@ pub fn items(
     t1: &mut [u32],
     t8: &mut [u32],
     t9: &mut [u32],
-    i1: &mut [u32],
+    i1: &mut [u16],
 ) -> Step
     requires { ⌜ Here (now src) (s .at) × Tokens (now src) (s .counts) (now t1) (now i1) ⌝ }
     ensures is { λ r. ⌜ _≡_ {A = Itemed} (record { answer = r .answer; state = r .state; t1 = now (t1 .exit); t8 = now (t8 .exit); t9 = now (t9 .exit) }) (itemList (now (src .entry)) s d (now (t1 .entry)) (now (t8 .entry)) (now (t9 .entry))) ⌝ }

@@ -1,4 +1,4 @@
--- A precedence line leaves the count of every table but 2 and 10, and what is given once to a name leaves table 1. Assumes nothing.
+-- A precedence line leaves the count of every table but 2 and 10, what is given once to a name leaves table 1, and a token leaves the others. Assumes nothing.
 use Prim.Native.Nat.{ℕ, suc, _<_}
 use mathlib.Core.Path.{_≡_, ap}
 use mathlib.Core.List.{List}
@@ -20,8 +20,8 @@ use Rattle.grammar.specs.declared.Gap.the-variants.{GapTo, GapRefused}
 use Rattle.grammar.specs.declared.Repeat.{Repeat}
 use Rattle.grammar.specs.declared.Repeat.the-variants.{RepeatedPrecedence}
 use Rattle.grammar.specs.Cells.{precedenceCells}
-use Rattle.grammar.specs.State.{Out0, Out2, Tokens, gapAt, onceStep, passOn}
-use Rattle.grammar.proofs.Spares.{Spares, spares-none, spares-on, spares-once, spares-behind, spared, tracked-passed}
+use Rattle.grammar.specs.State.{Out0, Out1, Out2, Tokens, Tracked, gapAt, enterStep, onceStep, passOn}
+use Rattle.grammar.proofs.Spares.{Spares, spares-none, spares-on, spares-once, spares-enter, spares-behind, spared, tracked-passed}
 use Rattle.lines.specs.Precedences.{precFound, precItem, lineEnd, afterEnd, precTurn, precList, precFrom, precDecl}
 
 module _ (k : ℕ) (other : precedences ≡ k → ⊥) (tenth : repeats ≡ k → ⊥) (src : List ℕ) where
@@ -65,3 +65,7 @@ pub once-tracked : (src : List ℕ) (s : State) (k w name : ℕ) (what : Repeat)
 once-tracked src s k w name what row t t10 a next u u10 line j b q t1 ix l e f I =
     let x : Tokens src (next .counts) t1 ix = rw (ap (λ (o : Out2). o .state .counts) e) (spared (spares-once 0 src s k w name what row t t10 (λ h. omega arith) (λ h. omega arith)) I) in
     tracked-passed src 0 3 0 line j a next b q t1 ix f x
+
+-- a token is entered: the finder of another table than 1 stays
+pub tracked-entered : (src : List ℕ) (k w name : ℕ) (s : State) (from to : ℕ) (declared : Bool) (t1 : List ℕ) (a : Answer) (next : State) (u1 t ix : List ℕ) → 0 < k → record { answer = a; state = next; a = u1 } ≡ enterStep src s from to declared t1 → Tracked src k w name (s .counts) t ix → Tracked src k w name (next .counts) t ix
+tracked-entered src k w name s from to declared t1 a next u1 t ix l e I = rw (ap (λ (o : Out1). o .state .counts) e) (spared (spares-enter k src s from to declared t1 (λ h. omega arith)) I)

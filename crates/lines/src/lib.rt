@@ -9,7 +9,8 @@ use grammar::Step;
 use words::Token;
 ghost use Prim.Native.Nat.{_<_};
 ghost use mathlib.Core.Path.{_≡_};
-ghost use Rattle.grammar.specs.State.{Out2, Out3, Here, Passed, Moves, Onward, Tokens};
+ghost use Rattle.tables.specs.Layout.{precedences, avoided, width};
+ghost use Rattle.grammar.specs.State.{Out2, Out3, Here, Passed, Moves, Onward, Tokens, Tracked, Follows};
 ghost use Rattle.lines.specs.Precedences.{precItem, precList, precDecl};
 ghost use Rattle.lines.specs.Avoided.{avoidNamed, avoidItem, avoidList, avoidDecl};
 
@@ -21,10 +22,12 @@ pub fn prec_item(
     assoc: u32,
     t2: &mut [u32],
     t10: &mut [u32],
+    fx: &mut [u16],
 ) -> Step
-    requires { ⌜ Here (now src) (s .at) ⌝ }
+    requires { ⌜ Here (now src) (s .at) × Tracked (now src) precedences (width precedences) 0 (s .counts) (now t2) (now fx) ⌝ }
     ensures is { λ r. ⌜ _≡_ {A = Out2} (record { answer = r .answer; state = r .state; a = now (t2 .exit); b = now (t10 .exit) }) (precItem (now (src .entry)) s level assoc (now (t2 .entry)) (now (t10 .entry))) ⌝ }
     ensures moved { λ r. ⌜ Moves (now (src .entry)) (s .at) (r .answer) (r .state .at) ⌝ }
+    ensures indexed { λ r. ⌜ Follows (now (src .entry)) precedences (width precedences) 0 (r .state .counts) (now (t2 .exit)) (now (fx .entry)) (now (fx .exit)) ⌝ }
 {
     let at = s.at;
     match words::parse_token(src, at) {
@@ -42,6 +45,7 @@ pub fn prec_item(
                 &row,
                 t2,
                 t10,
+                fx,
             );
             grammar::pass_on(src, r, end, true)
         }
@@ -60,10 +64,12 @@ pub fn prec_list(
     assoc: u32,
     t2: &mut [u32],
     t10: &mut [u32],
+    fx: &mut [u16],
 ) -> Step
-    requires { ⌜ Here (now src) (s .at) ⌝ }
+    requires { ⌜ Here (now src) (s .at) × Tracked (now src) precedences (width precedences) 0 (s .counts) (now t2) (now fx) ⌝ }
     ensures is { λ r. ⌜ _≡_ {A = Out2} (record { answer = r .answer; state = r .state; a = now (t2 .exit); b = now (t10 .exit) }) (precList (now (src .entry)) s level assoc (now (t2 .entry)) (now (t10 .entry))) ⌝ }
     ensures moved { λ r. ⌜ Passed (now (src .entry)) (s .at) (r .state .at) ⌝ }
+    ensures indexed { λ r. ⌜ Follows (now (src .entry)) precedences (width precedences) 0 (r .state .counts) (now (t2 .exit)) (now (fx .entry)) (now (fx .exit)) ⌝ }
 {
     let mut st = s;
     loop {
@@ -74,7 +80,7 @@ pub fn prec_list(
                 state: st,
             };
         }
-        let r = prec_item(src, st, level, assoc, t2, t10);
+        let r = prec_item(src, st, level, assoc, t2, t10, fx);
         let a = r.answer;
         let next = r.state;
         match a {
@@ -95,10 +101,18 @@ pub fn prec_list(
 }
 
 // A line of `%left`, `%right` or `%nonassoc`: it takes a level.
-pub fn prec_decl(src: &[u8], s: State, assoc: u32, t2: &mut [u32], t10: &mut [u32]) -> Step
-    requires { ⌜ Here (now src) (s .at) ⌝ }
+pub fn prec_decl(
+    src: &[u8],
+    s: State,
+    assoc: u32,
+    t2: &mut [u32],
+    t10: &mut [u32],
+    fx: &mut [u16],
+) -> Step
+    requires { ⌜ Here (now src) (s .at) × Tracked (now src) precedences (width precedences) 0 (s .counts) (now t2) (now fx) ⌝ }
     ensures is { λ r. ⌜ _≡_ {A = Out2} (record { answer = r .answer; state = r .state; a = now (t2 .exit); b = now (t10 .exit) }) (precDecl (now (src .entry)) s assoc (now (t2 .entry)) (now (t10 .entry))) ⌝ }
     ensures moved { λ r. ⌜ Passed (now (src .entry)) (s .at) (r .state .at) ⌝ }
+    ensures indexed { λ r. ⌜ Follows (now (src .entry)) precedences (width precedences) 0 (r .state .counts) (now (t2 .exit)) (now (fx .entry)) (now (fx .exit)) ⌝ }
 {
     let behind = s.at;
     match grammar::pass_gap(src, behind, false) {
@@ -107,7 +121,7 @@ pub fn prec_decl(src: &[u8], s: State, assoc: u32, t2: &mut [u32], t10: &mut [u3
             let mut next = s;
             next.at = i;
             next.level = grammar::next_level(level);
-            prec_list(src, next, level, assoc, t2, t10)
+            prec_list(src, next, level, assoc, t2, t10, fx)
         }
         Gap::GapRefused(f) => Step {
             answer: Answer::Refused(f),
@@ -128,12 +142,13 @@ pub fn avoid_named(
     t1: &mut [u32],
     t: &mut [u32],
     t10: &mut [u32],
-    i1: &mut [u32],
+    i1: &mut [u16],
+    fx: &mut [u16],
 ) -> Step
-    requires { ⌜ Here (now src) end × Tokens (now src) (s .counts) (now t1) (now i1) × (0 < k) ⌝ }
+    requires { ⌜ Here (now src) end × Tokens (now src) (s .counts) (now t1) (now i1) × (0 < k) × (k < 9) × Tracked (now src) k (width avoided) 0 (s .counts) (now t) (now fx) ⌝ }
     ensures is { λ r. ⌜ _≡_ {A = Out3} (record { answer = r .answer; state = r .state; a = now (t1 .exit); b = now (t .exit); c = now (t10 .exit) }) (avoidNamed (now (src .entry)) s k what from to end (now (t1 .entry)) (now (t .entry)) (now (t10 .entry))) ⌝ }
     ensures moved { λ r. ⌜ Onward (now (src .entry)) end (s .at) (r .answer) (r .state .at) ⌝ }
-    ensures indexed { λ r. ⌜ Tokens (now (src .entry)) (r .state .counts) (now (t1 .exit)) (now (i1 .exit)) ⌝ }
+    ensures indexed { λ r. ⌜ Tokens (now (src .entry)) (r .state .counts) (now (t1 .exit)) (now (i1 .exit)) × Follows (now (src .entry)) k (width avoided) 0 (r .state .counts) (now (t .exit)) (now (fx .entry)) (now (fx .exit)) ⌝ }
 {
     let e = grammar::enter(src, s, from, to, false, t1, i1);
     let a = e.answer;
@@ -151,6 +166,7 @@ pub fn avoid_named(
                 &row,
                 t,
                 t10,
+                fx,
             );
             grammar::pass_on(src, r, end, true)
         }
@@ -174,12 +190,13 @@ pub fn avoid_item(
     t1: &mut [u32],
     t: &mut [u32],
     t10: &mut [u32],
-    i1: &mut [u32],
+    i1: &mut [u16],
+    fx: &mut [u16],
 ) -> Step
-    requires { ⌜ Here (now src) (s .at) × Tokens (now src) (s .counts) (now t1) (now i1) × (0 < k) ⌝ }
+    requires { ⌜ Here (now src) (s .at) × Tokens (now src) (s .counts) (now t1) (now i1) × (0 < k) × (k < 9) × Tracked (now src) k (width avoided) 0 (s .counts) (now t) (now fx) ⌝ }
     ensures is { λ r. ⌜ _≡_ {A = Out3} (record { answer = r .answer; state = r .state; a = now (t1 .exit); b = now (t .exit); c = now (t10 .exit) }) (avoidItem (now (src .entry)) s k what (now (t1 .entry)) (now (t .entry)) (now (t10 .entry))) ⌝ }
     ensures moved { λ r. ⌜ Moves (now (src .entry)) (s .at) (r .answer) (r .state .at) ⌝ }
-    ensures indexed { λ r. ⌜ Tokens (now (src .entry)) (r .state .counts) (now (t1 .exit)) (now (i1 .exit)) ⌝ }
+    ensures indexed { λ r. ⌜ Tokens (now (src .entry)) (r .state .counts) (now (t1 .exit)) (now (i1 .exit)) × Follows (now (src .entry)) k (width avoided) 0 (r .state .counts) (now (t .exit)) (now (fx .entry)) (now (fx .exit)) ⌝ }
 {
     let at = s.at;
     match words::parse_token(src, at) {
@@ -196,6 +213,7 @@ pub fn avoid_item(
                 t,
                 t10,
                 i1,
+                fx,
             )
         }
         Token::NoToken(i) => Step {
@@ -214,16 +232,17 @@ pub fn avoid_list(
     t1: &mut [u32],
     t: &mut [u32],
     t10: &mut [u32],
-    i1: &mut [u32],
+    i1: &mut [u16],
+    fx: &mut [u16],
 ) -> Step
-    requires { ⌜ Here (now src) (s .at) × Tokens (now src) (s .counts) (now t1) (now i1) × (0 < k) ⌝ }
+    requires { ⌜ Here (now src) (s .at) × Tokens (now src) (s .counts) (now t1) (now i1) × (0 < k) × (k < 9) × Tracked (now src) k (width avoided) 0 (s .counts) (now t) (now fx) ⌝ }
     ensures is { λ r. ⌜ _≡_ {A = Out3} (record { answer = r .answer; state = r .state; a = now (t1 .exit); b = now (t .exit); c = now (t10 .exit) }) (avoidList (now (src .entry)) s k what (now (t1 .entry)) (now (t .entry)) (now (t10 .entry))) ⌝ }
     ensures moved { λ r. ⌜ Passed (now (src .entry)) (s .at) (r .state .at) ⌝ }
-    ensures indexed { λ r. ⌜ Tokens (now (src .entry)) (r .state .counts) (now (t1 .exit)) (now (i1 .exit)) ⌝ }
+    ensures indexed { λ r. ⌜ Tokens (now (src .entry)) (r .state .counts) (now (t1 .exit)) (now (i1 .exit)) × Follows (now (src .entry)) k (width avoided) 0 (r .state .counts) (now (t .exit)) (now (fx .entry)) (now (fx .exit)) ⌝ }
 {
     let mut st = s;
     loop {
-        let r = avoid_item(src, st, k, what, t1, t, t10, i1);
+        let r = avoid_item(src, st, k, what, t1, t, t10, i1, fx);
         let a = r.answer;
         let next = r.state;
         match a {
@@ -252,12 +271,13 @@ pub fn avoid_decl(
     t1: &mut [u32],
     t: &mut [u32],
     t10: &mut [u32],
-    i1: &mut [u32],
+    i1: &mut [u16],
+    fx: &mut [u16],
 ) -> Step
-    requires { ⌜ Here (now src) (s .at) × Tokens (now src) (s .counts) (now t1) (now i1) × (0 < k) ⌝ }
+    requires { ⌜ Here (now src) (s .at) × Tokens (now src) (s .counts) (now t1) (now i1) × (0 < k) × (k < 9) × Tracked (now src) k (width avoided) 0 (s .counts) (now t) (now fx) ⌝ }
     ensures is { λ r. ⌜ _≡_ {A = Out3} (record { answer = r .answer; state = r .state; a = now (t1 .exit); b = now (t .exit); c = now (t10 .exit) }) (avoidDecl (now (src .entry)) s k what (now (t1 .entry)) (now (t .entry)) (now (t10 .entry))) ⌝ }
     ensures moved { λ r. ⌜ Passed (now (src .entry)) (s .at) (r .state .at) ⌝ }
-    ensures indexed { λ r. ⌜ Tokens (now (src .entry)) (r .state .counts) (now (t1 .exit)) (now (i1 .exit)) ⌝ }
+    ensures indexed { λ r. ⌜ Tokens (now (src .entry)) (r .state .counts) (now (t1 .exit)) (now (i1 .exit)) × Follows (now (src .entry)) k (width avoided) 0 (r .state .counts) (now (t .exit)) (now (fx .entry)) (now (fx .exit)) ⌝ }
 {
     let at = s.at;
     if src.len() <= at {
@@ -270,7 +290,7 @@ pub fn avoid_decl(
         Gap::GapTo(i, _) => {
             let mut next = s;
             next.at = i;
-            avoid_list(src, next, k, what, t1, t, t10, i1)
+            avoid_list(src, next, k, what, t1, t, t10, i1, fx)
         }
         Gap::GapRefused(f) => Step {
             answer: Answer::Refused(f),

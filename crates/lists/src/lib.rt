@@ -12,7 +12,7 @@ ghost use Rattle.grammar.specs.State.{Out1, Here, Passed, Moves, Onward, Tokens
 ghost use Rattle.lists.specs.Lists.{tokenItem, unusedRow, unusedItem, listItem, percentList, listDecl};
 
 // One token of a `%token` list, and the spacing behind it.
-pub fn token_item(src: &[u8], s: State, t1: &mut [u32], ix: &mut [u32]) -> Step
+pub fn token_item(src: &[u8], s: State, t1: &mut [u32], ix: &mut [u16]) -> Step
     requires { ⌜ Here (now src) (s .at) × Tokens (now src) (s .counts) (now t1) (now ix) ⌝ }
     ensures is { λ r. ⌜ _≡_ {A = Out1} (record { answer = r .answer; state = r .state; a = now (t1 .exit) }) (tokenItem (now (src .entry)) s (now (t1 .entry))) ⌝ }
     ensures moved { λ r. ⌜ Moves (now (src .entry)) (s .at) (r .answer) (r .state .at) ⌝ }
@@ -71,7 +71,7 @@ pub fn unused_item(src: &[u8], s: State, t6: &mut [u32]) -> Step
     }
 }
 
-pub fn list_item(src: &[u8], s: State, tokens: bool, t: &mut [u32], ix: &mut [u32]) -> Step
+pub fn list_item(src: &[u8], s: State, tokens: bool, t: &mut [u32], ix: &mut [u16]) -> Step
     requires { ⌜ Here (now src) (s .at) × Tracks tokens (now src) (s .counts) (now t) (now ix) (now ix) ⌝ }
     ensures is { λ r. ⌜ _≡_ {A = Out1} (record { answer = r .answer; state = r .state; a = now (t .exit) }) (listItem (now (src .entry)) s tokens (now (t .entry))) ⌝ }
     ensures moved { λ r. ⌜ Moves (now (src .entry)) (s .at) (r .answer) (r .state .at) ⌝ }
@@ -85,7 +85,7 @@ pub fn list_item(src: &[u8], s: State, tokens: bool, t: &mut [u32], ix: &mut [u3
 }
 
 // The items up to the next `%`, or to the source's end.
-pub fn percent_list(src: &[u8], s: State, tokens: bool, t: &mut [u32], ix: &mut [u32]) -> Step
+pub fn percent_list(src: &[u8], s: State, tokens: bool, t: &mut [u32], ix: &mut [u16]) -> Step
     requires { ⌜ Here (now src) (s .at) × Tracks tokens (now src) (s .counts) (now t) (now ix) (now ix) ⌝ }
     ensures is { λ r. ⌜ _≡_ {A = Out1} (record { answer = r .answer; state = r .state; a = now (t .exit) }) (percentList (now (src .entry)) s tokens (now (t .entry))) ⌝ }
     ensures moved { λ r. ⌜ Passed (now (src .entry)) (s .at) (r .state .at) ⌝ }
@@ -123,7 +123,7 @@ pub fn percent_list(src: &[u8], s: State, tokens: bool, t: &mut [u32], ix: &mut 
     }
 }
 
-pub fn list_decl(src: &[u8], s: State, tokens: bool, t: &mut [u32], ix: &mut [u32]) -> Step
+pub fn list_decl(src: &[u8], s: State, tokens: bool, t: &mut [u32], ix: &mut [u16]) -> Step
     requires { ⌜ Here (now src) (s .at) × Tracks tokens (now src) (s .counts) (now t) (now ix) (now ix) ⌝ }
     ensures is { λ r. ⌜ _≡_ {A = Out1} (record { answer = r .answer; state = r .state; a = now (t .exit) }) (listDecl (now (src .entry)) s tokens (now (t .entry))) ⌝ }
     ensures moved { λ r. ⌜ Passed (now (src .entry)) (s .at) (r .state .at) ⌝ }

@@ -14,9 +14,9 @@ use Rattle.whole.specs.declared.Checked.{Checked}
 use Rattle.whole.specs.declared.Checked.the-variants.{Good, BadAt}
 use Rattle.whole.specs.Whole.{checkAt, Below}
 use Rattle.tables.specs.Table.{zeroed, cell}
-use Rattle.tables.specs.Layout.{tokens, rules, symbols, repeats, firstPlace, width}
-use Rattle.index.specs.Index.{Indexed, entries, sizeTest}
-use Rattle.index.proofs.Theorems.{indexed-none, entries-length}
+use Rattle.tables.specs.Layout.{tokens, precedences, avoided, implicit, epps, rules, symbols, repeats, firstPlace, width}
+use Rattle.index.specs.Index.{entries, sizeTest}
+use Rattle.finder.proofs.Laws.{held-none}
 use Rattle.symbols.specs.Symbols.{filledRows}
 use Rattle.grammar.specs.declared.Singles.{Singles}
 use Rattle.grammar.specs.declared.State.{State}
@@ -29,13 +29,13 @@ use Rattle.grammar.specs.declared.Answer.{Answer}
 use Rattle.grammar.specs.declared.Answer.the-variants.{Going, Done, Refused}
 use Rattle.grammar.specs.State.{Out0, Here, Passed, Tracked, Tokens, Rules, count, fresh, noCounts, noSingles}
 use Rattle.grammar.specs.Sound.{Tables, Indexes, lexiconOf, zeroAll}
-use Rattle.declarations.specs.Declarations.{Out, declAll}
+use Rattle.declarations.specs.Declarations.{Givens, Out, declAll}
 use Rattle.rules.specs.Rules.{Ruled, rulesAll, programsFrom}
 use Rattle.reader.specs.declared.Admission.{Admission}
 use Rattle.reader.specs.declared.Admission.the-variants.{Fit, Unfit}
 use Rattle.reader.specs.declared.Verdict.the-variants.{Accepted, Rejected}
 use Rattle.reader.specs.declared.Reading.{Reading}
-use Rattle.reader.specs.Read.{Run, Outcome, Result, Short, sizesFit, sized, sizedText, admitted, ranProgram, restAll, declared, withDeclared, withRuled, sectionsAll, attempted, onlyRepeats, stoppedAt, endedAt, result, finished, finishedRun, indexed, readNames, withSymbols, filledIn, readAll}
+use Rattle.reader.specs.Read.{Run, Outcome, Result, Short, sizesFit, sized, sizedText, admitted, ranProgram, restAll, declared, withDeclared, withRuled, sectionsAll, attempted, onlyRepeats, stoppedAt, endedAt, result, finished, finishedRun, indexed, readNames, withSymbols, filledIn, readAll, filledOut}
 
 -- kind, sizes, length, UTF-8
 module _ (src : List ℕ) (kind : ℕ) (fit : Bool) where
@@ -118,15 +118,18 @@ module _ (src : List ℕ) (kind : ℕ) (T : Tables) (s : State) (b : s ≡ fresh
   unfolding attempted
   attempt-unfit f e = rw (← z, ← q, e, b)
 
--- where a reading begins, an index of zeros holds all rows, which are none
-pub begun-tracked : (src : List ℕ) (k w name : ℕ) (s : State) (t ix : List ℕ) → s ≡ fresh → Tracked src k w name noCounts t ix → Tracked src k w name (s .counts) t ix
-begun-tracked src k w name s t ix b I = told (λ (y : State). Tracked src k w name (y .counts) t ix) (sym b) I
+-- where a reading begins, any finder leads to all rows, which are none
+pub none-tracked : (src : List ℕ) (k w name : ℕ) (s : State) (t ix : List ℕ) → getD (noCounts .n) k 0 ≡ 0 → s ≡ fresh → Tracked src k w name (s .counts) t ix
+none-tracked src k w name s t ix z b = told (λ (y : State). Tracked src k w name (y .counts) t ix) (sym b) (record { ten = refl; held = rw z (held-none src w name t ix) })
 
-pub none-tokens : (src t ix jx : List ℕ) → jx ≡ zeroed ix → Tokens src noCounts t jx
-none-tokens src t ix jx e = rw e (record { ten = refl; index = indexed-none src (width tokens) 0 t ix })
-
-pub none-rules : (src t ix jx : List ℕ) → jx ≡ zeroed ix → Rules src noCounts t jx
-none-rules src t ix jx e = rw e (record { ten = refl; index = indexed-none src (width rules) 0 t ix })
+pub none-given : (src : List ℕ) (s : State) (t2 t3 t4 t5 fx : List ℕ) → s ≡ fresh → Givens src (s .counts) t2 t3 t4 t5 fx
+none-given src s t2 t3 t4 t5 fx b =
+    record {
+      second = none-tracked src precedences (width precedences) 0 s t2 fx refl b;
+      third = none-tracked src avoided (width avoided) 0 s t3 fx refl b;
+      fourth = none-tracked src implicit (width avoided) 0 s t4 fx refl b;
+      fifth = none-tracked src epps (width epps) 2 s t5 fx refl b;
+    }
 
 -- after a fatal refusal
 pub stopped-at : (s : State) (f : Refusal) (n : ℕ) (g : Singles) → n ≡ count s repeats → g ≡ noSingles → record { answer = Rejected f; counts = onlyRepeats n; singles = g } ≡ stoppedAt s f
@@ -151,11 +154,8 @@ ended-counts s t10 = on-test (λ (r : Reading). r .counts ≡ s .counts) (eqb (c
 pub ended-tracked : (src : List ℕ) (k w name : ℕ) (s : State) (t10 : List ℕ) (r : Reading) (t ix : List ℕ) → r ≡ endedAt s t10 → Tracked src k w name (s .counts) t ix → Tracked src k w name (r .counts) t ix
 ended-tracked src k w name s t10 r t ix e I = let c : r .counts ≡ s .counts = ap (λ (y : Reading). y .counts) e ∙ ended-counts s t10 in rw c I
 
-pub stopped-tokens : (src : List ℕ) (s : State) (f : Refusal) (r : Reading) (t ix jx : List ℕ) → r ≡ stoppedAt s f → jx ≡ zeroed ix → Tokens src (r .counts) t jx
-stopped-tokens src s f r t ix jx e g = rw (ap (λ (y : Reading). y .counts) e, g) (record { ten = refl; index = indexed-none src (width tokens) 0 t ix })
-
-pub stopped-rules : (src : List ℕ) (s : State) (f : Refusal) (r : Reading) (t ix jx : List ℕ) → r ≡ stoppedAt s f → jx ≡ zeroed ix → Rules src (r .counts) t jx
-stopped-rules src s f r t ix jx e g = rw (ap (λ (y : Reading). y .counts) e, g) (record { ten = refl; index = indexed-none src (width rules) 0 t ix })
+pub stopped-tracked : (src : List ℕ) (k w name : ℕ) (s : State) (f : Refusal) (r : Reading) (t ix : List ℕ) → getD (onlyRepeats (count s repeats) .n) k 0 ≡ 0 → r ≡ stoppedAt s f → Tracked src k w name (r .counts) t ix
+stopped-tracked src k w name s f r t ix z e = rw (ap (λ (y : Reading). y .counts) e) (record { ten = refl; held = rw z (held-none src w name t ix) })
 
 -- tables 1 to 9 without anything in them
 abbrev Nine : Tables → Tables → Type 0
@@ -181,39 +181,28 @@ sizes-are m₁ n₁ m₇ n₇ p q e f = rw (e, f)
 sized-same : (t7 z7 t1 z1 xt yt xr yr : List ℕ) → z1 ≡ zeroed t1 → z7 ≡ zeroed t7 → yt ≡ zeroed xt → yr ≡ zeroed xr → sizesFit (length yt) (length z1) (length yr) (length z7) ≡ sizesFit (length xt) (length t1) (length xr) (length t7)
 sized-same t7 z7 t1 z1 xt yt xr yr a b c d = rw (a, b, c, d, length-replicate {A = ℕ} (length xt) 0, length-replicate {A = ℕ} (length xr) 0, length-replicate {A = ℕ} (length t1) 0, length-replicate {A = ℕ} (length t7) 0)
 
--- The read: on tables of zeros, then its end, with indexes that hold the rows it left.
-pub read-ends : (src : List ℕ) (kind : ℕ) (T Z : Tables) (X : Indexes) (yt yr : List ℕ) (o : Run) (r : Outcome) (wt wr : List ℕ) → Nine Z T → Z .t10 ≡ zeroed (T .t10) → yt ≡ zeroed (X .tokens) → yr ≡ zeroed (X .rules)
-    → o ≡ attempted src kind (sizesFit (length yt) (length (Z .t1)) (length yr) (length (Z .t7))) Z → r ≡ finished (o .answer) (o .state) (o .tables)
-    → Tokens src (r .counts) (r .tables .t1) wt → Rules src (r .counts) (r .tables .t7) wr → length wt ≡ length (X .tokens) → length wr ≡ length (X .rules)
-    → record { answer = r .answer; counts = r .counts; singles = r .singles; tables = r .tables; indexes = record { tokens = wt; rules = wr } } ≡ readNames src kind T X
-unfolding readNames
-read-ends src kind T Z X yt yr o r wt wr z k v u q h I J l m =
-    let p : o ≡ attempted src kind (sized T X) Z = q ∙ ap (λ (fit : Bool). attempted src kind fit Z) (sized-same (T .t7) (Z .t7) (T .t1) (Z .t1) (X .tokens) yt (X .rules) yr (z .0) (z .6) v u) in
-    let g : r ≡ finishedRun (attempted src kind (sized T X) (zeroAll T)) = rw (← z .0, ← z .1, ← z .2, ← z .3, ← z .4, ← z .5, ← z .6, ← z .7, ← z .8, ← k, ← p) h in
-    let a : wt ≡ entries src (width tokens) 0 (r .tables .t1) (length (X .tokens)) (getD (r .counts .n) tokens 0) = rw l at (I .index .holds) in
-    let b : wr ≡ entries src (width rules) 0 (r .tables .t7) (length (X .rules)) (getD (r .counts .n) rules 0) = rw m at (J .index .holds) in
-    whole a b ∙ ap (indexed src X) g
+-- the run, with the rows of its symbols
+pub run-filled : (src : List ℕ) (kind : ℕ) (fit : Bool) (T : Tables) (o : Run) (q : Outcome) (t9 : List ℕ) → o ≡ attempted src kind fit T → q ≡ finished (o .answer) (o .state) (o .tables) → t9 ≡ filledRows (lexiconOf src (q .counts) (q .tables)) (q .tables .t9) (getD (q .counts .n) symbols 0)
+    → record { answer = q .answer; counts = q .counts; singles = q .singles; tables = withSymbols (q .tables) t9 } ≡ filledOut src (finishedRun (attempted src kind fit T))
+run-filled src kind fit T o q t9 e f g = rw g (ap (filledOut src) (f ∙ ap finishedRun e))
+
+-- slots of zeros, cleared again
+pub zeroed-again : (ix jx : List ℕ) → jx ≡ zeroed ix → jx ≡ zeroed jx
+zeroed-again ix jx e = rw (e, length-replicate {A = ℕ} (length ix) 0)
+
+-- The read: on tables of zeros, the run, then indexes that hold the rows it left.
+pub read-whole : (src : List ℕ) (kind : ℕ) (T Z : Tables) (X : Indexes) (yt yr : List ℕ) (fit : Bool) (o : Outcome) (wt wr : List ℕ) → Nine Z T → Z .t10 ≡ zeroed (T .t10) → yt ≡ zeroed (X .tokens) → yr ≡ zeroed (X .rules)
+    → fit ≡ sizesFit (length yt) (length (Z .t1)) (length yr) (length (Z .t7)) → o ≡ filledOut src (finishedRun (attempted src kind fit Z))
+    → wt ≡ entries src (width tokens) 0 (o .tables .t1) (length yt) (getD (o .counts .n) tokens 0) → wr ≡ entries src (width rules) 0 (o .tables .t7) (length yr) (getD (o .counts .n) rules 0)
+    → record { answer = o .answer; counts = o .counts; singles = o .singles; tables = o .tables; indexes = record { tokens = wt; rules = wr } } ≡ readAll src kind T X
+unfolding readAll readNames
+read-whole src kind T Z X yt yr fit o wt wr z k v u f q a b =
+    let l : length yt ≡ length (X .tokens) = rw (v, length-replicate {A = ℕ} (length (X .tokens)) 0) in
+    let m : length yr ≡ length (X .rules) = rw (u, length-replicate {A = ℕ} (length (X .rules)) 0) in
+    let p : fit ≡ sized T X = f ∙ sized-same (T .t7) (Z .t7) (T .t1) (Z .t1) (X .tokens) yt (X .rules) yr (z .0) (z .6) v u in
+    let g : o ≡ filledOut src (finishedRun (attempted src kind (sized T X) (zeroAll T))) = rw (← z .0, ← z .1, ← z .2, ← z .3, ← z .4, ← z .5, ← z .6, ← z .7, ← z .8, ← k, ← p) q in
+    whole (rw l at a) (rw m at b) ∙ ap (indexed src X) g
   where
-    whole : wt ≡ entries src (width tokens) 0 (r .tables .t1) (length (X .tokens)) (getD (r .counts .n) tokens 0) → wr ≡ entries src (width rules) 0 (r .tables .t7) (length (X .rules)) (getD (r .counts .n) rules 0)
-        → record { answer = r .answer; counts = r .counts; singles = r .singles; tables = r .tables; indexes = record { tokens = wt; rules = wr } } ≡ indexed src X r
+    whole : wt ≡ entries src (width tokens) 0 (o .tables .t1) (length (X .tokens)) (getD (o .counts .n) tokens 0) → wr ≡ entries src (width rules) 0 (o .tables .t7) (length (X .rules)) (getD (o .counts .n) rules 0)
+        → record { answer = o .answer; counts = o .counts; singles = o .singles; tables = o .tables; indexes = record { tokens = wt; rules = wr } } ≡ indexed src X o
     whole a b = rw (a, b)
-
--- What it found names by, whatever the answer,
-abbrev Found : List ℕ → Result → Type 0
-Found src o = Indexed src (width tokens) 0 (getD (o .counts .n) tokens 0) (o .tables .t1) (o .indexes .tokens) × Indexed src (width rules) 0 (getD (o .counts .n) rules 0) (o .tables .t7) (o .indexes .rules)
-
-pub names-found : (src : List ℕ) (kind : ℕ) (T : Tables) (X : Indexes) (r : Result) → r ≡ readNames src kind T X → Found src r
-unfolding readNames
-names-found src kind T X r e = told (Found src) (sym e) (go (finishedRun (attempted src kind (sized T X) (zeroAll T))))
-  where
-    go : (o : Outcome) → Found src (indexed src X o)
-    go o = (
-      record { holds = rw (entries-length src (width tokens) 0 (o .tables .t1) (length (X .tokens)) (getD (o .counts .n) tokens 0)) },
-      record { holds = rw (entries-length src (width rules) 0 (o .tables .t7) (length (X .rules)) (getD (o .counts .n) rules 0)) },
-    )
-
--- and symbols get their rows by it.
-pub read-filled : (src : List ℕ) (kind : ℕ) (T : Tables) (X : Indexes) (r : Result) → r ≡ readNames src kind T X → (t9 : List ℕ) → t9 ≡ filledRows (lexiconOf src (r .counts) (r .tables)) (r .tables .t9) (getD (r .counts .n) symbols 0)
-    → record { answer = r .answer; counts = r .counts; singles = r .singles; tables = withSymbols (r .tables) t9; indexes = r .indexes } ≡ readAll src kind T X
-unfolding readAll
-read-filled src kind T X r e t9 f = rw f (ap (filledIn src) e)

@@ -190,6 +190,15 @@ readNames src kind T X = indexed src X (finishedRun (attempted src kind (sized T
 abbrev pub withSymbols : Tables → List ℕ → Tables
 withSymbols T t9 = record { t1 = T .t1; t2 = T .t2; t3 = T .t3; t4 = T .t4; t5 = T .t5; t6 = T .t6; t7 = T .t7; t8 = T .t8; t9 = t9; t10 = T .t10 }
 
+abbrev pub filledOut : List ℕ → Outcome → Outcome
+filledOut src o =
+    record {
+      answer = o .answer;
+      counts = o .counts;
+      singles = o .singles;
+      tables = withSymbols (o .tables) (filledRows (lexiconOf src (o .counts) (o .tables)) (o .tables .t9) (getD (o .counts .n) symbols 0));
+    }
+
 abbrev pub filledIn : List ℕ → Result → Result
 filledIn src o =
     record {

@@ -14,13 +14,14 @@ ghost use mathlib.Core.Path.{_≡_};
 ghost use Prim.Native.Nat.{_≤_};
 ghost use lib.ListN.{length, getD};
 ghost use Rattle.tables.specs.Layout.{tokens, rules, symbols, width};
-ghost use Rattle.index.specs.Index.{Indexed};
+ghost use Rattle.index.specs.Index.{entries};
 ghost use Rattle.symbols.specs.Symbols.{lexicon, filledRows};
-ghost use Rattle.grammar.specs.State.{Here, Passed, Tokens, Rules, fresh, noCounts, noSingles};
+ghost use Rattle.grammar.specs.State.{Here, Passed, Tokens, Rules, fresh, noSingles};
 ghost use Rattle.grammar.specs.Sound.{Tables};
+ghost use Rattle.declarations.specs.Declarations.{Givens};
 ghost use Rattle.rules.specs.Rules.{Ruled};
 ghost use Rattle.tables.specs.Table.{zeroed};
-ghost use Rattle.reader.specs.Read.{Run, Outcome, Result, Short, sizesFit, admitted, restAll, sectionsAll, attempted, stoppedAt, endedAt, finished, readNames, readAll};
+ghost use Rattle.reader.specs.Read.{Run, Outcome, Result, Short, sizesFit, admitted, restAll, sectionsAll, attempted, stoppedAt, endedAt, finished, finishedRun, filledOut, readAll};
 
 // What a read came to.
 pub enum Verdict {
@@ -105,15 +106,15 @@ pub fn rest(
     t7: &mut [u32],
     t8: &mut [u32],
     t9: &mut [u32],
-    i1: &mut [u32],
-    i7: &mut [u32],
+    f1: &mut [u16],
+    f7: &mut [u16],
 ) -> Step
-    requires { ⌜ Here (now src) (s .at) × Tokens (now src) (s .counts) (now t1) (now i1) × Rules (now src) (s .counts) (now t7) (now i7) ⌝ }
+    requires { ⌜ Here (now src) (s .at) × Tokens (now src) (s .counts) (now t1) (now f1) × Rules (now src) (s .counts) (now t7) (now f7) ⌝ }
     ensures is { λ r. ⌜ _≡_ {A = Ruled} (record { answer = r .answer; state = r .state; t1 = now (t1 .exit); t7 = now (t7 .exit); t8 = now (t8 .exit); t9 = now (t9 .exit) }) (restAll (now (src .entry)) kind s (now (t1 .entry)) (now (t7 .entry)) (now (t8 .entry)) (now (t9 .entry))) ⌝ }
     ensures moved { λ r. ⌜ Passed (now (src .entry)) (s .at) (r .state .at) ⌝ }
-    ensures indexed { λ r. ⌜ Tokens (now (src .entry)) (r .state .counts) (now (t1 .exit)) (now (i1 .exit)) × Rules (now (src .entry)) (r .state .counts) (now (t7 .exit)) (now (i7 .exit)) ⌝ }
+    ensures indexed { λ r. ⌜ Tokens (now (src .entry)) (r .state .counts) (now (t1 .exit)) (now (f1 .exit)) × Rules (now (src .entry)) (r .state .counts) (now (t7 .exit)) (now (f7 .exit)) ⌝ }
 {
-    let r = rules::rules(src, kind, s, t1, t7, t8, t9, i1, i7);
+    let r = rules::rules(src, kind, s, t1, t7, t8, t9, f1, f7);
     let a = r.answer;
     let n = r.state;
     match a {
@@ -144,15 +145,16 @@ pub fn sections(
     t8: &mut [u32],
     t9: &mut [u32],
     t10: &mut [u32],
-    i1: &mut [u32],
-    i7: &mut [u32],
+    f1: &mut [u16],
+    f7: &mut [u16],
+    fx: &mut [u16],
 ) -> Step
-    requires { ⌜ Here (now src) (s .at) × Tokens (now src) (s .counts) (now t1) (now i1) × Rules (now src) (s .counts) (now t7) (now i7) ⌝ }
+    requires { ⌜ Here (now src) (s .at) × Tokens (now src) (s .counts) (now t1) (now f1) × Rules (now src) (s .counts) (now t7) (now f7) × Givens (now src) (s .counts) (now t2) (now t3) (now t4) (now t5) (now fx) ⌝ }
     ensures is { λ r. ⌜ _≡_ {A = Run} (record { answer = r .answer; state = r .state; tables = record { t1 = now (t1 .exit); t2 = now (t2 .exit); t3 = now (t3 .exit); t4 = now (t4 .exit); t5 = now (t5 .exit); t6 = now (t6 .exit); t7 = now (t7 .exit); t8 = now (t8 .exit); t9 = now (t9 .exit); t10 = now (t10 .exit) } }) (sectionsAll (now (src .entry)) kind s (record { t1 = now (t1 .entry); t2 = now (t2 .entry); t3 = now (t3 .entry); t4 = now (t4 .entry); t5 = now (t5 .entry); t6 = now (t6 .entry); t7 = now (t7 .entry); t8 = now (t8 .entry); t9 = now (t9 .entry); t10 = now (t10 .entry) })) ⌝ }
     ensures moved { λ r. ⌜ Passed (now (src .entry)) (s .at) (r .state .at) ⌝ }
-    ensures indexed { λ r. ⌜ Tokens (now (src .entry)) (r .state .counts) (now (t1 .exit)) (now (i1 .exit)) × Rules (now (src .entry)) (r .state .counts) (now (t7 .exit)) (now (i7 .exit)) ⌝ }
+    ensures indexed { λ r. ⌜ Tokens (now (src .entry)) (r .state .counts) (now (t1 .exit)) (now (f1 .exit)) × Rules (now (src .entry)) (r .state .counts) (now (t7 .exit)) (now (f7 .exit)) ⌝ }
 {
-    let r = declarations::declarations(src, kind, s, t1, t2, t3, t4, t5, t6, t10, i1);
+    let r = declarations::declarations(src, kind, s, t1, t2, t3, t4, t5, t6, t10, f1, fx);
     let a = r.answer;
     let n = r.state;
     match a {
@@ -160,7 +162,7 @@ pub fn sections(
             answer: Answer::Refused(Refusal::Fault(Cause::PrematureEnd, n.at as u32)),
             state: n,
         },
-        Answer::Done => rest(src, kind, n, t1, t7, t8, t9, i1, i7),
+        Answer::Done => rest(src, kind, n, t1, t7, t8, t9, f1, f7),
         Answer::Refused(f) => Step {
             answer: Answer::Refused(f),
             state: n,
@@ -172,6 +174,7 @@ pub fn sections(
 pub fn attempt(
     src: &[u8],
     kind: u32,
+    sized: bool,
     t1: &mut [u32],
     t2: &mut [u32],
     t3: &mut [u32],
@@ -182,16 +185,15 @@ pub fn attempt(
     t8: &mut [u32],
     t9: &mut [u32],
     t10: &mut [u32],
-    i1: &mut [u32],
-    i7: &mut [u32],
+    f1: &mut [u16],
+    f7: &mut [u16],
+    fx: &mut [u16],
 ) -> Step
-    requires { ⌜ Tokens (now src) noCounts (now t1) (now i1) × Rules (now src) noCounts (now t7) (now i7) ⌝ }
-    ensures is { λ r. ⌜ _≡_ {A = Run} (record { answer = r .answer; state = r .state; tables = record { t1 = now (t1 .exit); t2 = now (t2 .exit); t3 = now (t3 .exit); t4 = now (t4 .exit); t5 = now (t5 .exit); t6 = now (t6 .exit); t7 = now (t7 .exit); t8 = now (t8 .exit); t9 = now (t9 .exit); t10 = now (t10 .exit) } }) (attempted (now (src .entry)) kind (sizesFit (length (now (i1 .entry))) (length (now (t1 .entry))) (length (now (i7 .entry))) (length (now (t7 .entry)))) (record { t1 = now (t1 .entry); t2 = now (t2 .entry); t3 = now (t3 .entry); t4 = now (t4 .entry); t5 = now (t5 .entry); t6 = now (t6 .entry); t7 = now (t7 .entry); t8 = now (t8 .entry); t9 = now (t9 .entry); t10 = now (t10 .entry) })) ⌝ }
+    ensures is { λ r. ⌜ _≡_ {A = Run} (record { answer = r .answer; state = r .state; tables = record { t1 = now (t1 .exit); t2 = now (t2 .exit); t3 = now (t3 .exit); t4 = now (t4 .exit); t5 = now (t5 .exit); t6 = now (t6 .exit); t7 = now (t7 .exit); t8 = now (t8 .exit); t9 = now (t9 .exit); t10 = now (t10 .exit) } }) (attempted (now (src .entry)) kind sized (record { t1 = now (t1 .entry); t2 = now (t2 .entry); t3 = now (t3 .entry); t4 = now (t4 .entry); t5 = now (t5 .entry); t6 = now (t6 .entry); t7 = now (t7 .entry); t8 = now (t8 .entry); t9 = now (t9 .entry); t10 = now (t10 .entry) })) ⌝ }
     ensures near { λ r. ⌜ r .state .at ≤ 65536 ⌝ }
-    ensures indexed { λ r. ⌜ Tokens (now (src .entry)) (r .state .counts) (now (t1 .exit)) (now (i1 .exit)) × Rules (now (src .entry)) (r .state .counts) (now (t7 .exit)) (now (i7 .exit)) ⌝ }
+    ensures indexed { λ r. ⌜ Tokens (now (src .entry)) (r .state .counts) (now (t1 .exit)) (now (f1 .exit)) × Rules (now (src .entry)) (r .state .counts) (now (t7 .exit)) (now (f7 .exit)) ⌝ }
 {
     let s = begin();
-    let sized = sizes_fit(i1.len(), t1.len(), i7.len(), t7.len());
     let a = admit(src, kind, sized);
     match a {
         Admission::Fit => sections(
@@ -208,8 +210,9 @@ pub fn attempt(
             t8,
             t9,
             t10,
-            i1,
-            i7,
+            f1,
+            f7,
+            fx,
         ),
         Admission::Unfit(f) => Step {
             answer: Answer::Refused(f),
@@ -218,7 +221,7 @@ pub fn attempt(
     }
 }
 
-// Tables 1 to 9 and the indexes without anything in them.
+// Tables 1 to 9 without anything in them.
 pub fn clear(
     t1: &mut [u32],
     t2: &mut [u32],
@@ -229,10 +232,8 @@ pub fn clear(
     t7: &mut [u32],
     t8: &mut [u32],
     t9: &mut [u32],
-    i1: &mut [u32],
-    i7: &mut [u32],
 )
-    ensures { λ r. ⌜ (now (t1 .exit) ≡ zeroed (now (t1 .entry))) × (now (t2 .exit) ≡ zeroed (now (t2 .entry))) × (now (t3 .exit) ≡ zeroed (now (t3 .entry))) × (now (t4 .exit) ≡ zeroed (now (t4 .entry))) × (now (t5 .exit) ≡ zeroed (now (t5 .entry))) × (now (t6 .exit) ≡ zeroed (now (t6 .entry))) × (now (t7 .exit) ≡ zeroed (now (t7 .entry))) × (now (t8 .exit) ≡ zeroed (now (t8 .entry))) × (now (t9 .exit) ≡ zeroed (now (t9 .entry))) × (now (i1 .exit) ≡ zeroed (now (i1 .entry))) × (now (i7 .exit) ≡ zeroed (now (i7 .entry))) ⌝ }
+    ensures { λ r. ⌜ (now (t1 .exit) ≡ zeroed (now (t1 .entry))) × (now (t2 .exit) ≡ zeroed (now (t2 .entry))) × (now (t3 .exit) ≡ zeroed (now (t3 .entry))) × (now (t4 .exit) ≡ zeroed (now (t4 .entry))) × (now (t5 .exit) ≡ zeroed (now (t5 .entry))) × (now (t6 .exit) ≡ zeroed (now (t6 .entry))) × (now (t7 .exit) ≡ zeroed (now (t7 .entry))) × (now (t8 .exit) ≡ zeroed (now (t8 .entry))) × (now (t9 .exit) ≡ zeroed (now (t9 .entry))) ⌝ }
 {
     tables::zero(t1);
     tables::zero(t2);
@@ -243,8 +244,6 @@ pub fn clear(
     tables::zero(t7);
     tables::zero(t8);
     tables::zero(t9);
-    tables::zero(i1);
-    tables::zero(i7);
 }
 
 // After a fatal refusal only the repeats stay listed.
@@ -299,12 +298,12 @@ pub fn finish(
     t8: &mut [u32],
     t9: &mut [u32],
     t10: &[u32],
-    i1: &mut [u32],
-    i7: &mut [u32],
+    f1: &[u16],
+    f7: &[u16],
 ) -> Reading
-    requires { ⌜ (r .state .at ≤ 65536) × Tokens (now src) (r .state .counts) (now t1) (now i1) × Rules (now src) (r .state .counts) (now t7) (now i7) ⌝ }
+    requires { ⌜ (r .state .at ≤ 65536) × Tokens (now src) (r .state .counts) (now t1) (now f1) × Rules (now src) (r .state .counts) (now t7) (now f7) ⌝ }
     ensures is { λ q. ⌜ _≡_ {A = Outcome} (record { answer = q .answer; counts = q .counts; singles = q .singles; tables = record { t1 = now (t1 .exit); t2 = now (t2 .exit); t3 = now (t3 .exit); t4 = now (t4 .exit); t5 = now (t5 .exit); t6 = now (t6 .exit); t7 = now (t7 .exit); t8 = now (t8 .exit); t9 = now (t9 .exit); t10 = now (t10 .entry) } }) (finished (r .answer) (r .state) (record { t1 = now (t1 .entry); t2 = now (t2 .entry); t3 = now (t3 .entry); t4 = now (t4 .entry); t5 = now (t5 .entry); t6 = now (t6 .entry); t7 = now (t7 .entry); t8 = now (t8 .entry); t9 = now (t9 .entry); t10 = now (t10 .entry) })) ⌝ }
-    ensures indexed { λ q. ⌜ Tokens (now (src .entry)) (q .counts) (now (t1 .exit)) (now (i1 .exit)) × Rules (now (src .entry)) (q .counts) (now (t7 .exit)) (now (i7 .exit)) ⌝ }
+    ensures indexed { λ q. ⌜ Tokens (now (src .entry)) (q .counts) (now (t1 .exit)) (now (f1 .entry)) × Rules (now (src .entry)) (q .counts) (now (t7 .exit)) (now (f7 .entry)) ⌝ }
 {
     let a = r.answer;
     let s = r.state;
@@ -312,16 +311,28 @@ pub fn finish(
         Answer::Going => ended(s, t10),
         Answer::Done => ended(s, t10),
         Answer::Refused(f) => {
-            clear(t1, t2, t3, t4, t5, t6, t7, t8, t9, i1, i7);
+            clear(t1, t2, t3, t4, t5, t6, t7, t8, t9);
             stopped(s, f)
         }
     }
 }
 
-// The read of a source of the kind but for the symbols' rows.
-pub fn read_names(
+// The symbols that are counted get the row numbers of their rules and tokens.
+pub fn fill(src: &[u8], c: Counts, t1: &[u32], t7: &[u32], t9: &mut [u32], f1: &[u16], f7: &[u16])
+    requires { ⌜ Tokens (now src) c (now t1) (now f1) × Rules (now src) c (now t7) (now f7) ⌝ }
+    ensures { λ r. ⌜ now (t9 .exit) ≡ filledRows (lexicon (now (src .entry)) (now (t1 .entry)) (getD (c .n) tokens 0) (now (t7 .entry)) (getD (c .n) rules 0)) (now (t9 .entry)) (getD (c .n) symbols 0) ⌝ }
+{
+    let n = c.n[tables::TOKENS as usize];
+    let m = c.n[tables::RULES as usize];
+    let count = c.n[tables::SYMBOLS as usize];
+    symbols::fill_rows(src, t1, n, f1, t7, m, f7, t9, count);
+}
+
+// The sections and their end, and the symbols' rows: all that needs the finders, of which nothing need be known before.
+pub fn run(
     src: &[u8],
     kind: u32,
+    sized: bool,
     t1: &mut [u32],
     t2: &mut [u32],
     t3: &mut [u32],
@@ -332,26 +343,192 @@ pub fn read_names(
     t8: &mut [u32],
     t9: &mut [u32],
     t10: &mut [u32],
-    i1: &mut [u32],
-    i7: &mut [u32],
+    f1: &mut [u16],
+    f7: &mut [u16],
+    fx: &mut [u16],
 ) -> Reading
-    ensures is { λ r. ⌜ _≡_ {A = Result} (record { answer = r .answer; counts = r .counts; singles = r .singles; tables = record { t1 = now (t1 .exit); t2 = now (t2 .exit); t3 = now (t3 .exit); t4 = now (t4 .exit); t5 = now (t5 .exit); t6 = now (t6 .exit); t7 = now (t7 .exit); t8 = now (t8 .exit); t9 = now (t9 .exit); t10 = now (t10 .exit) }; indexes = record { tokens = now (i1 .exit); rules = now (i7 .exit) } }) (readNames (now (src .entry)) kind (record { t1 = now (t1 .entry); t2 = now (t2 .entry); t3 = now (t3 .entry); t4 = now (t4 .entry); t5 = now (t5 .entry); t6 = now (t6 .entry); t7 = now (t7 .entry); t8 = now (t8 .entry); t9 = now (t9 .entry); t10 = now (t10 .entry) }) (record { tokens = now (i1 .entry); rules = now (i7 .entry) })) ⌝ }
+    ensures { λ q. ⌜ _≡_ {A = Outcome} (record { answer = q .answer; counts = q .counts; singles = q .singles; tables = record { t1 = now (t1 .exit); t2 = now (t2 .exit); t3 = now (t3 .exit); t4 = now (t4 .exit); t5 = now (t5 .exit); t6 = now (t6 .exit); t7 = now (t7 .exit); t8 = now (t8 .exit); t9 = now (t9 .exit); t10 = now (t10 .exit) } }) (filledOut (now (src .entry)) (finishedRun (attempted (now (src .entry)) kind sized (record { t1 = now (t1 .entry); t2 = now (t2 .entry); t3 = now (t3 .entry); t4 = now (t4 .entry); t5 = now (t5 .entry); t6 = now (t6 .entry); t7 = now (t7 .entry); t8 = now (t8 .entry); t9 = now (t9 .entry); t10 = now (t10 .entry) })))) ⌝ }
 {
-    clear(t1, t2, t3, t4, t5, t6, t7, t8, t9, i1, i7);
-    tables::zero(t10);
-    let r = attempt(src, kind, t1, t2, t3, t4, t5, t6, t7, t8, t9, t10, i1, i7);
-    finish(src, r, t1, t2, t3, t4, t5, t6, t7, t8, t9, t10, i1, i7)
+    let r = attempt(
+        src,
+        kind,
+        sized,
+        t1,
+        t2,
+        t3,
+        t4,
+        t5,
+        t6,
+        t7,
+        t8,
+        t9,
+        t10,
+        f1,
+        f7,
+        fx,
+    );
+    let q = finish(src, r, t1, t2, t3, t4, t5, t6, t7, t8, t9, t10, f1, f7);
+    let c = q.counts;
+    fill(src, c, t1, t7, t9, f1, f7);
+    q
 }
 
-// The symbols that are counted get the row numbers of their rules and tokens.
-pub fn fill(src: &[u8], c: Counts, t1: &[u32], t7: &[u32], t9: &mut [u32], i1: &[u32], i7: &[u32])
-    requires { ⌜ Indexed (now src) (width tokens) 0 (getD (c .n) tokens 0) (now t1) (now i1) × Indexed (now src) (width rules) 0 (getD (c .n) rules 0) (now t7) (now i7) ⌝ }
-    ensures { λ r. ⌜ now (t9 .exit) ≡ filledRows (lexicon (now (src .entry)) (now (t1 .entry)) (getD (c .n) tokens 0) (now (t7 .entry)) (getD (c .n) rules 0)) (now (t9 .entry)) (getD (c .n) symbols 0) ⌝ }
+// A run with finders for a source of at most 1,024 bytes, of at most 8,192, and for any.
+fn run_tiny(
+    src: &[u8],
+    kind: u32,
+    sized: bool,
+    t1: &mut [u32],
+    t2: &mut [u32],
+    t3: &mut [u32],
+    t4: &mut [u32],
+    t5: &mut [u32],
+    t6: &mut [u32],
+    t7: &mut [u32],
+    t8: &mut [u32],
+    t9: &mut [u32],
+    t10: &mut [u32],
+) -> Reading
+    ensures { λ q. ⌜ _≡_ {A = Outcome} (record { answer = q .answer; counts = q .counts; singles = q .singles; tables = record { t1 = now (t1 .exit); t2 = now (t2 .exit); t3 = now (t3 .exit); t4 = now (t4 .exit); t5 = now (t5 .exit); t6 = now (t6 .exit); t7 = now (t7 .exit); t8 = now (t8 .exit); t9 = now (t9 .exit); t10 = now (t10 .exit) } }) (filledOut (now (src .entry)) (finishedRun (attempted (now (src .entry)) kind sized (record { t1 = now (t1 .entry); t2 = now (t2 .entry); t3 = now (t3 .entry); t4 = now (t4 .entry); t5 = now (t5 .entry); t6 = now (t6 .entry); t7 = now (t7 .entry); t8 = now (t8 .entry); t9 = now (t9 .entry); t10 = now (t10 .entry) })))) ⌝ }
+{
+    let mut f1 = [0u16; 512];
+    let mut f7 = [0u16; 512];
+    let mut fx = [0u16; 512];
+    run(
+        src,
+        kind,
+        sized,
+        t1,
+        t2,
+        t3,
+        t4,
+        t5,
+        t6,
+        t7,
+        t8,
+        t9,
+        t10,
+        &mut f1,
+        &mut f7,
+        &mut fx,
+    )
+}
+
+fn run_small(
+    src: &[u8],
+    kind: u32,
+    sized: bool,
+    t1: &mut [u32],
+    t2: &mut [u32],
+    t3: &mut [u32],
+    t4: &mut [u32],
+    t5: &mut [u32],
+    t6: &mut [u32],
+    t7: &mut [u32],
+    t8: &mut [u32],
+    t9: &mut [u32],
+    t10: &mut [u32],
+) -> Reading
+    ensures { λ q. ⌜ _≡_ {A = Outcome} (record { answer = q .answer; counts = q .counts; singles = q .singles; tables = record { t1 = now (t1 .exit); t2 = now (t2 .exit); t3 = now (t3 .exit); t4 = now (t4 .exit); t5 = now (t5 .exit); t6 = now (t6 .exit); t7 = now (t7 .exit); t8 = now (t8 .exit); t9 = now (t9 .exit); t10 = now (t10 .exit) } }) (filledOut (now (src .entry)) (finishedRun (attempted (now (src .entry)) kind sized (record { t1 = now (t1 .entry); t2 = now (t2 .entry); t3 = now (t3 .entry); t4 = now (t4 .entry); t5 = now (t5 .entry); t6 = now (t6 .entry); t7 = now (t7 .entry); t8 = now (t8 .entry); t9 = now (t9 .entry); t10 = now (t10 .entry) })))) ⌝ }
+{
+    let mut f1 = [0u16; 4096];
+    let mut f7 = [0u16; 4096];
+    let mut fx = [0u16; 4096];
+    run(
+        src,
+        kind,
+        sized,
+        t1,
+        t2,
+        t3,
+        t4,
+        t5,
+        t6,
+        t7,
+        t8,
+        t9,
+        t10,
+        &mut f1,
+        &mut f7,
+        &mut fx,
+    )
+}
+
+fn run_large(
+    src: &[u8],
+    kind: u32,
+    sized: bool,
+    t1: &mut [u32],
+    t2: &mut [u32],
+    t3: &mut [u32],
+    t4: &mut [u32],
+    t5: &mut [u32],
+    t6: &mut [u32],
+    t7: &mut [u32],
+    t8: &mut [u32],
+    t9: &mut [u32],
+    t10: &mut [u32],
+) -> Reading
+    ensures { λ q. ⌜ _≡_ {A = Outcome} (record { answer = q .answer; counts = q .counts; singles = q .singles; tables = record { t1 = now (t1 .exit); t2 = now (t2 .exit); t3 = now (t3 .exit); t4 = now (t4 .exit); t5 = now (t5 .exit); t6 = now (t6 .exit); t7 = now (t7 .exit); t8 = now (t8 .exit); t9 = now (t9 .exit); t10 = now (t10 .exit) } }) (filledOut (now (src .entry)) (finishedRun (attempted (now (src .entry)) kind sized (record { t1 = now (t1 .entry); t2 = now (t2 .entry); t3 = now (t3 .entry); t4 = now (t4 .entry); t5 = now (t5 .entry); t6 = now (t6 .entry); t7 = now (t7 .entry); t8 = now (t8 .entry); t9 = now (t9 .entry); t10 = now (t10 .entry) })))) ⌝ }
+{
+    let mut f1 = [0u16; 32768];
+    let mut f7 = [0u16; 32768];
+    let mut fx = [0u16; 32768];
+    run(
+        src,
+        kind,
+        sized,
+        t1,
+        t2,
+        t3,
+        t4,
+        t5,
+        t6,
+        t7,
+        t8,
+        t9,
+        t10,
+        &mut f1,
+        &mut f7,
+        &mut fx,
+    )
+}
+
+fn run_sized(
+    src: &[u8],
+    kind: u32,
+    sized: bool,
+    t1: &mut [u32],
+    t2: &mut [u32],
+    t3: &mut [u32],
+    t4: &mut [u32],
+    t5: &mut [u32],
+    t6: &mut [u32],
+    t7: &mut [u32],
+    t8: &mut [u32],
+    t9: &mut [u32],
+    t10: &mut [u32],
+) -> Reading
+    ensures { λ q. ⌜ _≡_ {A = Outcome} (record { answer = q .answer; counts = q .counts; singles = q .singles; tables = record { t1 = now (t1 .exit); t2 = now (t2 .exit); t3 = now (t3 .exit); t4 = now (t4 .exit); t5 = now (t5 .exit); t6 = now (t6 .exit); t7 = now (t7 .exit); t8 = now (t8 .exit); t9 = now (t9 .exit); t10 = now (t10 .exit) } }) (filledOut (now (src .entry)) (finishedRun (attempted (now (src .entry)) kind sized (record { t1 = now (t1 .entry); t2 = now (t2 .entry); t3 = now (t3 .entry); t4 = now (t4 .entry); t5 = now (t5 .entry); t6 = now (t6 .entry); t7 = now (t7 .entry); t8 = now (t8 .entry); t9 = now (t9 .entry); t10 = now (t10 .entry) })))) ⌝ }
+{
+    if src.len() <= 1024 {
+        return run_tiny(src, kind, sized, t1, t2, t3, t4, t5, t6, t7, t8, t9, t10);
+    }
+    if src.len() <= 8192 {
+        return run_small(src, kind, sized, t1, t2, t3, t4, t5, t6, t7, t8, t9, t10);
+    }
+    run_large(src, kind, sized, t1, t2, t3, t4, t5, t6, t7, t8, t9, t10)
+}
+
+// Both indexes hold the rows that are counted.
+pub fn enter_indexes(src: &[u8], c: Counts, t1: &[u32], t7: &[u32], i1: &mut [u32], i7: &mut [u32])
+    requires { ⌜ (now i1 ≡ zeroed (now i1)) × (now i7 ≡ zeroed (now i7)) ⌝ }
+    ensures { λ r. ⌜ (now (i1 .exit) ≡ entries (now (src .entry)) (width tokens) 0 (now (t1 .entry)) (length (now (i1 .entry))) (getD (c .n) tokens 0)) × (now (i7 .exit) ≡ entries (now (src .entry)) (width rules) 0 (now (t7 .entry)) (length (now (i7 .entry))) (getD (c .n) rules 0)) ⌝ }
 {
     let n = c.n[tables::TOKENS as usize];
     let m = c.n[tables::RULES as usize];
-    let count = c.n[tables::SYMBOLS as usize];
-    symbols::fill_rows(src, t1, n, i1, t7, m, i7, t9, count);
+    index::enter_rows(src, t1, tables::TOKEN_WIDTH, tables::NAME, n, i1);
+    index::enter_rows(src, t7, tables::RULE_WIDTH, tables::NAME, m, i7);
 }
 
 // The read of a source of the kind, into ten lent tables and two lent indexes.
@@ -373,8 +550,13 @@ pub fn read(
 ) -> Reading
     ensures is { λ r. ⌜ _≡_ {A = Result} (record { answer = r .answer; counts = r .counts; singles = r .singles; tables = record { t1 = now (t1 .exit); t2 = now (t2 .exit); t3 = now (t3 .exit); t4 = now (t4 .exit); t5 = now (t5 .exit); t6 = now (t6 .exit); t7 = now (t7 .exit); t8 = now (t8 .exit); t9 = now (t9 .exit); t10 = now (t10 .exit) }; indexes = record { tokens = now (i1 .exit); rules = now (i7 .exit) } }) (readAll (now (src .entry)) kind (record { t1 = now (t1 .entry); t2 = now (t2 .entry); t3 = now (t3 .entry); t4 = now (t4 .entry); t5 = now (t5 .entry); t6 = now (t6 .entry); t7 = now (t7 .entry); t8 = now (t8 .entry); t9 = now (t9 .entry); t10 = now (t10 .entry) }) (record { tokens = now (i1 .entry); rules = now (i7 .entry) })) ⌝ }
 {
-    let q = read_names(src, kind, t1, t2, t3, t4, t5, t6, t7, t8, t9, t10, i1, i7);
-    let c = q.counts;
-    fill(src, c, t1, t7, t9, i1, i7);
-    q
+    clear(t1, t2, t3, t4, t5, t6, t7, t8, t9);
+    tables::zero(t10);
+    tables::zero(i1);
+    tables::zero(i7);
+    let sized = sizes_fit(i1.len(), t1.len(), i7.len(), t7.len());
+    let r = run_sized(src, kind, sized, t1, t2, t3, t4, t5, t6, t7, t8, t9, t10);
+    let c = r.counts;
+    enter_indexes(src, c, t1, t7, i1, i7);
+    r
 }

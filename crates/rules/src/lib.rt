@@ -143,7 +143,7 @@ pub fn enter_rule(
     to: u32,
     given: Part,
     t7: &mut [u32],
-    i7: &mut [u32],
+    i7: &mut [u16],
 ) -> Headed
     requires { ⌜ Rules (now src) (s .counts) (now t7) (now i7) ⌝ }
     ensures is { λ r. ⌜ _≡_ {A = Heading} (record { answer = r .answer; state = r .state; row = r .row; t7 = now (t7 .exit) }) (enterRule (now (src .entry)) s from to given (now (t7 .entry))) ⌝ }
@@ -151,7 +151,7 @@ pub fn enter_rule(
     ensures indexed { λ r. ⌜ Rules (now (src .entry)) (r .state .counts) (now (t7 .exit)) (now (i7 .exit)) ⌝ }
 {
     let n = grammar::count_of(s, tables::RULES);
-    match index::find(src, t7, tables::RULE_WIDTH, tables::NAME, n, i7, from, to) {
+    match finder::find(src, t7, tables::RULE_WIDTH, tables::NAME, n, i7, from, to) {
         Found::RowAt(r) => Headed {
             answer: Answer::Going,
             state: s,
@@ -188,7 +188,7 @@ pub fn named_head(
     s: State,
     j: usize,
     t7: &mut [u32],
-    i7: &mut [u32],
+    i7: &mut [u16],
 ) -> Headed
     requires { ⌜ Here (now src) j ⌝ }
     requires { ⌜ Passed (now src) (s .at) j ⌝ }
@@ -220,7 +220,7 @@ pub fn named_head(
     }
 }
 
-pub fn rule_head(src: &[u8], kind: u32, s: State, t7: &mut [u32], i7: &mut [u32]) -> Headed
+pub fn rule_head(src: &[u8], kind: u32, s: State, t7: &mut [u32], i7: &mut [u16]) -> Headed
     requires { ⌜ Here (now src) (s .at) × Rules (now src) (s .counts) (now t7) (now i7) ⌝ }
     ensures is { λ r. ⌜ _≡_ {A = Heading} (record { answer = r .answer; state = r .state; row = r .row; t7 = now (t7 .exit) }) (ruleHead (now (src .entry)) kind s (now (t7 .entry))) ⌝ }
     ensures moved { λ r. ⌜ Moves (now (src .entry)) (s .at) (r .answer) (r .state .at) ⌝ }
@@ -245,7 +245,7 @@ pub fn rule_body(
     t1: &mut [u32],
     t8: &mut [u32],
     t9: &mut [u32],
-    i1: &mut [u32],
+    i1: &mut [u16],
 ) -> Step
     requires { ⌜ Here (now src) (s .at) × Tokens (now src) (s .counts) (now t1) (now i1) ⌝ }
     ensures is { λ r. ⌜ _≡_ {A = Itemed} (record { answer = r .answer; state = r .state; t1 = now (t1 .exit); t8 = now (t8 .exit); t9 = now (t9 .exit) }) (ruleBody (now (src .entry)) s row (now (t1 .entry)) (now (t8 .entry)) (now (t9 .entry))) ⌝ }
@@ -279,8 +279,8 @@ pub fn rule(
     t7: &mut [u32],
     t8: &mut [u32],
     t9: &mut [u32],
-    i1: &mut [u32],
-    i7: &mut [u32],
+    i1: &mut [u16],
+    i7: &mut [u16],
 ) -> Step
     requires { ⌜ Here (now src) (s .at) × Tokens (now src) (s .counts) (now t1) (now i1) × Rules (now src) (s .counts) (now t7) (now i7) ⌝ }
     ensures is { λ r. ⌜ _≡_ {A = Ruled} (record { answer = r .answer; state = r .state; t1 = now (t1 .exit); t7 = now (t7 .exit); t8 = now (t8 .exit); t9 = now (t9 .exit) }) (ruleStep (now (src .entry)) kind s (now (t1 .entry)) (now (t7 .entry)) (now (t8 .entry)) (now (t9 .entry))) ⌝ }
@@ -312,8 +312,8 @@ pub fn next_rule(
     t7: &mut [u32],
     t8: &mut [u32],
     t9: &mut [u32],
-    i1: &mut [u32],
-    i7: &mut [u32],
+    i1: &mut [u16],
+    i7: &mut [u16],
 ) -> Step
     requires { ⌜ Here (now src) (s .at) × Tokens (now src) (s .counts) (now t1) (now i1) × Rules (now src) (s .counts) (now t7) (now i7) ⌝ }
     ensures is { λ r. ⌜ _≡_ {A = Ruled} (record { answer = r .answer; state = r .state; t1 = now (t1 .exit); t7 = now (t7 .exit); t8 = now (t8 .exit); t9 = now (t9 .exit) }) (nextRule (now (src .entry)) kind s (now (t1 .entry)) (now (t7 .entry)) (now (t8 .entry)) (now (t9 .entry))) ⌝ }
@@ -335,8 +335,8 @@ pub fn rules_run(
     t7: &mut [u32],
     t8: &mut [u32],
     t9: &mut [u32],
-    i1: &mut [u32],
-    i7: &mut [u32],
+    i1: &mut [u16],
+    i7: &mut [u16],
 ) -> Step
     requires { ⌜ Here (now src) (s .at) × Tokens (now src) (s .counts) (now t1) (now i1) × Rules (now src) (s .counts) (now t7) (now i7) ⌝ }
     ensures is { λ r. ⌜ _≡_ {A = Ruled} (record { answer = r .answer; state = r .state; t1 = now (t1 .exit); t7 = now (t7 .exit); t8 = now (t8 .exit); t9 = now (t9 .exit) }) (rulesRun (now (src .entry)) kind s (now (t1 .entry)) (now (t7 .entry)) (now (t8 .entry)) (now (t9 .entry))) ⌝ }
@@ -384,8 +384,8 @@ pub fn rules(
     t7: &mut [u32],
     t8: &mut [u32],
     t9: &mut [u32],
-    i1: &mut [u32],
-    i7: &mut [u32],
+    i1: &mut [u16],
+    i7: &mut [u16],
 ) -> Step
     requires { ⌜ Here (now src) (s .at) × Tokens (now src) (s .counts) (now t1) (now i1) × Rules (now src) (s .counts) (now t7) (now i7) ⌝ }
     ensures is { λ r. ⌜ _≡_ {A = Ruled} (record { answer = r .answer; state = r .state; t1 = now (t1 .exit); t7 = now (t7 .exit); t8 = now (t8 .exit); t9 = now (t9 .exit) }) (rulesAll (now (src .entry)) kind s (now (t1 .entry)) (now (t7 .entry)) (now (t8 .entry)) (now (t9 .entry))) ⌝ }

@@ -6,6 +6,7 @@ ghost use lib.Dec.{eqb};
 ghost use Rattle.tables.specs.Layout.{tokens, rules, width};
 ghost use Rattle.tables.specs.Table.{findName};
 ghost use Rattle.index.specs.Index.{Indexed};
+ghost use Rattle.finder.specs.Finder.{Held};
 ghost use Rattle.symbols.specs.Symbols.{rowNumber, lexicon, namedRow, rowFor, filledRows, knowsTest, Single};
 
 fn row_or(f: Found) -> u32
@@ -17,27 +18,27 @@ fn row_or(f: Found) -> u32
     }
 }
 
-// The row that a name of the kind has.
+// The row that a name of the kind has, by the finders of both tables.
 pub fn named_row(
     src: &[u8],
     t1: &[u32],
     n: u32,
-    i1: &[u32],
+    i1: &[u16],
     t7: &[u32],
     m: u32,
-    i7: &[u32],
+    i7: &[u16],
     kind: u32,
     a: u32,
     b: u32,
 ) -> u32
-    requires { ⌜ Indexed (now src) (width tokens) 0 n (now t1) (now i1) × Indexed (now src) (width rules) 0 m (now t7) (now i7) ⌝ }
+    requires { ⌜ Held (now src) (width tokens) 0 n (now t1) (now i1) × Held (now src) (width rules) 0 m (now t7) (now i7) ⌝ }
     ensures { λ r. ⌜ r ≡ namedRow (lexicon (now (src .entry)) (now (t1 .entry)) n (now (t7 .entry)) m) kind a b ⌝ }
 {
     if kind == 1 {
-        let f = index::find(src, t7, tables::RULE_WIDTH, tables::NAME, m, i7, a, b);
+        let f = finder::find(src, t7, tables::RULE_WIDTH, tables::NAME, m, i7, a, b);
         return row_or(f);
     }
-    let f = index::find(src, t1, tables::TOKEN_WIDTH, tables::NAME, n, i1, a, b);
+    let f = finder::find(src, t1, tables::TOKEN_WIDTH, tables::NAME, n, i1, a, b);
     row_or(f)
 }
 
@@ -46,14 +47,14 @@ pub fn symbol_row(
     src: &[u8],
     t1: &[u32],
     n: u32,
-    i1: &[u32],
+    i1: &[u16],
     t7: &[u32],
     m: u32,
-    i7: &[u32],
+    i7: &[u16],
     t9: &[u32],
     s: u32,
 ) -> u32
-    requires { ⌜ Indexed (now src) (width tokens) 0 n (now t1) (now i1) × Indexed (now src) (width rules) 0 m (now t7) (now i7) ⌝ }
+    requires { ⌜ Held (now src) (width tokens) 0 n (now t1) (now i1) × Held (now src) (width rules) 0 m (now t7) (now i7) ⌝ }
     ensures { λ r. ⌜ r ≡ rowFor (lexicon (now (src .entry)) (now (t1 .entry)) n (now (t7 .entry)) m) (now (t9 .entry)) s ⌝ }
 {
     let kind = tables::cell(t9, tables::SYMBOL_WIDTH, s, 0);
@@ -67,14 +68,14 @@ pub fn fill_rows(
     src: &[u8],
     t1: &[u32],
     n: u32,
-    i1: &[u32],
+    i1: &[u16],
     t7: &[u32],
     m: u32,
-    i7: &[u32],
+    i7: &[u16],
     t9: &mut [u32],
     count: u32,
 )
-    requires { ⌜ Indexed (now src) (width tokens) 0 n (now t1) (now i1) × Indexed (now src) (width rules) 0 m (now t7) (now i7) ⌝ }
+    requires { ⌜ Held (now src) (width tokens) 0 n (now t1) (now i1) × Held (now src) (width rules) 0 m (now t7) (now i7) ⌝ }
     ensures { λ r. ⌜ now (t9 .exit) ≡ filledRows (lexicon (now (src .entry)) (now (t1 .entry)) n (now (t7 .entry)) m) (now (t9 .entry)) count ⌝ }
 {
     let mut s = 0;

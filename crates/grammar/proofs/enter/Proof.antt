@@ -1,4 +1,4 @@
--- `grammar::enter` meets its contract, and the index follows. Assumes nothing.
+-- `grammar::enter` meets its contract, and the finder follows. Assumes nothing.
 use mathlib.Core.Path.{ap}
 use borrow.Author.Needs.{needs}
 use Rattle.grammar.specs.declared.State.{State}
@@ -7,7 +7,7 @@ use Rattle.grammar.proofs.enter.Statement.{statement}
 use Rattle.grammar.proofs.enter.Tie as tie
 
 asks : tie.Need-enter-token-requires
-asks c κs = rw (c .before .before .count-of .ensures) (c .before .before .before .before .before .before .pre .index)
+asks c κs = rw (c .before .before .count-of .ensures) (c .before .before .before .before .before .before .pre .held)
 
 rows : tie.Need-returns
 rows c =
@@ -17,7 +17,7 @@ rows c =
       enter-rows _ _ _ _ _ _ _ _ _ (n .count-of .ensures) (p .enter-token .ensures .0) _ _ (c .before .before .m .given .1) (c .with-count .ensures),
       (
         ap (λ (x : State). x .at) (c .with-count .ensures),
-        enter-tracked _ (a .args .s) _ _ _ _ _ _ _ (n .count-of .ensures) (p .enter-token .ensures .0) (a .pre .ten) _ _ (c .before .before .m .given .1) (c .with-count .ensures) _ (p .enter-token .ensures .1),
+        enter-tracked _ (a .args .s) _ _ _ _ _ _ _ (n .count-of .ensures) (p .enter-token .ensures .0) (a .pre .ten) _ _ (c .before .before .m .given .1) (c .with-count .ensures) _ (p .enter-token .ensures .1 .0),
       ),
     )
 
@@ -29,7 +29,7 @@ full c =
       enter-full _ _ _ _ _ _ _ _ _ (n .count-of .ensures) (p .enter-token .ensures .0) _ (c .before .before .enum-told .given .1) (c .no-room .ensures),
       (
         search needs,
-        full-tracked _ (a .args .s) _ _ _ _ _ _ _ (n .count-of .ensures) (p .enter-token .ensures .0) (a .pre .ten) (c .before .before .enum-told .given .1) _ (p .enter-token .ensures .1),
+        full-tracked _ (a .args .s) _ _ _ _ _ _ _ (n .count-of .ensures) (p .enter-token .ensures .0) (a .pre .ten) (c .before .before .enum-told .given .1) _ (p .enter-token .ensures .1 .0),
       ),
     )
 

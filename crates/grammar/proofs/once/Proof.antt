@@ -1,29 +1,37 @@
--- `grammar::once` meets its contract: a row that is found makes a repeat, else there is a row more. Assumes nothing.
+-- `grammar::once` meets its contract: a row that is found makes a repeat, else there is a row more, and its finder follows. Assumes nothing.
 use native.Mathlib.Omega.{arith}
+use denote.Ref.{now}
 use borrow.Author.Needs.{needs}
-use Rattle.grammar.proofs.Steps.{once-repeat, once-new}
+use Rattle.finder.proofs.Laws.{grown-none}
+use Rattle.grammar.proofs.Steps.{once-repeat, once-new, name-new}
+use Rattle.grammar.proofs.Spares.{tracked-repeated}
 use Rattle.grammar.proofs.once.Statement.{statement}
 use Rattle.grammar.proofs.once.Tie as tie
 
+sought : tie.Need-find-requires
+sought c κs = rw (c .before .before .before .before .count-of .ensures) (c .before .before .before .before .before .before .before .before .before .before .pre .1 .held)
+
+asks : tie.Need-push-entered-requires
+asks c κs = (
+  c .before .before .before .before .before .before .before .before .before .before .before .before .before .before .before .pre .0,
+  c .before .before .before .before .before .before .before .before .before .before .before .before .before .before .before .pre .1,
+  name-new _ (c .before .before .before .before .before .before .before .before .before .before .before .before .before .before .before .args .s) _ _ _ _ _ _ (now (c .before .before .before .before .before .before .before .before .before .before .before .before .before .before .before .args .row)) _ _ (c .before .before .before .before .before .before .before .before .before .count-of .ensures) (c .before .before .before .before .before .before .before .before .cell-in-row .ensures) (c .before .before .before .before .before .before .before .cell-in-row2 .ensures) (c .before .before .before .before .find .ensures) (c .before .before .enum-told .given .1),
+)
+
 repeated : tie.Need-returns
-repeated c =
-    let o = c .before .before in
-    let p = o .before .before in
-    let q = p .before in
-    let l = q .before in
-    let b = l .before .before in
-    let a = b .before .before in
-    let r = a .before .before in
-    let f = r .before .before in
-    let m = f .before .before in
-    (once-repeat _ _ _ _ _ _ _ _ _ _ _ _ _ (m .before .before .count-of .ensures) (m .before .cell-in-row .ensures) (m .cell-in-row2 .ensures) (f .find .ensures) _ _ _ _ _ _ _ (r .r .given .1) (a .row-place .ensures .0) (b .cell .ensures) (l .cell2 .ensures) (q .cell-in-row3 .ensures) (p .cell-in-row4 .ensures) (o .list-repeat .ensures .0), o .list-repeat .ensures .1)
+repeated c = (
+  once-repeat _ _ _ _ _ _ _ _ _ _ _ _ _ (c .before .before .before .before .before .before .before .before .before .before .before .before .before .before .before .before .before .before .before .count-of .ensures) (c .before .before .before .before .before .before .before .before .before .before .before .before .before .before .before .before .before .before .cell-in-row .ensures) (c .before .before .before .before .before .before .before .before .before .before .before .before .before .before .before .before .before .cell-in-row2 .ensures) (c .before .before .before .before .before .before .before .before .before .before .before .before .before .before .find .ensures) _ _ _ _ _ _ _ (c .before .before .before .before .before .before .before .before .before .before .before .before .r .given .1) (c .before .before .before .before .before .before .before .before .before .before .row-place .ensures .0) (c .before .before .before .before .before .before .before .before .cell .ensures) (c .before .before .before .before .before .before .cell2 .ensures) (c .before .before .before .before .before .cell-in-row3 .ensures) (c .before .before .before .before .cell-in-row4 .ensures) (c .before .before .list-repeat .ensures .0),
+  (
+    c .before .before .list-repeat .ensures .1,
+    (tracked-repeated _ _ _ _ (c .before .before .before .before .before .before .before .before .before .before .before .before .before .before .before .before .before .before .before .before .before .before .before .before .before .args .s) _ _ _ _ _ _ _ _ _ _ _ (c .before .before .before .before .before .before .before .before .before .before .before .before .before .before .before .before .before .before .before .before .before .before .before .before .before .pre .0 .table) (c .before .before .list-repeat .ensures .0) (c .before .before .before .before .before .before .before .before .before .before .before .before .before .before .before .before .before .before .before .before .before .before .before .before .before .pre .1), grown-none _),
+  ),
+)
 
 new : tie.Need-returns-2
-new c =
-    let p = c .before .before in
-    let f = p .before .before .before .before in
-    let m = f .before .before in
-    (once-new _ _ _ _ _ _ _ _ _ _ _ _ _ (m .before .before .count-of .ensures) (m .before .cell-in-row .ensures) (m .cell-in-row2 .ensures) (f .find .ensures) _ (p .before .before .enum-told .given .1) (p .push .ensures .0), p .push .ensures .1)
+new c = (
+  once-new _ _ _ _ _ _ _ _ _ _ _ _ _ (c .before .before .before .before .before .before .before .before .before .before .before .before .before .before .count-of .ensures) (c .before .before .before .before .before .before .before .before .before .before .before .before .before .cell-in-row .ensures) (c .before .before .before .before .before .before .before .before .before .before .before .before .cell-in-row2 .ensures) (c .before .before .before .before .before .before .before .before .before .find .ensures) _ (c .before .before .before .before .before .before .before .enum-told .given .1) (c .before .before .before .before .push-entered .ensures .0),
+  c .before .before .before .before .push-entered .ensures .1,
+)
 
 pub once-spec : {M : Type 1} → statement M
 once-spec =
@@ -33,7 +41,7 @@ once-spec =
     (λ c κs. search needs)
     (λ c. search needs)
     (λ c κs. search needs)
-    (λ c κs. search needs)
+    sought
     (λ c. search needs)
     (λ c κs. search needs)
     (λ c κs. search needs)
@@ -44,9 +52,11 @@ once-spec =
     (λ c κs. search needs)
     (λ c κs. search needs)
     (λ c. search needs)
-    (λ c κs. search needs)
+    asks
+    (λ c. search needs)
     (λ c. search needs)
     (λ c. search needs)
     repeated
+    (λ c. search needs)
     (λ c. search needs)
     new)

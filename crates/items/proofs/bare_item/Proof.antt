@@ -75,7 +75,7 @@ bare-item-spec =
     cast-from
     cast-to
     (λ c κs. search needs)
-    (λ c κs. rw (c .count-of .ensures) (c .before .before .before .before .before .before .before .before .before .before .before .pre .1 .index))
+    (λ c κs. rw (c .count-of .ensures) (c .before .before .before .before .before .before .before .before .before .before .before .pre .1 .held))
     (λ c. search needs)
     (λ c κs. search needs)
     here

@@ -2,6 +2,7 @@
 use native.Mathlib.Omega.{arith}
 use borrow.Author.Needs.{needs}
 use Rattle.scan.proofs.Bytes.{told}
+use Rattle.finder.proofs.Laws.{grown-none}
 use Rattle.grammar.specs.State.{Gapped}
 use Rattle.grammar.proofs.Steps.{gap-passed, passed-on}
 use Rattle.lines.proofs.Laws.{prec-line, prec-gap}
@@ -10,23 +11,23 @@ use Rattle.lines.proofs.prec_decl.Tie as tie
 
 here : tie.Need-prec-list-requires
 here c κs =
-    let k = c .before .before .before .before in
-    let g = k .before .before in
-    let h = told (Gapped _ _) (k .i .given .1) (g .pass-gap .ensures .1) in
-    record { within = h .1; short = g .before .before .before .before .pre .short }
+    let h = told (Gapped _ _) (c .before .before .before .before .before .i .given .1) (c .before .before .before .before .before .before .before .pass-gap .ensures .1) in
+    let x = c .before .before .before .before .before .before .before .before .before .before .before .before .pre in
+    (record { within = h .1; short = x .0 .short }, x .1)
 
 line : tie.Need-returns
 line c =
-    let p = c .before .before .before .before in
-    let n = p .before .before .before in
-    let g = n .before .before .before .before in
-    let e = n .before .before .i .given .1 in
-    (prec-line _ _ _ _ _ _ (g .pass-gap .ensures .0) _ _ _ _ e (n .next-level .ensures) (p .prec-list .ensures .0), passed-on _ _ _ _ (gap-passed _ _ _ _ _ (g .pass-gap .ensures .1) e) (p .prec-list .ensures .1))
+    let p = c .before .before .before .before .before .before in
+    let n = c .before .before .before .before .before .before .before .before .before .before in
+    let g = c .before .before .before .before .before .before .before .before .before .before .before .before .before .before in
+    let e = c .before .before .before .before .before .before .before .before .before .before .before .before .i .given .1 in
+    (prec-line _ _ _ _ _ _ (g .pass-gap .ensures .0) _ _ _ _ e (n .next-level .ensures) (p .prec-list .ensures .0), (passed-on _ _ _ _ (gap-passed _ _ _ _ _ (g .pass-gap .ensures .1) e) (p .prec-list .ensures .1 .0), p .prec-list .ensures .1 .1))
 
 refused : tie.Need-returns-2
 refused c =
     let g = c .before .before .before in
-    (prec-gap _ _ _ _ _ _ (g .pass-gap .ensures .0) _ (c .before .f .given .1), record { onward = omega arith; inside = g .before .before .before .before .pre .within })
+    let x = c .before .before .before .before .before .before .before .before .pre in
+    (prec-gap _ _ _ _ _ _ (g .pass-gap .ensures .0) _ (c .before .f .given .1), (record { onward = omega arith; inside = x .0 .within }, (x .1, grown-none _)))
 
 pub prec-decl-spec : {M : Type 1} → statement M
 prec-decl-spec =
@@ -36,6 +37,7 @@ prec-decl-spec =
     (λ c. search needs)
     (λ c κs. search needs)
     here
+    (λ c. search needs)
     (λ c. search needs)
     (λ c. search needs)
     (λ c. search needs)

@@ -6,6 +6,10 @@ use native.Mathlib.Omega.{arith}
 use borrow.Author.Needs.{needs}
 use Rattle.scan.specs.Loop.{Left}
 use Rattle.scan.proofs.Loop.{left-start, left-more, left-stop}
+use Rattle.tables.specs.Layout.{precedences, width}
+use Rattle.finder.specs.Finder.{Grown}
+use Rattle.finder.proofs.Laws.{grown-none, grown-on}
+use Rattle.grammar.specs.State.{Tracked}
 use Rattle.grammar.specs.declared.Answer.the-variants.{Going}
 use Rattle.lines.specs.Precedences.{precTurn, precList}
 use Rattle.lines.proofs.Laws.{prec-end, prec-more, prec-done, prec-refused}
@@ -13,57 +17,59 @@ use Rattle.lines.proofs.prec_list.Statement.{statement}
 use Rattle.lines.proofs.prec_list.Tie as tie
 
 abbrev Inv-loop : tie.InvT-loop
-Inv-loop src level assoc t2₀ t10₀ st₀ t2 t10 st =
-    (length t2 ≡ length t2₀) × (length t10 ≡ length t10₀) × (st₀ .at ≤ st .at) × (st .at ≤ length src) ×
+Inv-loop src level assoc t2₀ t10₀ fx₀ st₀ t2 t10 fx st =
+    (length t2 ≡ length t2₀) × (length t10 ≡ length t10₀) × (length fx ≡ length fx₀) × Tracked src precedences (width precedences) 0 (st .counts) t2 fx × Grown fx₀ fx × (st₀ .at ≤ st .at) × (st .at ≤ length src) ×
     Left (precTurn src level assoc) (record { answer = Going; state = st₀; a = t2₀; b = t10₀ }) (suc (length src)) (length src - st .at) (record { answer = Going; state = st; a = t2; b = t10 })
 
 abbrev μ-loop : tie.MeasureT-loop
-μ-loop src level assoc t2₀ t10₀ st₀ t2 t10 st = length src - st .at
+μ-loop src level assoc t2₀ t10₀ fx₀ st₀ t2 t10 fx st = length src - st .at
 
 ended : tie.Need-returns Inv-loop μ-loop
 unfolding precList
 ended c =
     let l = c .before .loop in
-    (sym (left-stop (precTurn _ _ _) _ (l .inv .4) (prec-end _ _ _ (l .st) (l .t2) (l .t10) (c .if1 .taken))), record { onward = l .inv .2; inside = l .inv .3 })
+    (sym (left-stop (precTurn _ _ _) _ (l .inv .7) (prec-end _ _ _ (l .st) (l .t2) (l .t10) (c .if1 .taken))), (record { onward = l .inv .5; inside = l .inv .6 }, (l .inv .3, l .inv .4)))
 
 here : tie.Need-prec-item-requires Inv-loop μ-loop
-here c κs = let l = c .before .before .before in record { within = l .loop .inv .3; short = l .before .before .before .before .pre .short }
+here c κs = let l = c .before .before .before .before in (record { within = l .loop .inv .6; short = c .before .before .before .before .before .before .before .before .before .pre .0 .short }, l .loop .inv .3)
 
 less : tie.Need-loop-less Inv-loop μ-loop
 less c =
-    let i = c .before .before .before .before .before .before .before in
-    let m = i .prec-item .ensures .1 in
+    let m = c .before .before .before .before .before .before .before .before .before .prec-item .ensures .1 .0 in
     let f = m .beyond (c .enum-told .given .1) in
     omega (arith, f, m .inside)
 
 again : tie.Need-loop-again Inv-loop μ-loop
 again c =
-    let i = c .before .before .before .before .before .before .before in
-    let l = i .before .before .before .before .loop in
-    let m = i .prec-item .ensures .1 in
+    let i = c .before .before .before .before .before .before .before .before .before in
+    let l = c .before .before .before .before .before .before .before .before .before .before .before .before .before .before .loop in
+    let m = i .prec-item .ensures .1 .0 in
     let f = m .beyond (c .enum-told .given .1) in (
       i .prec-item .kept .1 .1 .1 .1 .0 ∙ l .inv .0,
       i .prec-item .kept .1 .1 .1 .1 .1 .0 ∙ l .inv .1,
-      omega (arith, l .inv .2, f),
+      i .prec-item .kept .1 .1 .1 .1 .1 .1 .0 ∙ l .inv .2,
+      i .prec-item .ensures .1 .1 .0,
+      grown-on _ _ _ (l .inv .4) (i .prec-item .ensures .1 .1 .1),
+      omega (arith, l .inv .5, f),
       m .inside,
-      left-more (precTurn _ _ _) _ (l .inv .4) _ (prec-more _ _ _ (l .st) (l .t2) (l .t10) (i .before .before .before .if1 .left) (i .prec-item .ensures .0) (c .enum-told .given .1)) (omega (arith, f, m .inside)),
+      left-more (precTurn _ _ _) _ (l .inv .7) _ (prec-more _ _ _ (l .st) (l .t2) (l .t10) (c .before .before .before .before .before .before .before .before .before .before .before .before .before .if1 .left) (i .prec-item .ensures .0) (c .enum-told .given .1)) (omega (arith, f, m .inside)),
     )
 
 done : tie.Need-returns-2 Inv-loop μ-loop
 unfolding precList
 done c =
-    let i = c .before .before .before .before .before .before .before in
-    let l = i .before .before .before .before .loop in
-    let m = i .prec-item .ensures .1 in
-    (sym (left-stop (precTurn _ _ _) _ (l .inv .4) (prec-done _ _ _ (l .st) (l .t2) (l .t10) (i .before .before .before .if1 .left) (i .prec-item .ensures .0) (c .enum-told2 .given .1))), record { onward = omega (arith, l .inv .2, m .onward); inside = m .inside })
+    let i = c .before .before .before .before .before .before .before .before .before in
+    let l = c .before .before .before .before .before .before .before .before .before .before .before .before .before .before .loop in
+    let m = i .prec-item .ensures .1 .0 in
+    (sym (left-stop (precTurn _ _ _) _ (l .inv .7) (prec-done _ _ _ (l .st) (l .t2) (l .t10) (c .before .before .before .before .before .before .before .before .before .before .before .before .before .if1 .left) (i .prec-item .ensures .0) (c .enum-told2 .given .1))), (record { onward = omega (arith, l .inv .5, m .onward); inside = m .inside }, (i .prec-item .ensures .1 .1 .0, grown-on _ _ _ (l .inv .4) (i .prec-item .ensures .1 .1 .1))))
 
 refused : tie.Need-returns-3 Inv-loop μ-loop
 unfolding precList
 refused c =
-    let i = c .before .before .before .before .before .before .before in
-    let l = i .before .before .before .before .loop in
-    let m = i .prec-item .ensures .1 in
-    (sym (left-stop (precTurn _ _ _) _ (l .inv .4) (prec-refused _ _ _ (l .st) (l .t2) (l .t10) (i .before .before .before .if1 .left) (i .prec-item .ensures .0) _ (c .enum-told3 .given .1))), record { onward = omega (arith, l .inv .2, m .onward); inside = m .inside })
+    let i = c .before .before .before .before .before .before .before .before .before in
+    let l = c .before .before .before .before .before .before .before .before .before .before .before .before .before .before .loop in
+    let m = i .prec-item .ensures .1 .0 in
+    (sym (left-stop (precTurn _ _ _) _ (l .inv .7) (prec-refused _ _ _ (l .st) (l .t2) (l .t10) (c .before .before .before .before .before .before .before .before .before .before .before .before .before .if1 .left) (i .prec-item .ensures .0) _ (c .enum-told3 .given .1))), (record { onward = omega (arith, l .inv .5, m .onward); inside = m .inside }, (i .prec-item .ensures .1 .1 .0, grown-on _ _ _ (l .inv .4) (i .prec-item .ensures .1 .1 .1))))
 
 pub prec-list-spec : {M : Type 1} → statement M
 prec-list-spec =
@@ -71,7 +77,8 @@ prec-list-spec =
     (tie.spec
     Inv-loop
     μ-loop
-    (λ c. (refl, refl, omega arith, c .before .before .before .pre .within, left-start _ _ _ _ (omega arith)))
+    (λ c. (refl, refl, refl, c .before .before .before .before .pre .1, grown-none _, omega arith, c .before .before .before .before .pre .0 .within, left-start _ _ _ _ (omega arith)))
+    (λ c. search needs)
     (λ c. search needs)
     (λ c. search needs)
     ended
@@ -82,7 +89,9 @@ prec-list-spec =
     (λ c. search needs)
     (λ c. search needs)
     (λ c. search needs)
+    (λ c. search needs)
     done
+    (λ c. search needs)
     (λ c. search needs)
     (λ c. search needs)
     (λ c. search needs)

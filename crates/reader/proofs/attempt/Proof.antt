@@ -1,33 +1,36 @@
 -- `reader::attempt` meets its contract. Assumes nothing.
-use Rattle.reader.proofs.Laws.{fit-here, fit-near, begun-near, begun-tracked, attempt-fit, attempt-unfit}
+use mathlib.Core.Path.{refl}
+use Rattle.reader.proofs.Laws.{fit-here, fit-near, begun-near, none-tracked, none-given, attempt-fit, attempt-unfit}
 use Rattle.reader.proofs.attempt.Statement.{statement}
 use Rattle.reader.proofs.attempt.Tie as tie
 
 -- the call of the sections
-abbrev sectioned : tie.After-slice-known24 → tie.After-sections
-sectioned c = c .before .before .before .before .before .before .before .before .before .before .before .before .before .before .before .before .before .before .before .before .before .before .before .before
+abbrev sectioned : tie.After-slice-known26 → tie.After-sections
+sectioned c = c .before .before .before .before .before .before .before .before .before .before .before .before .before .before .before .before .before .before .before .before .before .before .before .before .before .before
 
 here : tie.Need-sections-requires
-here c κs = (fit-here _ _ (c .before .before .before .before .before .before .before .before .before .before .before .before .before .before .admit .ensures .1) (c .before .before .before .before .before .before .before .before .before .before .before .before .enum-told .given .1) _ (c .before .before .before .before .before .before .before .before .before .before .before .before .before .before .before .before .begin .ensures), begun-tracked _ 0 3 0 _ _ _ (c .before .before .before .before .before .before .before .before .before .before .before .before .before .before .before .before .begin .ensures) (c .before .before .before .before .before .before .before .before .before .before .before .before .before .before .before .before .before .before .before .before .before .before .before .before .before .before .before .before .before .before .pre .0), begun-tracked _ 6 5 0 _ _ _ (c .before .before .before .before .before .before .before .before .before .before .before .before .before .before .before .before .begin .ensures) (c .before .before .before .before .before .before .before .before .before .before .before .before .before .before .before .before .before .before .before .before .before .before .before .before .before .before .before .before .before .before .pre .1))
+here c κs =
+    let b = c .before .before .before .before .before .before .before .before .before .before .before .before .before .before .before .before .begin .ensures in
+    (fit-here _ _ (c .before .before .before .before .before .before .before .before .before .before .before .before .before .before .before .admit .ensures .1) (c .before .before .before .before .before .before .before .before .before .before .before .before .before .enum-told .given .1) _ b, none-tracked _ 0 3 0 _ _ _ refl b, none-tracked _ 6 5 0 _ _ _ refl b, none-given _ _ _ _ _ _ _ b)
 
 fit : tie.Need-returns
 fit c =
     let r = sectioned c in (
-      attempt-fit _ _ _ _ (c .before .before .before .before .before .before .before .before .before .before .before .before .before .before .before .before .before .before .before .before .before .before .before .before .before .before .before .before .before .before .before .before .before .before .before .before .before .before .before .before .before .begin .ensures) _ _ (c .before .before .before .before .before .before .before .before .before .before .before .before .before .before .before .before .before .before .before .before .before .before .before .before .before .before .before .before .before .before .before .before .before .before .before .before .before .before .before .before .sizes-fit .ensures) _ (c .before .before .before .before .before .before .before .before .before .before .before .before .before .before .before .before .before .before .before .before .before .before .before .before .before .before .before .before .before .before .before .before .before .before .before .before .before .before .before .admit .ensures .0) _ (c .before .before .before .before .before .before .before .before .before .before .before .before .before .before .before .before .before .before .before .before .before .before .before .before .before .before .before .before .before .before .before .before .before .before .before .before .before .enum-told .given .1) (r .sections .ensures .0),
-      (fit-near _ _ (c .before .before .before .before .before .before .before .before .before .before .before .before .before .before .before .before .before .before .before .before .before .before .before .before .before .before .before .before .before .before .before .before .before .before .before .before .before .before .before .admit .ensures .1) (c .before .before .before .before .before .before .before .before .before .before .before .before .before .before .before .before .before .before .before .before .before .before .before .before .before .before .before .before .before .before .before .before .before .before .before .before .before .enum-told .given .1) _ _ (r .sections .ensures .1 .0), r .sections .ensures .1 .1),
+      attempt-fit _ _ _ _ (c .before .before .before .before .before .before .before .before .before .before .before .before .before .before .before .before .before .before .before .before .before .before .before .before .before .before .before .before .before .before .before .before .before .before .before .before .before .before .before .before .before .before .before .begin .ensures) _ _ refl _ (c .before .before .before .before .before .before .before .before .before .before .before .before .before .before .before .before .before .before .before .before .before .before .before .before .before .before .before .before .before .before .before .before .before .before .before .before .before .before .before .before .before .before .admit .ensures .0) _ (c .before .before .before .before .before .before .before .before .before .before .before .before .before .before .before .before .before .before .before .before .before .before .before .before .before .before .before .before .before .before .before .before .before .before .before .before .before .before .before .before .enum-told .given .1) (r .sections .ensures .0),
+      (fit-near _ _ (c .before .before .before .before .before .before .before .before .before .before .before .before .before .before .before .before .before .before .before .before .before .before .before .before .before .before .before .before .before .before .before .before .before .before .before .before .before .before .before .before .before .before .admit .ensures .1) (c .before .before .before .before .before .before .before .before .before .before .before .before .before .before .before .before .before .before .before .before .before .before .before .before .before .before .before .before .before .before .before .before .before .before .before .before .before .before .before .before .enum-told .given .1) _ _ (r .sections .ensures .1 .0), r .sections .ensures .1 .1),
     )
 
 unfit : tie.Need-returns-2
-unfit c = (
-  attempt-unfit _ _ _ _ (c .before .before .before .before .before .begin .ensures) _ _ (c .before .before .before .before .sizes-fit .ensures) _ (c .before .before .before .admit .ensures .0) _ (c .before .a .given .1),
-  (begun-near _ (c .before .before .before .before .before .begin .ensures), (begun-tracked _ 0 3 0 _ _ _ (c .before .before .before .before .before .begin .ensures) (c .before .before .before .before .before .before .before .before .before .before .before .before .before .before .before .before .before .before .before .pre .0), begun-tracked _ 6 5 0 _ _ _ (c .before .before .before .before .before .begin .ensures) (c .before .before .before .before .before .before .before .before .before .before .before .before .before .before .before .before .before .before .before .pre .1))),
-)
+unfit c =
+    let b = c .before .before .before .before .begin .ensures in (
+      attempt-unfit _ _ _ _ b _ _ refl _ (c .before .before .before .admit .ensures .0) _ (c .before .a .given .1),
+      (begun-near _ b, (none-tracked _ 0 3 0 _ _ _ refl b, none-tracked _ 6 5 0 _ _ _ refl b)),
+    )
 
 pub attempt-spec : {M : Type 1} → statement M
 attempt-spec =
     tie.close
     (tie.spec
-    (λ c κs. tt)
     (λ c κs. tt)
     (λ c κs. tt)
     (λ c. c .match .keys1)
@@ -45,5 +48,6 @@ attempt-spec =
     (λ c. sectioned c .sections .kept .1 .1 .1 .1 .1 .1 .1 .1 .1 .1 .1 .1 .0)
     (λ c. sectioned c .sections .kept .1 .1 .1 .1 .1 .1 .1 .1 .1 .1 .1 .1 .1 .0)
     (λ c. sectioned c .sections .kept .1 .1 .1 .1 .1 .1 .1 .1 .1 .1 .1 .1 .1 .1 .0)
+    (λ c. sectioned c .sections .kept .1 .1 .1 .1 .1 .1 .1 .1 .1 .1 .1 .1 .1 .1 .1 .0)
     fit
     unfit)

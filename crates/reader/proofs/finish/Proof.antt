@@ -1,13 +1,12 @@
 -- `reader::finish` meets its contract. Assumes nothing.
 use mathlib.Core.Path.{refl}
-use denote.Ref.{now}
-use Rattle.reader.proofs.Laws.{finish-going, finish-done, finish-refused, ended-tracked, stopped-tokens, stopped-rules}
+use Rattle.reader.proofs.Laws.{finish-going, finish-done, finish-refused, ended-tracked, stopped-tracked}
 use Rattle.reader.proofs.finish.Statement.{statement}
 use Rattle.reader.proofs.finish.Tie as tie
 
--- the tables and the indexes without anything in them
+-- the tables without anything in them
 abbrev emptied : tie.After-stopped → tie.After-clear
-emptied c = c .before .before .before .before .before .before .before .before .before .before .before .before .before .before .before .before .before .before .before .before .before .before .before
+emptied c = c .before .before .before .before .before .before .before .before .before .before .before .before .before .before .before .before .before .before .before
 
 going : tie.Need-returns
 going c = (finish-going _ _ _ _ (c .before .enum-told .given .1) (c .ended .ensures), (ended-tracked _ 0 3 0 _ _ _ _ _ (c .ended .ensures) (c .before .before .before .before .before .before .before .before .before .before .before .before .before .before .before .before .before .pre .1), ended-tracked _ 6 5 0 _ _ _ _ _ (c .ended .ensures) (c .before .before .before .before .before .before .before .before .before .before .before .before .before .before .before .before .before .pre .2)))
@@ -17,10 +16,10 @@ done c = (finish-done _ _ _ _ (c .before .enum-told2 .given .1) (c .ended2 .ensu
 
 refused : tie.Need-returns-3
 refused c =
-    let x = c .before .before .before .before .before .before .before .before .before .before .before .before .before .before .before .before .before .before .before .before .before .before .before .before .before .before .before .before .before .before .before .before .before .before .before .before .before .before .before .before .before .before .before .before .before .before .before .before .before .before .before .before in
+    let x = c .before .before .before .before .before .before .before .before .before .before .before .before .before .before .before .before .before .before .before .before .before .before .before .before .before .before .before .before .before .before .before .before .before .before .before .before .before .before .before .before .before .before .before .before .before .before in
     let z = emptied c .clear .ensures in (
-      finish-refused _ _ _ _ _ _ (c .before .before .before .before .before .before .before .before .before .before .before .before .before .before .before .before .before .before .before .before .before .before .before .before .before .before .before .before .before .before .before .before .before .before .before .before .a .given .1) (c .stopped .ensures) (z .0, z .1, z .2, z .3, z .4, z .5, z .6, z .7, z .8) refl,
-      (stopped-tokens _ (x .args .r .state) _ _ _ (now (x .args .i1)) _ (c .stopped .ensures) (z .9), stopped-rules _ (x .args .r .state) _ _ _ (now (x .args .i7)) _ (c .stopped .ensures) (z .10)),
+      finish-refused _ _ _ _ _ _ (c .before .before .before .before .before .before .before .before .before .before .before .before .before .before .before .before .before .before .before .before .before .before .before .before .before .before .before .before .before .before .a .given .1) (c .stopped .ensures) (z .0, z .1, z .2, z .3, z .4, z .5, z .6, z .7, z .8) refl,
+      (stopped-tracked _ 0 3 0 (x .args .r .state) _ _ _ _ refl (c .stopped .ensures), stopped-tracked _ 6 5 0 (x .args .r .state) _ _ _ _ refl (c .stopped .ensures)),
     )
 
 pub finish-spec : {M : Type 1} → statement M
@@ -45,6 +44,4 @@ finish-spec =
     (λ c. emptied c .clear .kept .1 .1 .1 .1 .1 .1 .0)
     (λ c. emptied c .clear .kept .1 .1 .1 .1 .1 .1 .1 .0)
     (λ c. emptied c .clear .kept .1 .1 .1 .1 .1 .1 .1 .1 .0)
-    (λ c. emptied c .clear .kept .1 .1 .1 .1 .1 .1 .1 .1 .1 .0)
-    (λ c. emptied c .clear .kept .1 .1 .1 .1 .1 .1 .1 .1 .1 .1 .0)
     refused)

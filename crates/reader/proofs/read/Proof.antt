@@ -1,35 +1,55 @@
--- `reader::read` meets its contract: the read, and then the symbols' rows. Assumes nothing.
+-- `reader::read` meets its contract: tables of zeros, the run, and the indexes. Assumes nothing.
 use mathlib.Core.Path.{_∙_}
-use Rattle.reader.proofs.Laws.{names-found, read-filled}
+use denote.Ref.{now}
+use Rattle.reader.proofs.Laws.{zeroed-again, read-whole}
 use Rattle.reader.proofs.read.Statement.{statement}
 use Rattle.reader.proofs.read.Tie as tie
 
--- where the names were read
-abbrev after : tie.After-slice-known25 → tie.After-read-names
-after c = c .before .before .before .before .before .before .before .before .before .before .before .before .before .before .before .before .before .before .before .before .before .before .before .before .before .before .before .before .before .before .before .before .before
+-- its calls
+abbrev entered : tie.After-slice-known36 → tie.After-enter-indexes
+entered c = c .before .before .before .before
 
-fill-requires : tie.Need-fill-requires
-fill-requires c κs = names-found _ _ _ _ _ (c .before .before .before .before .before .before .before .before .before .before .before .before .before .before .before .before .before .before .before .before .before .before .before .before .before .before .before .before .before .before .read-names .ensures)
+abbrev ran : tie.After-slice-known36 → tie.After-run-sized
+ran c = c .before .before .before .before .before .before .before .before .before .before .before .before .before .before .before .before .before .before .before .before .before .before .before .before .before .before .before .before .before .before
+
+abbrev seventh : tie.After-slice-known36 → tie.After-zero3
+seventh c = c .before .before .before .before .before .before .before .before .before .before .before .before .before .before .before .before .before .before .before .before .before .before .before .before .before .before .before .before .before .before .before .before .before .before .before .before .before .before .before .before .before .before .before .before
+
+abbrev first : tie.After-slice-known36 → tie.After-zero2
+first c = c .before .before .before .before .before .before .before .before .before .before .before .before .before .before .before .before .before .before .before .before .before .before .before .before .before .before .before .before .before .before .before .before .before .before .before .before .before .before .before .before .before .before .before .before .before .before .before .before
+
+abbrev tenth : tie.After-slice-known36 → tie.After-zero
+tenth c = c .before .before .before .before .before .before .before .before .before .before .before .before .before .before .before .before .before .before .before .before .before .before .before .before .before .before .before .before .before .before .before .before .before .before .before .before .before .before .before .before .before .before .before .before .before .before .before .before .before .before .before .before
+
+abbrev nine : tie.After-slice-known36 → tie.After-clear
+nine c = c .before .before .before .before .before .before .before .before .before .before .before .before .before .before .before .before .before .before .before .before .before .before .before .before .before .before .before .before .before .before .before .before .before .before .before .before .before .before .before .before .before .before .before .before .before .before .before .before .before .before .before .before .before .before .before .before .before .before .before .before .before .before .before .before .before .before .before .before .before .before .before .before
 
 returns : tie.Need-returns
-returns c = read-filled _ _ _ _ _ (after c .read-names .ensures) _ (c .before .before .fill .ensures)
+returns c =
+    let z = nine c .clear .ensures in
+    read-whole _ _ _ _ _ _ _ _ _ _ _ (z .0, z .1, z .2, z .3, z .4, z .5, z .6, z .7, z .8) (tenth c .zero .ensures) (first c .zero2 .ensures) (seventh c .zero3 .ensures) (c .before .before .before .before .before .before .before .before .before .before .before .before .before .before .before .before .before .before .before .before .before .before .before .before .before .before .before .before .before .before .before .before .before .before .before .before .before .before .before .before .before .sizes-fit .ensures) (ran c .run-sized .ensures) (entered c .enter-indexes .ensures .0) (entered c .enter-indexes .ensures .1)
 
 pub read-spec : {M : Type 1} → statement M
 read-spec =
     tie.close
     (tie.spec
     (λ c κs. tt)
-    fill-requires
-    (λ c. after c .read-names .kept .1 .1 .0)
-    (λ c. after c .read-names .kept .1 .1 .1 .0)
-    (λ c. after c .read-names .kept .1 .1 .1 .1 .0)
-    (λ c. after c .read-names .kept .1 .1 .1 .1 .1 .0)
-    (λ c. after c .read-names .kept .1 .1 .1 .1 .1 .1 .0)
-    (λ c. after c .read-names .kept .1 .1 .1 .1 .1 .1 .1 .0)
-    (λ c. after c .read-names .kept .1 .1 .1 .1 .1 .1 .1 .1 .0)
-    (λ c. after c .read-names .kept .1 .1 .1 .1 .1 .1 .1 .1 .1 .0)
-    (λ c. c .before .before .fill .kept .1 .1 .1 .1 .0 ∙ after c .read-names .kept .1 .1 .1 .1 .1 .1 .1 .1 .1 .1 .0)
-    (λ c. after c .read-names .kept .1 .1 .1 .1 .1 .1 .1 .1 .1 .1 .1 .0)
-    (λ c. after c .read-names .kept .1 .1 .1 .1 .1 .1 .1 .1 .1 .1 .1 .1 .0)
-    (λ c. after c .read-names .kept .1 .1 .1 .1 .1 .1 .1 .1 .1 .1 .1 .1 .1 .0)
+    (λ c κs. tt)
+    (λ c κs. tt)
+    (λ c κs. tt)
+    (λ c κs. tt)
+    (λ c κs. tt)
+    (λ c κs. (zeroed-again (now (c .before .before .before .before .before .before .before .before .before .before .before .before .before .before .before .before .before .before .before .before .before .before .before .before .before .before .before .before .before .before .before .before .before .before .before .before .before .before .before .before .before .before .before .before .before .before .before .before .before .before .before .before .before .before .before .before .before .before .before .before .before .before .before .before .before .before .before .before .before .before .before .before .before .before .before .before .before .before .before .before .before .before .before .before .before .before .before .before .before .before .args .i1)) _ (c .before .before .before .before .before .before .before .before .before .before .before .before .before .before .before .before .before .before .before .before .before .before .before .before .before .before .before .before .before .before .before .before .before .before .before .before .before .before .before .before .before .before .before .zero2 .ensures), zeroed-again (now (c .before .before .before .before .before .before .before .before .before .before .before .before .before .before .before .before .before .before .before .before .before .before .before .before .before .before .before .before .before .before .before .before .before .before .before .before .before .before .before .before .before .before .before .before .before .before .before .before .before .before .before .before .before .before .before .before .before .before .before .before .before .before .before .before .before .before .before .before .before .before .before .before .before .before .before .before .before .before .before .before .before .before .before .before .before .before .before .before .before .before .args .i7)) _ (c .before .before .before .before .before .before .before .before .before .before .before .before .before .before .before .before .before .before .before .before .before .before .before .before .before .before .before .before .before .before .before .before .before .before .before .before .before .before .before .zero3 .ensures)))
+    (λ c. ran c .run-sized .kept .1 .1 .1 .0 ∙ nine c .clear .kept .0)
+    (λ c. ran c .run-sized .kept .1 .1 .1 .1 .0 ∙ nine c .clear .kept .1 .0)
+    (λ c. ran c .run-sized .kept .1 .1 .1 .1 .1 .0 ∙ nine c .clear .kept .1 .1 .0)
+    (λ c. ran c .run-sized .kept .1 .1 .1 .1 .1 .1 .0 ∙ nine c .clear .kept .1 .1 .1 .0)
+    (λ c. ran c .run-sized .kept .1 .1 .1 .1 .1 .1 .1 .0 ∙ nine c .clear .kept .1 .1 .1 .1 .0)
+    (λ c. ran c .run-sized .kept .1 .1 .1 .1 .1 .1 .1 .1 .0 ∙ nine c .clear .kept .1 .1 .1 .1 .1 .0)
+    (λ c. ran c .run-sized .kept .1 .1 .1 .1 .1 .1 .1 .1 .1 .0 ∙ nine c .clear .kept .1 .1 .1 .1 .1 .1 .0)
+    (λ c. ran c .run-sized .kept .1 .1 .1 .1 .1 .1 .1 .1 .1 .1 .0 ∙ nine c .clear .kept .1 .1 .1 .1 .1 .1 .1 .0)
+    (λ c. ran c .run-sized .kept .1 .1 .1 .1 .1 .1 .1 .1 .1 .1 .1 .0 ∙ nine c .clear .kept .1 .1 .1 .1 .1 .1 .1 .1 .0)
+    (λ c. ran c .run-sized .kept .1 .1 .1 .1 .1 .1 .1 .1 .1 .1 .1 .1 .0 ∙ tenth c .zero .kept .0)
+    (λ c. entered c .enter-indexes .kept .1 .1 .1 .1 .0 ∙ first c .zero2 .kept .0)
+    (λ c. entered c .enter-indexes .kept .1 .1 .1 .1 .1 .0 ∙ seventh c .zero3 .kept .0)
     returns)

@@ -8,26 +8,26 @@ use Rattle.reader.proofs.sections.Tie as tie
 
 -- the call of the declarations, and that of the rest behind them
 abbrev declared : tie.After-n → tie.After-declarations
-declared c = c .before .before .before .before .before .before .before .before .before .before .before .before .before .before .before .before .before
+declared c = c .before .before .before .before .before .before .before .before .before .before .before .before .before .before .before .before .before .before .before
 
 abbrev begun : tie.After-declarations → tie.Start
-begun c = c .before .before .before .before .before .before .before .before .before .before .before .before .before .before .before .before .before .before .before .before .before .before
+begun c = c .before .before .before .before .before .before .before .before .before .before .before .before .before .before .before .before .before .before .before .before .before .before .before .before
 
-abbrev ran : tie.After-slice-known26 → tie.After-rest
+abbrev ran : tie.After-slice-known28 → tie.After-rest
 ran c = c .before .before .before .before .before .before .before .before .before .before .before .before
 
-abbrev before : tie.After-slice-known26 → tie.After-declarations
+abbrev before : tie.After-slice-known28 → tie.After-declarations
 before c = declared (c .before .before .before .before .before .before .before .before .before .before .before .before .before .before .before .before .before .before .before .before .before)
 
 here : tie.Need-rest-requires
 here c κs =
     let d = declared (c .before .before .before .before .before .before .before .before) in
-    (passed-here _ _ _ (begun d .pre .0) (d .declarations .ensures .1 .0), d .declarations .ensures .1 .1, by-declarations _ _ _ _ _ _ _ _ _ (d .declarations .ensures .0) (begun d .pre .2))
+    (passed-here _ _ _ (begun d .pre .0) (d .declarations .ensures .1 .0), d .declarations .ensures .1 .1 .0, by-declarations _ _ _ _ _ _ _ _ _ (d .declarations .ensures .0) (begun d .pre .2))
 
 going : tie.Need-returns
 going c =
     let d = declared (c .before .before .before) in
-    (sections-going _ _ _ _ _ (d .declarations .ensures .0) (c .before .enum-told .given .1), (d .declarations .ensures .1 .0, (d .declarations .ensures .1 .1, by-declarations _ _ _ _ _ _ _ _ _ (d .declarations .ensures .0) (begun d .pre .2))))
+    (sections-going _ _ _ _ _ (d .declarations .ensures .0) (c .before .enum-told .given .1), (d .declarations .ensures .1 .0, (d .declarations .ensures .1 .1 .0, by-declarations _ _ _ _ _ _ _ _ _ (d .declarations .ensures .0) (begun d .pre .2))))
 
 done : tie.Need-returns-2
 done c =
@@ -40,13 +40,13 @@ done c =
 refused : tie.Need-returns-3
 refused c =
     let d = declared (c .before .before .before) in
-    (sections-refused _ _ _ _ _ (d .declarations .ensures .0) _ (c .before .a .given .1), (d .declarations .ensures .1 .0, (d .declarations .ensures .1 .1, by-declarations _ _ _ _ _ _ _ _ _ (d .declarations .ensures .0) (begun d .pre .2))))
+    (sections-refused _ _ _ _ _ (d .declarations .ensures .0) _ (c .before .a .given .1), (d .declarations .ensures .1 .0, (d .declarations .ensures .1 .1 .0, by-declarations _ _ _ _ _ _ _ _ _ (d .declarations .ensures .0) (begun d .pre .2))))
 
 pub sections-spec : {M : Type 1} → statement M
 sections-spec =
     tie.close
     (tie.spec
-    (λ c κs. (c .before .before .before .before .before .before .before .before .before .before .before .before .before .before .before .before .before .before .before .before .before .pre .0, c .before .before .before .before .before .before .before .before .before .before .before .before .before .before .before .before .before .before .before .before .before .pre .1))
+    (λ c κs. (c .before .before .before .before .before .before .before .before .before .before .before .before .before .before .before .before .before .before .before .before .before .before .before .pre .0, c .before .before .before .before .before .before .before .before .before .before .before .before .before .before .before .before .before .before .before .before .before .before .before .pre .1, c .before .before .before .before .before .before .before .before .before .before .before .before .before .before .before .before .before .before .before .before .before .before .before .pre .3))
     (λ c. c .match .keys1)
     (λ c. let d = declared (c .before .before .before) in passed-fits _ _ _ (begun d .pre .0) (d .declarations .ensures .1 .0))
     (λ c. c .match .keys2)
@@ -60,6 +60,7 @@ sections-spec =
     (λ c. declared (c .before .before .before) .declarations .kept .1 .1 .1 .1 .1 .1 .1 .1 .0)
     (λ c. declared (c .before .before .before) .declarations .kept .1 .1 .1 .1 .1 .1 .1 .1 .1 .0)
     (λ c. declared (c .before .before .before) .declarations .kept .1 .1 .1 .1 .1 .1 .1 .1 .1 .1 .0)
+    (λ c. declared (c .before .before .before) .declarations .kept .1 .1 .1 .1 .1 .1 .1 .1 .1 .1 .1 .0)
     going
     (λ c. ran c .rest .kept .1 .1 .1 .0 ∙ before c .declarations .kept .1 .1 .1 .0)
     (λ c. before c .declarations .kept .1 .1 .1 .1 .0)
@@ -73,6 +74,7 @@ sections-spec =
     (λ c. before c .declarations .kept .1 .1 .1 .1 .1 .1 .1 .1 .1 .0)
     (λ c. ran c .rest .kept .1 .1 .1 .1 .1 .1 .1 .0 ∙ before c .declarations .kept .1 .1 .1 .1 .1 .1 .1 .1 .1 .1 .0)
     (λ c. ran c .rest .kept .1 .1 .1 .1 .1 .1 .1 .1 .0)
+    (λ c. before c .declarations .kept .1 .1 .1 .1 .1 .1 .1 .1 .1 .1 .1 .0)
     done
     (λ c. declared (c .before .before .before) .declarations .kept .1 .1 .1 .0)
     (λ c. declared (c .before .before .before) .declarations .kept .1 .1 .1 .1 .0)
@@ -82,4 +84,5 @@ sections-spec =
     (λ c. declared (c .before .before .before) .declarations .kept .1 .1 .1 .1 .1 .1 .1 .1 .0)
     (λ c. declared (c .before .before .before) .declarations .kept .1 .1 .1 .1 .1 .1 .1 .1 .1 .0)
     (λ c. declared (c .before .before .before) .declarations .kept .1 .1 .1 .1 .1 .1 .1 .1 .1 .1 .0)
+    (λ c. declared (c .before .before .before) .declarations .kept .1 .1 .1 .1 .1 .1 .1 .1 .1 .1 .1 .0)
     refused)
