@@ -64,6 +64,12 @@ next-less t8 k r n q e h =
     let x = next-cases t8 (r + 1) n k (omega arith) in
     omega (arith, e, x .0)
 
+-- no row that is found lies behind the last
+pub next-most : (t8 : List ℕ) (k r n q : ℕ) → q ≡ nextOfRule t8 (r + 1) n k → r < n → q ≤ n
+next-most t8 k r n q e h =
+    let x = next-cases t8 (r + 1) n k (omega arith) in
+    omega (arith, e, x .1)
+
 -- all cells stored as one value
 pub all-filled : (v i : ℕ) (t : List ℕ) → i ≤ length t → length t ≤ i → replicate i v ++ drop i t ≡ replicate (length t) v
 all-filled v i t h k =

@@ -4,3 +4,4 @@ pub mod RowTests
 pub mod Iff
 pub mod Indexes
 pub mod Known
+pub mod Apart

@@ -7,7 +7,7 @@ use lib.Dec.{leb, ltb, eqb}
 use lib.ListN.{length, getD, drop}
 use Rattle.tables.specs.Below.{below}
 use Rattle.tables.specs.Table.{cell, lies}
-use Rattle.index.specs.Index.{Indexed, indexTest, sizeTest, freshName}
+use Rattle.index.specs.Index.{indexTest, sizeTest, freshName}
 use Rattle.symbols.specs.Symbols.{knowsTest}
 use Rattle.tables.specs.Layout.{tokens, precedences, avoided, epps, unused, rules, productions, symbols, repeats, declared, association, keyName, value, typed, ruleRow, place, symbolsFrom, symbolsTo, prec, action, kindName, width}
 use Rattle.grammar.specs.declared.Counts.{Counts}
@@ -89,10 +89,6 @@ widthOf k = width k
 abbrev pub namesTest : Bool → List ℕ → ℕ → ℕ → List ℕ → Bool
 namesTest true src w n t = below n (freshName src w 0 t)
 namesTest false src w n t = true
-
--- the index of table 1 or 7 holds its n rows; other tables have none
-pub record Beside (src : List ℕ) (k n : ℕ) (t ix : List ℕ) : Type 0 where
-  pub holds : (eqb k tokens || eqb k rules) ≡ true → Indexed src (width k) 0 n t ix
 
 unfoldable pub tableTest : List ℕ → ℕ → ℕ → ℕ → List ℕ → Bool
 tableTest src m k n t =

@@ -1,10 +1,11 @@
-// Whether tables, counts, singles and indexes are sound: the test behind 44. Each table is read a constant number of times; names of tables 1 and 7 are sought by
-// their indexes, which are tested first.
+// Whether tables, counts, singles and indexes are sound: the test behind 44. Each table is read a constant number of times. That names differ is told by a finder,
+// whatever the indexes hold; a symbol's name is sought by the indexes of tables 1 and 7, which are tested first.
 use grammar::Counts;
 use grammar::Expect;
 use grammar::Param;
 use grammar::Part;
 use grammar::Singles;
+use tables::Found;
 ghost use mathlib.Core.Path.{_≡_};
 ghost use Prim.Native.Nat.{_<_};
 ghost use Rattle.index.specs.Index.{Indexed, freshName};
@@ -12,7 +13,7 @@ ghost use Rattle.tables.specs.Layout.{tokens, rules, symbols, width};
 ghost use Rattle.symbols.specs.Symbols.{lexicon, knowsTest, Single};
 ghost use Rattle.grammar.specs.Sound.{Tables};
 ghost use Rattle.tables.specs.Below.{below};
-ghost use Rattle.sound.specs.Test.{zerosFrom, givenTest, actionTest, tokenTest, precTest, nameTest, eppTest, kindTest, ruleTest, productionTest, repeatTest, rowTest, Beside, widthOf, tableTest, rangeTest, rangesTest, partTest, expectTest, paramTest, singlesTest, countAt, indexRight, indexesTest, tablesTest, soundTest};
+ghost use Rattle.sound.specs.Test.{zerosFrom, givenTest, actionTest, tokenTest, precTest, nameTest, eppTest, kindTest, ruleTest, productionTest, repeatTest, rowTest, widthOf, tableTest, rangeTest, rangesTest, partTest, expectTest, paramTest, singlesTest, countAt, indexRight, indexesTest, tablesTest, soundTest};
 
 // Whether all cells from `from` on are zero.
 pub fn zeros_from(t: &[u32], from: usize) -> bool
@@ -166,19 +167,49 @@ pub fn rows_sound(src: &[u8], k: u8, t: &[u32], n: u32, rules: u32) -> bool
     true
 }
 
-// Whether no row has the name of one before it, by the index.
-pub fn names_differ(src: &[u8], t: &[u32], w: u32, n: u32, ix: &[u32]) -> bool
-    requires { ⌜ Indexed (now src) w 0 n (now t) (now ix) ⌝ }
+// Whether no row has the name of one before it: each is sought among those before it, which are in the finder, and is then entered.
+fn names_apart(src: &[u8], t: &[u32], w: u32, n: u32, fx: &mut [u16]) -> bool
     ensures { λ q. ⌜ q ≡ below n (freshName (now (src .entry)) w 0 (now (t .entry))) ⌝ }
 {
     let mut r = 0;
     while r < n {
-        if !index::name_fresh(src, t, w, tables::NAME, n, ix, r) {
-            return false;
+        let a = tables::cell(t, w, r, 0);
+        let b = tables::cell(t, w, r, 1);
+        match finder::find(src, t, w, tables::NAME, r, fx, a, b) {
+            Found::RowAt(_) => {
+                return false;
+            }
+            Found::NoRow => {
+                finder::enter(src, t, w, tables::NAME, r, fx);
+                r += 1;
+            }
         }
-        r += 1;
     }
     true
+}
+
+// The same with a finder of its own; one for few rows is small, so that little has to be cleared.
+fn few_names_differ(src: &[u8], t: &[u32], w: u32, n: u32) -> bool
+    ensures { λ q. ⌜ q ≡ below n (freshName (now (src .entry)) w 0 (now (t .entry))) ⌝ }
+{
+    let mut fx = [0u16; 1024];
+    names_apart(src, t, w, n, &mut fx)
+}
+
+fn many_names_differ(src: &[u8], t: &[u32], w: u32, n: u32) -> bool
+    ensures { λ q. ⌜ q ≡ below n (freshName (now (src .entry)) w 0 (now (t .entry))) ⌝ }
+{
+    let mut fx = [0u16; 32768];
+    names_apart(src, t, w, n, &mut fx)
+}
+
+pub fn names_differ(src: &[u8], t: &[u32], w: u32, n: u32) -> bool
+    ensures { λ q. ⌜ q ≡ below n (freshName (now (src .entry)) w 0 (now (t .entry))) ⌝ }
+{
+    if n <= 512 {
+        return few_names_differ(src, t, w, n);
+    }
+    many_names_differ(src, t, w, n)
 }
 
 // The width of table `k + 1`.
@@ -200,9 +231,8 @@ pub fn width_of(k: u8) -> u32
     }
 }
 
-// Table `k + 1` with `n` rows, and its index if it has one. That the rows fit comes first, so that no count makes it read past the table.
-pub fn table_sound(src: &[u8], k: u8, t: &[u32], n: u32, rules: u32, ix: &[u32]) -> bool
-    requires { ⌜ Beside (now src) k n (now t) (now ix) ⌝ }
+// Table `k + 1` with `n` rows. That the rows fit comes first, so that no count makes it read past the table.
+pub fn table_sound(src: &[u8], k: u8, t: &[u32], n: u32, rules: u32) -> bool
     ensures { λ q. ⌜ q ≡ tableTest (now (src .entry)) rules k n (now (t .entry)) ⌝ }
 {
     let w = width_of(k);
@@ -217,7 +247,7 @@ pub fn table_sound(src: &[u8], k: u8, t: &[u32], n: u32, rules: u32, ix: &[u32])
         return false;
     }
     if (k == tables::TOKENS) | (k == tables::RULES) {
-        return names_differ(src, t, w, n, ix);
+        return names_differ(src, t, w, n);
     }
     true
 }
@@ -323,7 +353,7 @@ pub fn indexes_sound(src: &[u8], c: Counts, t1: &[u32], t7: &[u32], i1: &[u32], 
     index_right(src, t7, tables::RULE_WIDTH, rows_of(c, tables::RULES), i7)
 }
 
-// All ten tables by themselves. Those that have no index are lent one that is not looked at.
+// All ten tables by themselves.
 pub fn tables_sound(
     src: &[u8],
     c: Counts,
@@ -337,21 +367,11 @@ pub fn tables_sound(
     t8: &[u32],
     t9: &[u32],
     t10: &[u32],
-    i1: &[u32],
-    i7: &[u32],
 ) -> bool
-    requires { ⌜ Indexed (now src) (width tokens) 0 (countAt c tokens) (now t1) (now i1) × Indexed (now src) (width rules) 0 (countAt c rules) (now t7) (now i7) ⌝ }
     ensures { λ q. ⌜ q ≡ tablesTest (now (src .entry)) c (record { t1 = now (t1 .entry); t2 = now (t2 .entry); t3 = now (t3 .entry); t4 = now (t4 .entry); t5 = now (t5 .entry); t6 = now (t6 .entry); t7 = now (t7 .entry); t8 = now (t8 .entry); t9 = now (t9 .entry); t10 = now (t10 .entry) }) ⌝ }
 {
     let rules = rows_of(c, tables::RULES);
-    if !table_sound(
-        src,
-        tables::TOKENS,
-        t1,
-        rows_of(c, tables::TOKENS),
-        rules,
-        i1,
-    ) {
+    if !table_sound(src, tables::TOKENS, t1, rows_of(c, tables::TOKENS), rules) {
         return false;
     }
     if !table_sound(
@@ -360,18 +380,10 @@ pub fn tables_sound(
         t2,
         rows_of(c, tables::PRECEDENCES),
         rules,
-        i1,
     ) {
         return false;
     }
-    if !table_sound(
-        src,
-        tables::AVOIDED,
-        t3,
-        rows_of(c, tables::AVOIDED),
-        rules,
-        i1,
-    ) {
+    if !table_sound(src, tables::AVOIDED, t3, rows_of(c, tables::AVOIDED), rules) {
         return false;
     }
     if !table_sound(
@@ -380,24 +392,16 @@ pub fn tables_sound(
         t4,
         rows_of(c, tables::IMPLICIT),
         rules,
-        i1,
     ) {
         return false;
     }
-    if !table_sound(src, tables::EPPS, t5, rows_of(c, tables::EPPS), rules, i1) {
+    if !table_sound(src, tables::EPPS, t5, rows_of(c, tables::EPPS), rules) {
         return false;
     }
-    if !table_sound(
-        src,
-        tables::UNUSED,
-        t6,
-        rows_of(c, tables::UNUSED),
-        rules,
-        i1,
-    ) {
+    if !table_sound(src, tables::UNUSED, t6, rows_of(c, tables::UNUSED), rules) {
         return false;
     }
-    if !table_sound(src, tables::RULES, t7, rules, rules, i7) {
+    if !table_sound(src, tables::RULES, t7, rules, rules) {
         return false;
     }
     if !table_sound(
@@ -406,18 +410,10 @@ pub fn tables_sound(
         t8,
         rows_of(c, tables::PRODUCTIONS),
         rules,
-        i1,
     ) {
         return false;
     }
-    if !table_sound(
-        src,
-        tables::SYMBOLS,
-        t9,
-        rows_of(c, tables::SYMBOLS),
-        rules,
-        i1,
-    ) {
+    if !table_sound(src, tables::SYMBOLS, t9, rows_of(c, tables::SYMBOLS), rules) {
         return false;
     }
     table_sound(
@@ -426,7 +422,6 @@ pub fn tables_sound(
         t10,
         rows_of(c, tables::REPEATS),
         rules,
-        i1,
     )
 }
 
@@ -482,7 +477,7 @@ pub fn sound(
     if !indexes_sound(src, c, t1, t7, i1, i7) {
         return false;
     }
-    if !tables_sound(src, c, t1, t2, t3, t4, t5, t6, t7, t8, t9, t10, i1, i7) {
+    if !tables_sound(src, c, t1, t2, t3, t4, t5, t6, t7, t8, t9, t10) {
         return false;
     }
     if !symbols_known(src, c, t1, t7, t9, i1, i7) {

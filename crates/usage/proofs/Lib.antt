@@ -1,4 +1,5 @@
 pub mod Excuses
+pub mod Guided
 pub mod Picked
 pub mod Passes
 pub mod Outcome

@@ -5,12 +5,14 @@ use mathlib.Core.Bool.{Bool, true, false}
 use mathlib.Core.List.{List, [], _∷_, _++_}
 use lib.ListN.{length, replicate, set}
 use lib.Seq.{sets}
+use lib.Dec.{eqb}
 use Rattle.tables.specs.Table.{cell, hasName, zeroed}
 use Rattle.tables.specs.Layout.{implicit, unused, kindName, width}
 use Rattle.grammar.specs.declared.Counts.{Counts}
 use Rattle.grammar.specs.declared.Singles.{Singles}
 use Rattle.grammar.specs.Sound.{Tables, Indexes}
 use Rattle.sound.specs.Test.{countAt}
+use Rattle.finder.specs.Finder.{LedOf}
 use Rattle.validation.specs.declared.Flaw.{Flaw}
 use Rattle.validation.specs.declared.Validity.{Validity}
 use Rattle.validation.specs.declared.Validity.the-variants.{Valid, UnsoundTables, Invalid}
@@ -171,6 +173,18 @@ abbrev pub MarkedBits : List ℕ → Counts → Singles → Tables → Indexes �
 MarkedBits src c g T X m ws₀ ws = MarkTold (validity src c g T X) (grammarOf src c (g .start) (T .t1) (T .t7) (T .t8) (T .t9)) m ws₀ ws
 
 -- ---- what the steps promise
+
+-- slots lead to the rows of the kind in table 6, and to those of table 4
+abbrev pub ExpectedLed : List ℕ → List ℕ → ℕ → ℕ → List ℕ → Type 0
+ExpectedLed src t n kd fx = LedOf (λ (r : ℕ). eqb (cell (width unused) t r 0) kd) src (width unused) kindName n t fx
+
+abbrev pub ImplicitLed : List ℕ → List ℕ → ℕ → List ℕ → Type 0
+ImplicitLed src t n fx = LedOf (λ (r : ℕ). true) src (width implicit) 0 n t fx
+
+-- they lead to all that may excuse a name of the kind
+pub record Guides (x : Excuses) (kd : ℕ) (fx : List ℕ) : Type 0 where
+  pub rows-expected : ExpectedLed (x .src) (x .expecteds) (x .expected-count) kd fx
+  pub rows-implicit : kd ≡ 2 → ImplicitLed (x .src) (x .implicits) (x .implicit-count) fx
 
 -- row r is to be listed, by the bits
 pub record Free (ws : List ℕ) (x : Excuses) (d : Named) (r : ℕ) : Type 0 where

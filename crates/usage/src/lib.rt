@@ -9,8 +9,11 @@ ghost use mathlib.Core.Path.{_≡_};
 ghost use Prim.Native.Nat.{ℕ, _+_, _*_, _^_, _<_, _≤_};
 ghost use lib.ListN.{length};
 ghost use Rattle.grammar.specs.Sound.{Tables};
+ghost use Rattle.tables.specs.Table.{cell};
+ghost use Rattle.tables.specs.Layout.{width, implicit, unused, kindName};
+ghost use Rattle.finder.specs.Finder.{LeadsTo, Grown};
 ghost use Rattle.reach.specs.Reach.{named, ruleSort, tokenSort};
-ghost use Rattle.usage.specs.Report.{Says, Expects, Expected, Implicit, Excused, excusesOf, Free, Counted, Wrote, Room, Written, ByBits, BitsLeft, MarkedBits, Reported};
+ghost use Rattle.usage.specs.Report.{Says, Expects, Expected, Implicit, Excused, excusesOf, ExpectedLed, ImplicitLed, Guides, Free, Counted, Wrote, Room, Written, ByBits, BitsLeft, MarkedBits, Reported};
 
 pub enum Listing {
     // How many rows the report has.
@@ -102,6 +105,135 @@ pub fn is_free(
     !is_excused(src, c, t4, t6, z.kind, a, b)
 }
 
+// As `is_expected`, by slots that lead to the rows of the kind. They may lead to a row of another kind: then the search tells.
+fn expects_by(src: &[u8], t6: &[u32], n: u32, kind: u32, a: u32, b: u32, fx: &[u16]) -> bool
+    requires { ⌜ ExpectedLed (now src) (now t6) n kind (now fx) ⌝ }
+    ensures { λ r. ⌜ Says r (Expected (now (src .entry)) (now (t6 .entry)) n kind a b) ⌝ }
+{
+    match finder::meet(
+        src,
+        t6,
+        tables::UNUSED_WIDTH,
+        tables::KIND_NAME,
+        n,
+        fx,
+        a,
+        b,
+    ) {
+        Found::RowAt(e) => {
+            if expects(src, t6, kind, a, b, e) {
+                return true;
+            }
+            is_expected(src, t6, n, kind, a, b)
+        }
+        Found::NoRow => false,
+    }
+}
+
+// As `is_implicit`, by slots that lead to the rows.
+fn implies_by(src: &[u8], t4: &[u32], n: u32, kind: u32, a: u32, b: u32, fx: &[u16]) -> bool
+    requires { ⌜ (kind ≡ 2 → ImplicitLed (now src) (now t4) n (now fx)) ⌝ }
+    ensures { λ r. ⌜ Says r (Implicit (now (src .entry)) (now (t4 .entry)) n kind a b) ⌝ }
+{
+    let token = kind == 2;
+    if !token {
+        return false;
+    }
+    match finder::meet(src, t4, tables::NAME_WIDTH, tables::NAME, n, fx, a, b) {
+        Found::RowAt(_) => true,
+        Found::NoRow => false,
+    }
+}
+
+// As `is_excused`, by slots that guide.
+fn excuses_by(
+    src: &[u8],
+    c: Counts,
+    t4: &[u32],
+    t6: &[u32],
+    kind: u32,
+    a: u32,
+    b: u32,
+    fx: &[u16],
+) -> bool
+    requires { ⌜ Guides (excusesOf (now src) c (now t4) (now t6)) kind (now fx) ⌝ }
+    ensures { λ r. ⌜ Says r (Excused (excusesOf (now (src .entry)) c (now (t4 .entry)) (now (t6 .entry))) kind a b) ⌝ }
+{
+    if expects_by(src, t6, sound::rows_of(c, tables::UNUSED), kind, a, b, fx) {
+        return true;
+    }
+    implies_by(src, t4, sound::rows_of(c, tables::IMPLICIT), kind, a, b, fx)
+}
+
+// As `is_free`, by slots that guide.
+fn is_listed(
+    w: &[u32],
+    src: &[u8],
+    c: Counts,
+    names: &[u32],
+    z: Sort,
+    t4: &[u32],
+    t6: &[u32],
+    row: u32,
+    fx: &[u16],
+) -> bool
+    requires { ⌜ (z .base < 2 ^ 40) × Guides (excusesOf (now src) c (now t4) (now t6)) (z .kind) (now fx) ⌝ }
+    ensures { λ r. ⌜ Says r (Free (now (w .entry)) (excusesOf (now (src .entry)) c (now (t4 .entry)) (now (t6 .entry))) (named (now (names .entry)) z) row) ⌝ }
+{
+    if bits::test_bit(w, z.base + row as usize) {
+        return false;
+    }
+    let a = tables::cell(names, z.wide, row, 0);
+    let b = tables::cell(names, z.wide, row, 1);
+    !excuses_by(src, c, t4, t6, z.kind, a, b, fx)
+}
+
+// Enters row `r` of table 6 if it has the kind.
+fn guide_row(src: &[u8], t6: &[u32], kind: u32, r: u32, fx: &mut [u16])
+    ensures grown { λ u. ⌜ Grown (now (fx .entry)) (now (fx .exit)) ⌝ }
+    ensures led { λ u. ⌜ (cell (width unused) (now (t6 .entry)) r 0 ≡ kind → LeadsTo (now (src .entry)) (width unused) kindName (now (t6 .entry)) (now (fx .exit)) r) ⌝ }
+{
+    if tables::cell(t6, tables::UNUSED_WIDTH, r, 0) == kind {
+        finder::enter(src, t6, tables::UNUSED_WIDTH, tables::KIND_NAME, r, fx);
+        return;
+    }
+}
+
+// Enters the rows of the kind, of the `n` of table 6.
+fn guide_expected(src: &[u8], t6: &[u32], n: u32, kind: u32, fx: &mut [u16])
+    ensures grown { λ u. ⌜ Grown (now (fx .entry)) (now (fx .exit)) ⌝ }
+    ensures led { λ u. ⌜ ExpectedLed (now (src .entry)) (now (t6 .entry)) n kind (now (fx .exit)) ⌝ }
+{
+    let mut r = 0;
+    while r < n {
+        guide_row(src, t6, kind, r, fx);
+        r += 1;
+    }
+}
+
+// Enters the `n` rows of table 4.
+fn guide_implicit(src: &[u8], t4: &[u32], n: u32, fx: &mut [u16])
+    ensures grown { λ u. ⌜ Grown (now (fx .entry)) (now (fx .exit)) ⌝ }
+    ensures led { λ u. ⌜ ImplicitLed (now (src .entry)) (now (t4 .entry)) n (now (fx .exit)) ⌝ }
+{
+    let mut r = 0;
+    while r < n {
+        finder::enter(src, t4, tables::NAME_WIDTH, tables::NAME, r, fx);
+        r += 1;
+    }
+}
+
+// Enters what may excuse a name of the kind. Table 4 excuses tokens alone.
+fn guide(src: &[u8], c: Counts, t4: &[u32], t6: &[u32], kind: u32, fx: &mut [u16])
+    ensures { λ u. ⌜ Guides (excusesOf (now (src .entry)) c (now (t4 .entry)) (now (t6 .entry))) kind (now (fx .exit)) ⌝ }
+{
+    guide_expected(src, t6, sound::rows_of(c, tables::UNUSED), kind, fx);
+    if kind == 2 {
+        guide_implicit(src, t4, sound::rows_of(c, tables::IMPLICIT), fx);
+        return;
+    }
+}
+
 // How many of the rows are to be listed.
 fn count_free(
     w: &[u32],
@@ -111,14 +243,15 @@ fn count_free(
     z: Sort,
     t4: &[u32],
     t6: &[u32],
+    fx: &[u16],
 ) -> usize
-    requires { ⌜ z .base < 2 ^ 40 ⌝ }
+    requires { ⌜ (z .base < 2 ^ 40) × Guides (excusesOf (now src) c (now t4) (now t6)) (z .kind) (now fx) ⌝ }
     ensures { λ r. ⌜ Counted (Free (now (w .entry)) (excusesOf (now (src .entry)) c (now (t4 .entry)) (now (t6 .entry))) (named (now (names .entry)) z)) (z .count) r ⌝ }
 {
     let mut found = 0;
     let mut row = 0;
     while row < z.count {
-        if is_free(w, src, c, names, z, t4, t6, row) {
+        if is_listed(w, src, c, names, z, t4, t6, row, fx) {
             found += 1;
         }
         row += 1;
@@ -138,11 +271,12 @@ fn write_one(
     t4: &[u32],
     t6: &[u32],
     row: u32,
+    fx: &[u16],
 ) -> bool
-    requires { ⌜ (z .base < 2 ^ 40) × (Free (now w) (excusesOf (now src) c (now t4) (now t6)) (named (now names) z) row → at * 2 + 2 ≤ length (now out)) ⌝ }
+    requires { ⌜ (z .base < 2 ^ 40) × (Free (now w) (excusesOf (now src) c (now t4) (now t6)) (named (now names) z) row → at * 2 + 2 ≤ length (now out)) × Guides (excusesOf (now src) c (now t4) (now t6)) (z .kind) (now fx) ⌝ }
     ensures { λ r. ⌜ Wrote r (Free (now (w .entry)) (excusesOf (now (src .entry)) c (now (t4 .entry)) (now (t6 .entry))) (named (now (names .entry)) z) row) (z .kind) row at (now (out .entry)) (now (out .exit)) ⌝ }
 {
-    if !is_free(w, src, c, names, z, t4, t6, row) {
+    if !is_listed(w, src, c, names, z, t4, t6, row, fx) {
         return false;
     }
     let to = at * 2;
@@ -162,14 +296,15 @@ fn write_free(
     z: Sort,
     t4: &[u32],
     t6: &[u32],
+    fx: &[u16],
 ) -> usize
-    requires { ⌜ (z .base < 2 ^ 40) × Room (Free (now w) (excusesOf (now src) c (now t4) (now t6)) (named (now names) z)) (z .count) at (now out) ⌝ }
+    requires { ⌜ (z .base < 2 ^ 40) × Room (Free (now w) (excusesOf (now src) c (now t4) (now t6)) (named (now names) z)) (z .count) at (now out) × Guides (excusesOf (now src) c (now t4) (now t6)) (z .kind) (now fx) ⌝ }
     ensures { λ r. ⌜ Written (Free (now (w .entry)) (excusesOf (now (src .entry)) c (now (t4 .entry)) (now (t6 .entry))) (named (now (names .entry)) z)) (z .kind) (z .count) at r (now (out .entry)) (now (out .exit)) ⌝ }
 {
     let mut next = at;
     let mut row = 0;
     while row < z.count {
-        if write_one(out, next, w, src, c, names, z, t4, t6, row) {
+        if write_one(out, next, w, src, c, names, z, t4, t6, row, fx) {
             next += 1;
         }
         row += 1;
@@ -178,6 +313,91 @@ fn write_free(
 }
 
 // The rows that the bits leave, rules first. The report is zero where it has no room.
+fn list_guided(
+    out: &mut [u32],
+    w: &[u32],
+    src: &[u8],
+    c: Counts,
+    t1: &[u32],
+    t4: &[u32],
+    t6: &[u32],
+    t7: &[u32],
+    fr: &[u16],
+    ft: &[u16],
+) -> Listing
+    requires { ⌜ Guides (excusesOf (now src) c (now t4) (now t6)) 1 (now fr) × Guides (excusesOf (now src) c (now t4) (now t6)) 2 (now ft) ⌝ }
+    ensures { λ r. ⌜ ByBits (now (w .entry)) (excusesOf (now (src .entry)) c (now (t4 .entry)) (now (t6 .entry))) (named (now (t7 .entry)) (ruleSort c)) (named (now (t1 .entry)) (tokenSort c)) r (now (out .entry)) (now (out .exit)) ⌝ }
+{
+    tables::zero(out);
+    let rules = reach::rule_sort(c);
+    let tokens = reach::token_sort(c);
+    let first = count_free(w, src, c, t7, rules, t4, t6, fr);
+    let second = count_free(w, src, c, t1, tokens, t4, t6, ft);
+    if out.len() / 2 < first + second {
+        return Listing::NoRoom;
+    }
+    let at = write_free(out, 0, w, src, c, t7, rules, t4, t6, fr);
+    let all = write_free(out, at, w, src, c, t1, tokens, t4, t6, ft);
+    Listing::Unused(all)
+}
+
+// The slots are filled first: those that guide rules, and those that guide tokens.
+fn list_by(
+    out: &mut [u32],
+    w: &[u32],
+    src: &[u8],
+    c: Counts,
+    t1: &[u32],
+    t4: &[u32],
+    t6: &[u32],
+    t7: &[u32],
+    fr: &mut [u16],
+    ft: &mut [u16],
+) -> Listing
+    ensures { λ r. ⌜ ByBits (now (w .entry)) (excusesOf (now (src .entry)) c (now (t4 .entry)) (now (t6 .entry))) (named (now (t7 .entry)) (ruleSort c)) (named (now (t1 .entry)) (tokenSort c)) r (now (out .entry)) (now (out .exit)) ⌝ }
+{
+    guide(src, c, t4, t6, 1, fr);
+    guide(src, c, t4, t6, 2, ft);
+    list_guided(out, w, src, c, t1, t4, t6, t7, fr, ft)
+}
+
+// With few slots, which are soon cleared.
+fn list_few(
+    out: &mut [u32],
+    w: &[u32],
+    src: &[u8],
+    c: Counts,
+    t1: &[u32],
+    t4: &[u32],
+    t6: &[u32],
+    t7: &[u32],
+) -> Listing
+    ensures { λ r. ⌜ ByBits (now (w .entry)) (excusesOf (now (src .entry)) c (now (t4 .entry)) (now (t6 .entry))) (named (now (t7 .entry)) (ruleSort c)) (named (now (t1 .entry)) (tokenSort c)) r (now (out .entry)) (now (out .exit)) ⌝ }
+{
+    let mut fr = [0u16; 2048];
+    let mut ft = [0u16; 2048];
+    list_by(out, w, src, c, t1, t4, t6, t7, &mut fr, &mut ft)
+}
+
+// With slots for every grammar that is read.
+fn list_many(
+    out: &mut [u32],
+    w: &[u32],
+    src: &[u8],
+    c: Counts,
+    t1: &[u32],
+    t4: &[u32],
+    t6: &[u32],
+    t7: &[u32],
+) -> Listing
+    ensures { λ r. ⌜ ByBits (now (w .entry)) (excusesOf (now (src .entry)) c (now (t4 .entry)) (now (t6 .entry))) (named (now (t7 .entry)) (ruleSort c)) (named (now (t1 .entry)) (tokenSort c)) r (now (out .entry)) (now (out .exit)) ⌝ }
+{
+    let mut fr = [0u16; 32768];
+    let mut ft = [0u16; 32768];
+    list_by(out, w, src, c, t1, t4, t6, t7, &mut fr, &mut ft)
+}
+
+// The rows that the bits leave; few declarations want few slots.
 fn list_unused(
     out: &mut [u32],
     w: &[u32],
@@ -190,17 +410,12 @@ fn list_unused(
 ) -> Listing
     ensures { λ r. ⌜ ByBits (now (w .entry)) (excusesOf (now (src .entry)) c (now (t4 .entry)) (now (t6 .entry))) (named (now (t7 .entry)) (ruleSort c)) (named (now (t1 .entry)) (tokenSort c)) r (now (out .entry)) (now (out .exit)) ⌝ }
 {
-    tables::zero(out);
-    let rules = reach::rule_sort(c);
-    let tokens = reach::token_sort(c);
-    let first = count_free(w, src, c, t7, rules, t4, t6);
-    let second = count_free(w, src, c, t1, tokens, t4, t6);
-    if out.len() / 2 < first + second {
-        return Listing::NoRoom;
+    let implicits = sound::rows_of(c, tables::IMPLICIT) as usize;
+    let expecteds = sound::rows_of(c, tables::UNUSED) as usize;
+    if implicits + expecteds <= 1024 {
+        return list_few(out, w, src, c, t1, t4, t6, t7);
     }
-    let at = write_free(out, 0, w, src, c, t7, rules, t4, t6);
-    let all = write_free(out, at, w, src, c, t1, tokens, t4, t6);
-    Listing::Unused(all)
+    list_many(out, w, src, c, t1, t4, t6, t7)
 }
 
 // The list behind a marking. Where the report has no room for it the work bits are zero too.

@@ -1,4 +1,5 @@
 pub mod Laws
+pub mod Led
 pub mod Noted
 pub mod Order
 pub mod Theorems

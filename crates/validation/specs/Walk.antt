@@ -6,8 +6,9 @@ use mathlib.Core.Bool.{Bool, true, false}
 use lib.Dec.{eqb, ltb, leb}
 use lib.ListN.{length, replicate}
 use Rattle.tables.specs.Table.{cell, put, zeroed}
-use Rattle.tables.specs.Layout.{tokens, rules, productions, symbols, epps, unused, width, faultWidth, kindName, knownRow, noRow}
+use Rattle.tables.specs.Layout.{tokens, precedences, rules, productions, symbols, epps, unused, width, faultWidth, kindName, knownRow, noRow}
 use Rattle.index.specs.Index.{Indexed}
+use Rattle.finder.specs.Finder.{Led}
 use Rattle.symbols.specs.Symbols.{lexicon, Knows}
 use Rattle.productions.specs.Cells.{productionAt}
 use Rattle.grammar.specs.declared.Counts.{Counts}
@@ -32,6 +33,10 @@ TokenNames src n t1 i1 = Indexed src (width tokens) 0 n t1 i1
 
 abbrev pub RuleNames : List ℕ → ℕ → List ℕ → List ℕ → Type 0
 RuleNames src n t7 i7 = Indexed src (width rules) 0 n t7 i7
+
+-- the working finder of n precedences, whose table has no index
+abbrev pub PrecedenceNames : List ℕ → ℕ → List ℕ → List ℕ → Type 0
+PrecedenceNames src n t2 fx = Led src (width precedences) 0 n t2 fx
 
 -- document 02, request Five, "The report, validation and the fault list each look a symbol up again": the symbols of the first n productions know their rows
 pub record SymbolsKnown (src t1 : List ℕ) (tokens : ℕ) (t7 : List ℕ) (rules : ℕ) (t8 t9 : List ℕ) (n : ℕ) : Type 0 where

@@ -6,14 +6,15 @@ use productions::Prec;
 use tables::Found;
 ghost use mathlib.Core.Path.{_≡_};
 ghost use mathlib.Core.List.{_++_};
-ghost use Prim.Native.Nat.{_+_};
+ghost use Prim.Native.Nat.{_+_, _≤_};
 ghost use Rattle.tables.specs.Layout.{tokens, precedences, implicit, epps, unused, rules, productions, width};
 ghost use Rattle.index.specs.Index.{Indexed};
+ghost use Rattle.finder.specs.Finder.{Led};
 ghost use Rattle.sound.specs.Test.{countAt};
 ghost use Rattle.grammar.specs.Sound.{Tables};
 ghost use Rattle.validation.specs.Faults.{faultCells, known, first, startFaults, precFaults, nameFaults, kindFaults, kindsFaults, productionFaults, ruleFaults, rulesFaults, eppFaults, eppsFaults, faults, validity};
 ghost use Rattle.links.specs.Links.{Linked};
-ghost use Rattle.validation.specs.Walk.{TokenNames, RuleNames, SymbolsKnown, Walkable, symbolFaults, symbolsFaults, failing, Walked, noted, AllFaults, faultListing};
+ghost use Rattle.validation.specs.Walk.{TokenNames, RuleNames, PrecedenceNames, SymbolsKnown, Walkable, symbolFaults, symbolsFaults, failing, Walked, noted, AllFaults, faultListing};
 
 // Rules and productions that links are kept for: those of a large dialect, and the most that 65,536 bytes can hold.
 const FEW_RULES: usize = 1024;
@@ -23,6 +24,16 @@ const FEW_PRODUCTIONS: usize = 4096;
 const MANY_RULES: usize = 16384;
 
 const MANY_PRODUCTIONS: usize = 65536;
+
+// The most productions that are linked: a link has 16 bits, and stands for none too.
+const MOST_LINKED: u32 = 65535;
+
+// Precedences that a small finder is taken for, its slots, and those of a finder for as many as a source can have.
+const FEW_PRECEDENCES: u32 = 512;
+
+const FEW_SLOTS: usize = 1024;
+
+const MANY_SLOTS: usize = 32768;
 
 // What a reading lacks, by the place of the name.
 pub enum Flaw {
@@ -86,6 +97,28 @@ pub fn is_indexed(src: &[u8], t: &[u32], w: u32, n: u32, ix: &[u32], a: u32, b: 
     }
 }
 
+// The same by a finder of the table.
+pub fn is_led(src: &[u8], t: &[u32], w: u32, n: u32, fx: &[u16], a: u32, b: u32) -> bool
+    requires { ⌜ Led (now src) w 0 n (now t) (now fx) ⌝ }
+    ensures { λ r. ⌜ r ≡ known (now (src .entry)) (now (t .entry)) w n a b ⌝ }
+{
+    match finder::meet(src, t, w, tables::NAME, n, fx, a, b) {
+        Found::RowAt(_) => true,
+        Found::NoRow => false,
+    }
+}
+
+// The finder leads to each of the `n` rows of table 2, whatever it held before.
+fn guide_precedences(src: &[u8], t2: &[u32], n: u32, fx: &mut [u16])
+    ensures { λ u. ⌜ PrecedenceNames (now (src .entry)) n (now (t2 .entry)) (now (fx .exit)) ⌝ }
+{
+    let mut r = 0;
+    while r < n {
+        finder::enter(src, t2, tables::PRECEDENCE_WIDTH, tables::NAME, r, fx);
+        r += 1;
+    }
+}
+
 pub fn start_fault(src: &[u8], start: Part, t7: &[u32], rules: u32, i7: &[u32]) -> Test
     requires { ⌜ RuleNames (now src) rules (now t7) (now i7) ⌝ }
     ensures { λ r. ⌜ failing r ≡ startFaults (now (src .entry)) start (now (t7 .entry)) rules ⌝ }
@@ -111,8 +144,9 @@ pub fn prec_fault(
     t2: &[u32],
     precedences: u32,
     i1: &[u32],
+    fx: &[u16],
 ) -> Test
-    requires { ⌜ TokenNames (now src) tokens (now t1) (now i1) ⌝ }
+    requires { ⌜ TokenNames (now src) tokens (now t1) (now i1) × PrecedenceNames (now src) precedences (now t2) (now fx) ⌝ }
     ensures { λ r. ⌜ failing r ≡ precFaults (now (src .entry)) p (now (t1 .entry)) tokens (now (t2 .entry)) precedences ⌝ }
 {
     match p {
@@ -121,7 +155,7 @@ pub fn prec_fault(
             if !is_indexed(src, t1, tables::TOKEN_WIDTH, tokens, i1, a, b) {
                 return Test::Failed(Flaw::UnknownPrecToken(a, b));
             }
-            if is_known(src, t2, tables::PRECEDENCE_WIDTH, precedences, a, b) {
+            if is_led(src, t2, tables::PRECEDENCE_WIDTH, precedences, fx, a, b) {
                 Test::Met
             } else {
                 Test::Failed(Flaw::NoPrecForToken(a, b))
@@ -336,13 +370,14 @@ pub fn note_production(
     i1: &[u32],
     at: usize,
     t14: &mut [u32],
+    fx: &[u16],
 ) -> Walk
-    requires { ⌜ TokenNames (now src) tokens (now t1) (now i1) × SymbolsKnown (now src) (now t1) tokens (now t7) rules (now t8) (now t9) (r + 1) ⌝ }
+    requires { ⌜ TokenNames (now src) tokens (now t1) (now i1) × SymbolsKnown (now src) (now t1) tokens (now t7) rules (now t8) (now t9) (r + 1) × PrecedenceNames (now src) precedences (now t2) (now fx) ⌝ }
     ensures { λ q. ⌜ _≡_ {A = Walked} (record { answer = q; cells = now (t14 .exit) }) (noted (productionFaults (now (src .entry)) (now (t1 .entry)) tokens (now (t2 .entry)) precedences (now (t7 .entry)) rules (now (t8 .entry)) (now (t9 .entry)) r) at (now (t14 .entry))) ⌝ }
 {
     let p = productions::load_production(t8, r);
     let q = p.prec;
-    let v = prec_fault(src, q, t1, tokens, t2, precedences, i1);
+    let v = prec_fault(src, q, t1, tokens, t2, precedences, i1, fx);
     match note(v, at, t14) {
         Walk::NextRow(n) => note_symbols(t9, p.first, p.last, n, t14),
         Walk::Unwritten(f) => Walk::Unwritten(f),
@@ -363,12 +398,13 @@ pub fn note_rule(
     n: u32,
     k: u32,
     i1: &[u32],
-    heads: &[u32],
-    nexts: &[u32],
+    heads: &[u16],
+    nexts: &[u16],
     at: usize,
     t14: &mut [u32],
+    fx: &[u16],
 ) -> Walk
-    requires { ⌜ TokenNames (now src) tokens (now t1) (now i1) × SymbolsKnown (now src) (now t1) tokens (now t7) rules (now t8) (now t9) n × Linked (now t8) 0 n (now heads) (now nexts) ⌝ }
+    requires { ⌜ TokenNames (now src) tokens (now t1) (now i1) × SymbolsKnown (now src) (now t1) tokens (now t7) rules (now t8) (now t9) n × Linked (now t8) 0 n (now heads) (now nexts) × PrecedenceNames (now src) precedences (now t2) (now fx) ⌝ }
     ensures { λ q. ⌜ _≡_ {A = Walked} (record { answer = q; cells = now (t14 .exit) }) (noted (ruleFaults (now (src .entry)) (now (t1 .entry)) tokens (now (t2 .entry)) precedences (now (t7 .entry)) rules (now (t8 .entry)) (now (t9 .entry)) n k) at (now (t14 .entry))) ⌝ }
 {
     let mut next = at;
@@ -388,6 +424,7 @@ pub fn note_rule(
             i1,
             next,
             t14,
+            fx,
         ) {
             Walk::NextRow(m) => {
                 next = m;
@@ -414,12 +451,13 @@ pub fn note_linked(
     t9: &[u32],
     n: u32,
     i1: &[u32],
-    heads: &[u32],
-    nexts: &[u32],
+    heads: &[u16],
+    nexts: &[u16],
     at: usize,
     t14: &mut [u32],
+    fx: &[u16],
 ) -> Walk
-    requires { ⌜ TokenNames (now src) tokens (now t1) (now i1) × SymbolsKnown (now src) (now t1) tokens (now t7) rules (now t8) (now t9) n × Linked (now t8) 0 n (now heads) (now nexts) ⌝ }
+    requires { ⌜ TokenNames (now src) tokens (now t1) (now i1) × SymbolsKnown (now src) (now t1) tokens (now t7) rules (now t8) (now t9) n × Linked (now t8) 0 n (now heads) (now nexts) × PrecedenceNames (now src) precedences (now t2) (now fx) ⌝ }
     ensures { λ q. ⌜ _≡_ {A = Walked} (record { answer = q; cells = now (t14 .exit) }) (noted (rulesFaults (now (src .entry)) (now (t1 .entry)) tokens (now (t2 .entry)) precedences (now (t7 .entry)) rules (now (t8 .entry)) (now (t9 .entry)) n) at (now (t14 .entry))) ⌝ }
 {
     let mut next = at;
@@ -442,6 +480,7 @@ pub fn note_linked(
             nexts,
             next,
             t14,
+            fx,
         ) {
             Walk::NextRow(m) => {
                 next = m;
@@ -455,7 +494,7 @@ pub fn note_linked(
     Walk::NextRow(next)
 }
 
-// The same with links for as many rules and productions as a large dialect has.
+// The same with links for as many rules and productions as a large dialect has, and a finder for its precedences.
 pub fn note_few(
     src: &[u8],
     t1: &[u32],
@@ -471,12 +510,14 @@ pub fn note_few(
     at: usize,
     t14: &mut [u32],
 ) -> Walk
-    requires { ⌜ TokenNames (now src) tokens (now t1) (now i1) × SymbolsKnown (now src) (now t1) tokens (now t7) rules (now t8) (now t9) n ⌝ }
+    requires { ⌜ TokenNames (now src) tokens (now t1) (now i1) × SymbolsKnown (now src) (now t1) tokens (now t7) rules (now t8) (now t9) n × (n ≤ 65535) ⌝ }
     ensures { λ q. ⌜ _≡_ {A = Walked} (record { answer = q; cells = now (t14 .exit) }) (noted (rulesFaults (now (src .entry)) (now (t1 .entry)) tokens (now (t2 .entry)) precedences (now (t7 .entry)) rules (now (t8 .entry)) (now (t9 .entry)) n) at (now (t14 .entry))) ⌝ }
 {
-    let mut heads = [0u32; FEW_RULES];
-    let mut nexts = [0u32; FEW_PRODUCTIONS];
+    let mut heads = [0u16; FEW_RULES];
+    let mut nexts = [0u16; FEW_PRODUCTIONS];
     links::link(t8, n, &mut heads, &mut nexts);
+    let mut fx = [0u16; FEW_SLOTS];
+    guide_precedences(src, t2, precedences, &mut fx);
     note_linked(
         src,
         t1,
@@ -493,6 +534,7 @@ pub fn note_few(
         &nexts,
         at,
         t14,
+        &fx,
     )
 }
 
@@ -512,12 +554,14 @@ pub fn note_many(
     at: usize,
     t14: &mut [u32],
 ) -> Walk
-    requires { ⌜ TokenNames (now src) tokens (now t1) (now i1) × SymbolsKnown (now src) (now t1) tokens (now t7) rules (now t8) (now t9) n ⌝ }
+    requires { ⌜ TokenNames (now src) tokens (now t1) (now i1) × SymbolsKnown (now src) (now t1) tokens (now t7) rules (now t8) (now t9) n × (n ≤ 65535) ⌝ }
     ensures { λ q. ⌜ _≡_ {A = Walked} (record { answer = q; cells = now (t14 .exit) }) (noted (rulesFaults (now (src .entry)) (now (t1 .entry)) tokens (now (t2 .entry)) precedences (now (t7 .entry)) rules (now (t8 .entry)) (now (t9 .entry)) n) at (now (t14 .entry))) ⌝ }
 {
-    let mut heads = [0u32; MANY_RULES];
-    let mut nexts = [0u32; MANY_PRODUCTIONS];
+    let mut heads = [0u16; MANY_RULES];
+    let mut nexts = [0u16; MANY_PRODUCTIONS];
     links::link(t8, n, &mut heads, &mut nexts);
+    let mut fx = [0u16; MANY_SLOTS];
+    guide_precedences(src, t2, precedences, &mut fx);
     note_linked(
         src,
         t1,
@@ -534,6 +578,47 @@ pub fn note_many(
         &nexts,
         at,
         t14,
+        &fx,
+    )
+}
+
+// And without links, where their cells are too narrow, nor a finder. No source that is read has so many productions.
+pub fn note_unlinked(
+    src: &[u8],
+    t1: &[u32],
+    tokens: u32,
+    t2: &[u32],
+    precedences: u32,
+    t7: &[u32],
+    rules: u32,
+    t8: &[u32],
+    t9: &[u32],
+    n: u32,
+    i1: &[u32],
+    at: usize,
+    t14: &mut [u32],
+) -> Walk
+    requires { ⌜ TokenNames (now src) tokens (now t1) (now i1) × SymbolsKnown (now src) (now t1) tokens (now t7) rules (now t8) (now t9) n ⌝ }
+    ensures { λ q. ⌜ _≡_ {A = Walked} (record { answer = q; cells = now (t14 .exit) }) (noted (rulesFaults (now (src .entry)) (now (t1 .entry)) tokens (now (t2 .entry)) precedences (now (t7 .entry)) rules (now (t8 .entry)) (now (t9 .entry)) n) at (now (t14 .entry))) ⌝ }
+{
+    let none = [0u16; 0];
+    note_linked(
+        src,
+        t1,
+        tokens,
+        t2,
+        precedences,
+        t7,
+        rules,
+        t8,
+        t9,
+        n,
+        i1,
+        &none,
+        &none,
+        at,
+        t14,
+        &none,
     )
 }
 
@@ -558,22 +643,41 @@ pub fn note_rules(
 {
     if (rules as usize) < FEW_RULES {
         if (n as usize) < FEW_PRODUCTIONS {
-            return note_few(
-                src,
-                t1,
-                tokens,
-                t2,
-                precedences,
-                t7,
-                rules,
-                t8,
-                t9,
-                n,
-                i1,
-                at,
-                t14,
-            );
+            if precedences <= FEW_PRECEDENCES {
+                return note_few(
+                    src,
+                    t1,
+                    tokens,
+                    t2,
+                    precedences,
+                    t7,
+                    rules,
+                    t8,
+                    t9,
+                    n,
+                    i1,
+                    at,
+                    t14,
+                );
+            }
         }
+    }
+    if MOST_LINKED < n {
+        return note_unlinked(
+            src,
+            t1,
+            tokens,
+            t2,
+            precedences,
+            t7,
+            rules,
+            t8,
+            t9,
+            n,
+            i1,
+            at,
+            t14,
+        );
     }
     note_many(
         src,

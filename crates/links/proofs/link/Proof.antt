@@ -23,7 +23,8 @@ loop-holds c =
 link-one-requires : tie.Need-link-one-requires Inv-loop μ-loop
 link-one-requires c κs =
     let l = c .before .before .before .loop in
-    (linked-at _ _ (l .r) _ _ _ (l .inv .3) (omega arith), omega arith)
+    let s = c .before .before .before .before .before .before .before .before .before .before .before in
+    (linked-at _ _ (l .r) _ _ _ (l .inv .3) (omega arith), omega arith, s .pre)
 
 returns : tie.Need-returns Inv-loop μ-loop
 returns c =
@@ -36,6 +37,7 @@ link-spec =
     (tie.spec
     Inv-loop
     μ-loop
+    (λ c. search needs)
     (λ c κs. search needs)
     loop-holds
     (λ c. search needs)

@@ -10,8 +10,8 @@ use Rattle.links.proofs.next_of.Tie as tie
 
 returns : tie.Need-returns
 returns c =
-    let s = c .before .before .before .before in
-    s .pre .0 _ (omega arith) (s .pre .1) (c .before .if1 .taken) ∙ ap (nextOfRule _ (s .args .r + 1) (s .args .n)) (rule-of _ _ _ (s .pre .2))
+    let s = c .before .before .before .before .before in
+    c .wide .ensures ∙ s .pre .0 _ (omega arith) (s .pre .1) (c .before .before .if1 .taken) ∙ ap (nextOfRule _ (s .args .r + 1) (s .args .n)) (rule-of _ _ _ (s .pre .2))
 
 pub next-of-spec : {M : Type 1} → statement M
-next-of-spec = tie.close (tie.spec (λ c. search needs) (λ c. search needs) returns (λ c. search needs) (λ c κs. search needs) (λ c. search needs))
+next-of-spec = tie.close (tie.spec (λ c. search needs) (λ c. search needs) (λ c κs. search needs) returns (λ c. search needs) (λ c κs. search needs) (λ c. search needs))

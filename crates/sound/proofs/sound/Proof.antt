@@ -54,7 +54,7 @@ sound-spec =
     (λ c. sound-long _ _ _ _ _ (c .if1 .taken))
     (λ c κs. search needs)
     index
-    (λ c κs. indexes-told _ _ _ _ _ _ _ (c .before .indexes-sound .ensures) (c .if2 .left))
+    (λ c κs. search needs)
     table
     asked
     known

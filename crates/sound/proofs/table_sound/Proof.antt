@@ -8,7 +8,7 @@ use Rattle.sound.proofs.table_sound.Statement.{statement}
 use Rattle.sound.proofs.table_sound.Tie as tie
 
 mul-end : tie.Need-mul-end
-mul-end c = omega (arith, product-fits (c .before .before .before .before .args .n) (c .width-of .result) (omega arith) (omega arith))
+mul-end c = omega (arith, product-fits (c .before .before .before .args .n) (c .width-of .result) (omega arith) (omega arith))
 
 short : tie.Need-returns
 short c = table-short _ _ _ _ _ _ (c .before .width-of .ensures) (omega arith) (c .if1 .taken)
@@ -50,6 +50,6 @@ table-sound-spec =
     dirty
     (λ c κs. search needs)
     row
-    (λ c κs. rw (c .before .before .before .before .before .before .width-of .ensures) (c .before .before .before .before .before .before .before .before .before .before .pre .holds (c .if4 .taken)))
+    (λ c κs. search needs)
     names
     none)

@@ -1,7 +1,7 @@
 -- `sound::tables_sound` meets its contract: the tables' tests in their order. Assumes nothing.
 use Prim.Native.Nat.{ℕ}
 use mathlib.Core.Path.{_≡_, _∙_}
-use mathlib.Core.Bool.{Bool, false≢true}
+use mathlib.Core.Bool.{Bool}
 use denote.Ref.{now}
 use borrow.Author.Needs.{needs}
 use Rattle.grammar.specs.Sound.{Tables}
@@ -12,7 +12,7 @@ use Rattle.sound.proofs.tables_sound.Tie as tie
 
 -- where the function begins, and its tables
 abbrev start : tie.After-rows-of → tie.Start
-start o = o .before .before .before .before .before .before .before .before .before .before .before .before .before .before
+start o = o .before .before .before .before .before .before .before .before .before .before .before .before
 
 abbrev tables : tie.After-rows-of → Tables
 tables o = record { t1 = now (start o .args .t1); t2 = now (start o .args .t2); t3 = now (start o .args .t3); t4 = now (start o .args .t4); t5 = now (start o .args .t5); t6 = now (start o .args .t6); t7 = now (start o .args .t7); t8 = now (start o .args .t8); t9 = now (start o .args .t9); t10 = now (start o .args .t10) }
@@ -150,31 +150,31 @@ tables-sound-spec =
     (tie.spec
     (λ c κs. search needs)
     (λ c κs. search needs)
-    (λ c κs. record { holds = λ h. rw (c .rows-of2 .ensures) (c .before .before .before .before .before .before .before .before .before .before .before .before .before .before .before .pre .0) })
+    (λ c κs. search needs)
     returns
     (λ c κs. search needs)
-    (λ c κs. record { holds = λ h. absurd (false≢true h) })
+    (λ c κs. search needs)
     returns-2
     (λ c κs. search needs)
-    (λ c κs. record { holds = λ h. absurd (false≢true h) })
+    (λ c κs. search needs)
     returns-3
     (λ c κs. search needs)
-    (λ c κs. record { holds = λ h. absurd (false≢true h) })
+    (λ c κs. search needs)
     returns-4
     (λ c κs. search needs)
-    (λ c κs. record { holds = λ h. absurd (false≢true h) })
+    (λ c κs. search needs)
     returns-5
     (λ c κs. search needs)
-    (λ c κs. record { holds = λ h. absurd (false≢true h) })
+    (λ c κs. search needs)
     returns-6
-    (λ c κs. record { holds = λ h. rw (c .before .before .before .before .before .before .before .before .before .before .before .before .before .before .before .before .before .before .rows-of .ensures) (c .before .before .before .before .before .before .before .before .before .before .before .before .before .before .before .before .before .before .before .before .before .before .before .before .before .before .before .before .before .before .before .before .pre .1) })
+    (λ c κs. search needs)
     returns-7
     (λ c κs. search needs)
-    (λ c κs. record { holds = λ h. absurd (false≢true h) })
+    (λ c κs. search needs)
     returns-8
     (λ c κs. search needs)
-    (λ c κs. record { holds = λ h. absurd (false≢true h) })
+    (λ c κs. search needs)
     returns-9
     (λ c κs. search needs)
-    (λ c κs. record { holds = λ h. absurd (false≢true h) })
+    (λ c κs. search needs)
     returns-10)

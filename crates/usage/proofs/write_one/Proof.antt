@@ -13,14 +13,14 @@ use Rattle.usage.proofs.write_one.Statement.{statement}
 use Rattle.usage.proofs.write_one.Tie as tie
 
 returns : tie.Need-returns
-returns c = (says-no (c .before .is-free .result) _ (not-true _ (c .if1 .taken)) (c .before .is-free .ensures), refl)
+returns c = (says-no (c .before .is-listed .result) _ (not-true _ (c .if1 .taken)) (c .before .is-listed .ensures), refl)
 
 -- where the function begins
 abbrev start : tie.Else1 → tie.Start
-start c = c .before .before .before .before .before .before .before .before
+start c = c .before .before .before .before .before .before .before .before .before
 
 free : (c : tie.Else1) → Free (now (start c .args .w)) (excusesOf (now (start c .args .src)) (start c .args .c) (now (start c .args .t4)) (now (start c .args .t6))) (named (now (start c .args .names)) (start c .args .z)) (start c .args .row)
-free c = says-yes (c .before .is-free .result) _ (not-false _ (c .if1 .left)) (c .before .is-free .ensures)
+free c = says-yes (c .before .is-listed .result) _ (not-false _ (c .if1 .left)) (c .before .is-listed .ensures)
 
 -- so there is room
 room : (c : tie.Else1) → start c .args .at * 2 + 2 ≤ length (now (start c .args .out))
@@ -33,7 +33,7 @@ pub write-one-spec : {M : Type 1} → statement M
 write-one-spec =
     tie.close
     (tie.spec
-    (λ c κs. search needs)
+    (λ c κs. (c .before .before .before .before .before .before .before .pre .0, c .before .before .before .before .before .before .before .pre .2))
     returns
     (λ c. omega (arith, room c))
     (λ c. omega (arith, room c))
