@@ -1,6 +1,7 @@
 //! Times the crate against the library, in one process: parse, `complete_and_validate` and `unused_symbols` against load and report.
 //! bench KIND:FILE.. prints, for each file, the best of several runs of each in microseconds, of parse and `complete_and_validate` against load and of all of it, the ratio, and for a file that follows its half the growth of both; tables are
-//! lent with a row more than the reading needs and the smallest indexes that go with them, and are cleared by `load` itself, which counts.
+//! lent with a row more than the reading needs and the smallest indexes that go with them, and are cleared by `load` itself, which counts. A second table has each operation by itself, and load once more with
+//! tables for any source of 65,536 bytes.
 
 mod header;
 mod span;
@@ -35,6 +36,14 @@ unsafe extern "C" {
         f: P, fn_: usize, g: P, gn: usize, h: P, hn: usize, i: P, in_: usize, j: P, jn: usize, k: P, kn: usize, l: P, ln: usize, answer: *mut u32);
     fn quiltrudder_report(src: *const u8, len: usize, reading: *const u32, a: P, an: usize, b: P, bn: usize, c: P, cn: usize, d: P, dn: usize, e: P, en: usize,
         f: P, fn_: usize, g: P, gn: usize, h: P, hn: usize, i: P, in_: usize, j: P, jn: usize, k: P, kn: usize, l: P, ln: usize, work: *mut u32, wn: usize, out: *mut u32, on: usize, answer: *mut u32);
+    fn quiltrudder_validate(src: *const u8, len: usize, reading: *const u32, a: P, an: usize, b: P, bn: usize, c: P, cn: usize, d: P, dn: usize, e: P, en: usize,
+        f: P, fn_: usize, g: P, gn: usize, h: P, hn: usize, i: P, in_: usize, j: P, jn: usize, k: P, kn: usize, l: P, ln: usize, answer: *mut u32);
+    fn quiltrudder_faults(src: *const u8, len: usize, reading: *const u32, a: P, an: usize, b: P, bn: usize, c: P, cn: usize, d: P, dn: usize, e: P, en: usize,
+        f: P, fn_: usize, g: P, gn: usize, h: P, hn: usize, i: P, in_: usize, j: P, jn: usize, k: P, kn: usize, l: P, ln: usize, out: *mut u32, on: usize, answer: *mut u32);
+    fn quiltrudder_mark(src: *const u8, len: usize, reading: *const u32, a: P, an: usize, b: P, bn: usize, c: P, cn: usize, d: P, dn: usize, e: P, en: usize,
+        f: P, fn_: usize, g: P, gn: usize, h: P, hn: usize, i: P, in_: usize, j: P, jn: usize, k: P, kn: usize, l: P, ln: usize, work: *mut u32, wn: usize, answer: *mut u32);
+    fn quiltrudder_prune(src: *const u8, len: usize, reading: *mut u32, a: P, an: usize, b: P, bn: usize, c: P, cn: usize, d: P, dn: usize, e: P, en: usize,
+        f: P, fn_: usize, g: P, gn: usize, h: P, hn: usize, i: P, in_: usize, j: P, jn: usize, k: P, kn: usize, l: P, ln: usize, work: *mut u32, wn: usize, answer: *mut u32);
 }
 
 fn load(kind: u32, src: &[u8], t: &mut Lent) -> u32 {
@@ -52,6 +61,26 @@ fn ours(kind: u32, src: &[u8], t: &mut Lent, work: &mut [u32], out: &mut [u32]) 
         }
     }
     (o[0], r[0], r[4])
+}
+
+// each operation by itself on the tables as `load` leaves them, in microseconds: load, validate, faults, mark, report, prune, and load into tables for any source
+fn single(kind: u32, src: &[u8], t: &mut Lent, work: &mut [u32], out: &mut [u32]) -> [f64; 7] {
+    let (mut o, mut r) = ([0u32; 40], [0u32; 40]);
+    let (s, n) = (src.as_ptr(), src.len());
+    let mut times = [0.0; 7];
+    unsafe {
+        times[0] = best(|| lent!(quiltrudder_load t (s, n, kind) (o.as_mut_ptr())));
+        times[1] = best(|| lent!(quiltrudder_validate t (s, n, o.as_ptr()) (r.as_mut_ptr())));
+        times[2] = best(|| lent!(quiltrudder_faults t (s, n, o.as_ptr()) (out.as_mut_ptr(), out.len(), r.as_mut_ptr())));
+        times[3] = best(|| lent!(quiltrudder_mark t (s, n, o.as_ptr()) (work.as_mut_ptr(), work.len(), r.as_mut_ptr())));
+        times[4] = best(|| lent!(quiltrudder_report t (s, n, o.as_ptr()) (work.as_mut_ptr(), work.len(), out.as_mut_ptr(), out.len(), r.as_mut_ptr())));
+        // pruning changes the tables, so each run begins with a load, whose time is taken off
+        times[5] = best_behind(|| lent!(quiltrudder_load t (s, n, kind) (o.as_mut_ptr())), || lent!(quiltrudder_prune t (s, n, o.as_mut_ptr()) (work.as_mut_ptr(), work.len(), r.as_mut_ptr())));
+        let mut wide: Lent = std::array::from_fn(|k| vec![0u32; if k < 10 { WIDTH[k] * 65538 } else { 262144 }]);
+        let w = &mut wide;
+        times[6] = best(|| lent!(quiltrudder_load w (s, n, kind) (o.as_mut_ptr())));
+    }
+    times
 }
 
 fn which(kind: u32) -> YaccKind {
@@ -81,11 +110,17 @@ fn crates(kind: u32, src: &str) -> (bool, bool, usize) {
     (read, valid, unused)
 }
 
-fn best(mut f: impl FnMut()) -> f64 {
+fn best(f: impl FnMut()) -> f64 {
+    best_behind(|| {}, f)
+}
+
+// the best of several runs of `f`, each behind one of `first`, which does not count
+fn best_behind(mut first: impl FnMut(), mut f: impl FnMut()) -> f64 {
     let mut least = f64::MAX;
     let begun = Instant::now();
     let mut runs = 0;
     while runs < 3 || (runs < 200 && begun.elapsed().as_millis() < 300) {
+        first();
         let t = Instant::now();
         f();
         least = least.min(t.elapsed().as_secs_f64() * 1e6);
@@ -98,6 +133,7 @@ fn main() {
     println!("| Source | Bytes | parse and validate, µs | load, µs | load / crate | growth from half, crate | load | crate, µs | library, µs | library / crate | growth from half, crate | library |");
     println!("|---|---|---|---|---|---|---|---|---|---|---|---|");
     let mut half = (String::new(), [0.0; 4]);
+    let mut singles = Vec::new();
     for word in std::env::args().skip(1) {
         let (kind, file) = word.split_once(':').expect("KIND:FILE");
         let kind: u32 = kind.parse().expect("a kind");
@@ -137,6 +173,12 @@ fn main() {
         };
         println!("| {name}{} | {} | {} | {} |", if agree { "" } else { " (ANSWERS DIFFER)" }, src.len(), pair(0), pair(2));
         half = (name.to_string(), times);
+        singles.push((name.to_string(), single(kind, src.as_bytes(), &mut t, &mut work, &mut out)));
+    }
+    println!("\n| Source | load, µs | validate | faults | mark | report | prune | load into tables for any source |");
+    println!("|---|---|---|---|---|---|---|---|");
+    for (name, times) in singles {
+        println!("| {name} | {} |", times.iter().map(|t| format!("{t:.0}")).collect::<Vec<_>>().join(" | "));
     }
     println!("\nTables are lent as the last call left them, with a row more than the reading needs; load clears them itself, and that counts.");
 }
