@@ -74,8 +74,9 @@ fn single(kind: u32, src: &[u8], t: &mut Lent, work: &mut [u32], out: &mut [u32]
         times[2] = best(|| lent!(quiltrudder_faults t (s, n, o.as_ptr()) (out.as_mut_ptr(), out.len(), r.as_mut_ptr())));
         times[3] = best(|| lent!(quiltrudder_mark t (s, n, o.as_ptr()) (work.as_mut_ptr(), work.len(), r.as_mut_ptr())));
         times[4] = best(|| lent!(quiltrudder_report t (s, n, o.as_ptr()) (work.as_mut_ptr(), work.len(), out.as_mut_ptr(), out.len(), r.as_mut_ptr())));
-        // pruning changes the tables, so each run begins with a load, whose time is taken off
-        times[5] = best_behind(|| lent!(quiltrudder_load t (s, n, kind) (o.as_mut_ptr())), || lent!(quiltrudder_prune t (s, n, o.as_mut_ptr()) (work.as_mut_ptr(), work.len(), r.as_mut_ptr())));
+        // pruning changes the tables, so each run begins with a load, which does not count
+        let (given, p) = (&*t, o.as_mut_ptr());
+        times[5] = best_behind(|| lent!(quiltrudder_load given (s, n, kind) (p)), || lent!(quiltrudder_prune given (s, n, p) (work.as_mut_ptr(), work.len(), r.as_mut_ptr())));
         let mut wide: Lent = std::array::from_fn(|k| vec![0u32; if k < 10 { WIDTH[k] * 65538 } else { 262144 }]);
         let w = &mut wide;
         times[6] = best(|| lent!(quiltrudder_load w (s, n, kind) (o.as_mut_ptr())));
