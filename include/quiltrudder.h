@@ -5,8 +5,8 @@
  * function writes overlaps any other that it is lent. That is all a caller owes: every function takes any bytes, numbers and lengths, and ends. It
  * keeps nothing, allocates nothing, and touches nothing but what it is lent and the stack, of which it takes less than half a megabyte.
  *
- * Tables and indexes may be larger than a reading needs, and that costs: load clears all that it is lent, and every function that is lent tables looks whether the cells behind their rows are zero, so time is linear in what is lent, too. A
- * source of n bytes has at most n rows in table 8 and n / 2 + 1 in each other one; most grammars have a tenth of that. After a 42 the number of the table is in the answer: lend that one twice as much and load again.
+ * Tables and indexes may be larger than a reading needs, and that costs: load clears all that it is lent, and every function that is lent tables looks whether the cells behind their rows are zero, so time is linear in what is lent, too. By
+ * count, which no contract says, a source of n bytes has at most n rows in table 8 and n / 2 + 1 in each other one; most grammars have a tenth of that. After a 42 the number of the table is in the answer: lend that one twice as much and load again.
  *
  * Places are byte offsets into the source, half open: from, to. Every answer ends with line and column of its place's start, both from 1; a column
  * counts bytes. CR LF ends one line, and so does a CR or an LF by itself; a place on the LF of a pair is still on the earlier line. */
