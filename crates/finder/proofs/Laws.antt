@@ -21,7 +21,9 @@ use Rattle.tables.proofs.Rows.{row-cell, row-set, row-else, cell-new, cell-old}
 use Rattle.tables.specs.declared.Found.{Found}
 use Rattle.tables.specs.declared.Found.the-variants.{RowAt, NoRow}
 use Rattle.index.specs.Index.{nextSlot}
-use Rattle.finder.specs.Finder.{stirred, stirFrom, numberOf, seatOf, lastMark, markOf, Leads, out, here, on, LeadsTo, LedOf, Led, Apart, Held, Met, Grown}
+use Rattle.finder.specs.Finder.{stirred, stirFrom, numberOf, seatOf, lastMark, markOf, Leads, out, here, on, LeadsTo, LedOf, Led, Apart, Held, Met, Tells, Grown}
+use Rattle.finder.specs.declared.Sought.{Sought}
+use Rattle.finder.specs.declared.Sought.the-variants.{Seated, Unseated}
 
 -- a name's bytes
 module _ (src : List ℕ) (a b : ℕ) (p : Bool) (e : p ≡ lies src a b) where
@@ -291,3 +293,45 @@ module _ (src : List ℕ) (n : ℕ) (t ix : List ℕ) (H : Held src 3 0 n t ix) 
 
     pub token-full : q ≡ false → Held src 3 0 n cells ix
     token-full = held-full src 3 0 n t ix H (a ∷ b ∷ d ∷ []) refl q cells o
+
+-- a row that is met is led to
+module _ (asked : ℕ → Bool) (src : List ℕ) (w k n : ℕ) (t ix : List ℕ) (a b x f p : ℕ) (some : 0 < f) (e : x ≡ numberOf src a b) (B : (v : ℕ) → Behind ix v x f p) where
+  pub tells-row : (r : ℕ) (has : Bool) → r ≡ getD ix p 0 - 1 → r < 65535 → (getD ix p 0 ≡ 0 → ⊥) → (getD ix p 0 ≡ 65535 → ⊥) → has ≡ (ltb r n && hasName src w k t a b r) → has ≡ true → Tells asked src w k n t ix a b (Seated r)
+  unfolding hasName
+  tells-row r has d l z y h g =
+      let m = met-row asked src w k n t a b r has h g in
+      let u : numberOf src (cell w t r k) (cell w t r (k + 1)) ≡ x = number-same src _ _ a b (m .1) ∙ sym e in
+      let v : getD ix p 0 ≡ markOf r = (let i : getD ix p 0 ≡ r + 1 = omega arith in i) ∙ mark-low r (omega arith) in
+      let o : f ≡ suc (f - 1) = omega arith in
+      (m .0, m .1, rw u (B (markOf r) ix (grown-none ix) (rw o (here v))))
+
+-- what the slots tell is met
+pub tells-met : (asked : ℕ → Bool) (src : List ℕ) (w k n : ℕ) (t ix : List ℕ) (a b : ℕ) (s : Sought) → Tells asked src w k n t ix a b s → (r : ℕ) → s ≡ Seated r → Met asked src w k n t a b (RowAt r)
+tells-met asked src w k n t ix a b s x r e = let y = rw e at x in (y .0, y .1)
+
+pub tells-none : (asked : ℕ → Bool) (src : List ℕ) (w k n : ℕ) (t ix : List ℕ) (a b : ℕ) (s : Sought) → Tells asked src w k n t ix a b s → s ≡ Unseated → Met asked src w k n t a b NoRow
+tells-none asked src w k n t ix a b s x e = rw e at x
+
+-- rows entered one by one
+module _ (asked : ℕ → Bool) (src : List ℕ) (w k : ℕ) (t : List ℕ) where
+  pub led-grown : (n : ℕ) (ix jx : List ℕ) → LedOf asked src w k n t ix → Grown ix jx → LedOf asked src w k n t jx
+  led-grown n ix jx L G r l y = rw (G .size) (leads-grown ix jx (markOf r) (mark-some r) G (length ix) _ (L r l y))
+
+  pub led-more : (n : ℕ) (ix jx : List ℕ) → LedOf asked src w k n t ix → Grown ix jx → (asked n ≡ true → LeadsTo src w k t jx n) → LedOf asked src w k (n + 1) t jx
+  led-more n ix jx L G N r l y =
+      elim (ℕ-discrete r n) [ yes e ↦ rw e (N (rw e at y)) | no e ↦ led-grown n ix jx L G r (omega arith) y ]
+
+module _ (src : List ℕ) (w k : ℕ) (t ix : List ℕ) where
+  pub led-on : (n : ℕ) → Led src w k n t ix → (jx : List ℕ) → Grown ix jx → LeadsTo src w k t jx n → Led src w k (n + 1) t jx
+  led-on n L jx G new r l = led-more (λ (q : ℕ). true) src w k t n ix jx (λ q i y. L q i) G (λ y. new) r l refl
+
+  -- other rows were entered since
+  pub led-since : (n : ℕ) → Led src w k n t ix → (jx : List ℕ) → Grown ix jx → Led src w k n t jx
+  led-since n L jx G r l = led-grown (λ (q : ℕ). true) src w k t n ix jx (λ q i y. L q i) G r l refl
+
+  pub led-all : (n m : ℕ) → Led src w k n t ix → m ≡ n → Led src w k m t ix
+  led-all n m L e = rw e L
+
+  -- where there are no slots every name leads to the search
+  pub led-empty : (n : ℕ) → length ix ≡ 0 → Led src w k n t ix
+  led-empty n e r l = led-nowhere ix (markOf r) _ e

@@ -10,6 +10,8 @@ use Rattle.tables.specs.Table.{cell, lies, hasName, findName}
 use Rattle.tables.specs.declared.Found.{Found}
 use Rattle.tables.specs.declared.Found.the-variants.{RowAt, NoRow}
 use Rattle.index.specs.Index.{nextSlot}
+use Rattle.finder.specs.declared.Sought.{Sought}
+use Rattle.finder.specs.declared.Sought.the-variants.{Seated, Unseated, Untold}
 
 -- a number of the bytes of a name, one byte more at a time
 abbrev pub stirred : ℕ → ℕ → ℕ
@@ -64,6 +66,12 @@ pub record Held (src : List ℕ) (w k n : ℕ) (t ix : List ℕ) : Type 0 where
 abbrev pub Met : (ℕ → Bool) → List ℕ → ℕ → ℕ → ℕ → List ℕ → ℕ → ℕ → Found → Type 0
 Met asked src w k n t a b (RowAt r) = (r < n) × (hasName src w k t a b r ≡ true)
 Met asked src w k n t a b NoRow = (q : ℕ) → q < n → asked q ≡ true → hasName src w k t a b q ≡ false
+
+-- what the slots tell of a name: a row that has it and to which they lead, or that they lead to no such row of those that are asked for
+abbrev pub Tells : (ℕ → Bool) → List ℕ → ℕ → ℕ → ℕ → List ℕ → List ℕ → ℕ → ℕ → Sought → Type 0
+Tells asked src w k n t ix a b (Seated r) = (r < n) × (hasName src w k t a b r ≡ true) × LeadsTo src w k t ix r
+Tells asked src w k n t ix a b Unseated = (q : ℕ) → q < n → asked q ≡ true → hasName src w k t a b q ≡ false
+Tells asked src w k n t ix a b Untold = Unit {0}
 
 -- slots were filled, and none was changed
 pub record Grown (ix jx : List ℕ) : Type 0 where

@@ -9,7 +9,17 @@ ghost use mathlib.Core.Bool.{Bool, _&&_};
 ghost use lib.Dec.{ltb};
 ghost use Rattle.tables.specs.Table.{hasName, findName, Inserted, enterToken};
 ghost use Rattle.index.specs.Index.{rowsNow};
-ghost use Rattle.finder.specs.Finder.{stirred, numberOf, seatOf, markOf, LeadsTo, LedOf, Held, Met, Grown};
+ghost use Rattle.finder.specs.Finder.{stirred, numberOf, seatOf, markOf, LeadsTo, LedOf, Led, Held, Met, Tells, Grown};
+
+// What the slots tell of a name.
+pub enum Sought {
+    // A row that has it.
+    Seated(u32),
+    // They lead to no such row.
+    Unseated,
+    // Nothing: all are taken, or the last mark stands among them.
+    Untold,
+}
 
 // The mark of every row from 65534 on.
 pub const LAST_MARK: u16 = 65535;
@@ -55,7 +65,8 @@ fn mark_of(r: u32) -> u16
 // The row that a mark other than the last stands for.
 fn row_of(v: u16) -> u32
     requires { ⌜ 0 < v ⌝ }
-    ensures { λ r. ⌜ r ≡ v - 1 ⌝ }
+    ensures is { λ r. ⌜ r ≡ v - 1 ⌝ }
+    ensures low { λ r. ⌜ r < 65535 ⌝ }
 {
     v as u32 - 1
 }
@@ -73,14 +84,13 @@ fn row_has(src: &[u8], t: &[u32], w: u32, k: u8, n: u32, r: u32, a: u32, b: u32)
     tables::same_part(src, c, d, a, b)
 }
 
-// A row that has the name, by the slots from the name's seat on; by the search where the slots do not tell. Whatever rows the slots lead to: none of those is
-// missed.
-pub fn meet(src: &[u8], t: &[u32], w: u32, k: u8, n: u32, ix: &[u16], a: u32, b: u32) -> Found
-    ensures { λ r. ⌜ ((asked : ℕ → Bool) → LedOf asked (now (src .entry)) w k n (now (t .entry)) (now (ix .entry)) → Met asked (now (src .entry)) w k n (now (t .entry)) a b r) ⌝ }
+// What the slots from the name's seat on tell of it. Whatever rows the slots lead to: none of those is missed.
+pub fn seek(src: &[u8], t: &[u32], w: u32, k: u8, n: u32, ix: &[u16], a: u32, b: u32) -> Sought
+    ensures { λ r. ⌜ ((asked : ℕ → Bool) → LedOf asked (now (src .entry)) w k n (now (t .entry)) (now (ix .entry)) → Tells asked (now (src .entry)) w k n (now (t .entry)) (now (ix .entry)) a b r) ⌝ }
 {
     let m = ix.len();
     if m == 0 {
-        return tables::find(src, t, w, k, n, a, b);
+        return Sought::Untold;
     }
     let x = number_of(src, a, b);
     let mut p = seat(m, x);
@@ -88,19 +98,30 @@ pub fn meet(src: &[u8], t: &[u32], w: u32, k: u8, n: u32, ix: &[u16], a: u32, b:
     while 0 < left {
         let v = ix[p];
         if v == 0 {
-            return Found::NoRow;
+            return Sought::Unseated;
         }
         if v == LAST_MARK {
-            return tables::find(src, t, w, k, n, a, b);
+            return Sought::Untold;
         }
         let r = row_of(v);
         if row_has(src, t, w, k, n, r, a, b) {
-            return Found::RowAt(r);
+            return Sought::Seated(r);
         }
         p = index::next_slot(m, p);
         left -= 1;
     }
-    tables::find(src, t, w, k, n, a, b)
+    Sought::Untold
+}
+
+// A row that has the name; by the search where the slots do not tell.
+pub fn meet(src: &[u8], t: &[u32], w: u32, k: u8, n: u32, ix: &[u16], a: u32, b: u32) -> Found
+    ensures { λ r. ⌜ ((asked : ℕ → Bool) → LedOf asked (now (src .entry)) w k n (now (t .entry)) (now (ix .entry)) → Met asked (now (src .entry)) w k n (now (t .entry)) a b r) ⌝ }
+{
+    match seek(src, t, w, k, n, ix, a, b) {
+        Sought::Seated(r) => Found::RowAt(r),
+        Sought::Unseated => Found::NoRow,
+        Sought::Untold => tables::find(src, t, w, k, n, a, b),
+    }
 }
 
 // The row that has the name, where names are pairwise different.
@@ -134,6 +155,18 @@ pub fn enter(src: &[u8], t: &[u32], w: u32, k: u8, r: u32, ix: &mut [u16])
         }
         p = index::next_slot(m, p);
         left -= 1;
+    }
+}
+
+// All of `n` rows, in order.
+pub fn enter_rows(src: &[u8], t: &[u32], w: u32, k: u8, n: u32, ix: &mut [u16])
+    ensures grown { λ u. ⌜ Grown (now (ix .entry)) (now (ix .exit)) ⌝ }
+    ensures led { λ u. ⌜ Led (now (src .entry)) w k n (now (t .entry)) (now (ix .exit)) ⌝ }
+{
+    let mut r = 0;
+    while r < n {
+        enter(src, t, w, k, r, ix);
+        r += 1;
     }
 }
 

@@ -12,7 +12,7 @@ use Rattle.grammar.specs.declared.Counts.{Counts}
 use Rattle.grammar.specs.declared.Singles.{Singles}
 use Rattle.grammar.specs.Sound.{Tables, Indexes}
 use Rattle.sound.specs.Test.{countAt}
-use Rattle.finder.specs.Finder.{LedOf}
+use Rattle.finder.specs.Finder.{LeadsTo, LedOf}
 use Rattle.validation.specs.declared.Flaw.{Flaw}
 use Rattle.validation.specs.declared.Validity.{Validity}
 use Rattle.validation.specs.declared.Validity.the-variants.{Valid, UnsoundTables, Invalid}
@@ -175,8 +175,16 @@ MarkedBits src c g T X m ws₀ ws = MarkTold (validity src c g T X) (grammarOf s
 -- ---- what the steps promise
 
 -- slots lead to the rows of the kind in table 6, and to those of table 4
+-- a row of the kind, of the first n, that has every name that row r has, and to which the slots lead
+pub record StandIn (src t : List ℕ) (n kd r : ℕ) (fx : List ℕ) : Type 0 where
+  pub row : ℕ
+  pub there : row < n
+  pub kind : cell (width unused) t row 0 ≡ kd
+  pub same : (a b : ℕ) → hasName src (width unused) kindName t a b r ≡ true → hasName src (width unused) kindName t a b row ≡ true
+  pub leads : LeadsTo src (width unused) kindName t fx row
+
 abbrev pub ExpectedLed : List ℕ → List ℕ → ℕ → ℕ → List ℕ → Type 0
-ExpectedLed src t n kd fx = LedOf (λ (r : ℕ). eqb (cell (width unused) t r 0) kd) src (width unused) kindName n t fx
+ExpectedLed src t n kd fx = (r : ℕ) → r < n → cell (width unused) t r 0 ≡ kd → StandIn src t n kd r fx
 
 abbrev pub ImplicitLed : List ℕ → List ℕ → ℕ → List ℕ → Type 0
 ImplicitLed src t n fx = LedOf (λ (r : ℕ). true) src (width implicit) 0 n t fx

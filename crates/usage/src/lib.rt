@@ -1,4 +1,5 @@
 // The unused report: rules and tokens that no chain from the start rule reaches and no declaration excuses.
+use finder::Sought;
 use grammar::Counts;
 use grammar::Singles;
 use reach::Sort;
@@ -7,13 +8,14 @@ use validation::Flaw;
 use validation::Validity;
 ghost use mathlib.Core.Path.{_≡_};
 ghost use Prim.Native.Nat.{ℕ, _+_, _*_, _^_, _<_, _≤_};
+ghost use mathlib.Core.Bool.{true};
 ghost use lib.ListN.{length};
 ghost use Rattle.grammar.specs.Sound.{Tables};
 ghost use Rattle.tables.specs.Table.{cell};
 ghost use Rattle.tables.specs.Layout.{width, implicit, unused, kindName};
 ghost use Rattle.finder.specs.Finder.{LeadsTo, Grown};
 ghost use Rattle.reach.specs.Reach.{named, ruleSort, tokenSort};
-ghost use Rattle.usage.specs.Report.{Says, Expects, Expected, Implicit, Excused, excusesOf, ExpectedLed, ImplicitLed, Guides, Free, Counted, Wrote, Room, Written, ByBits, BitsLeft, MarkedBits, Reported};
+ghost use Rattle.usage.specs.Report.{Says, Expects, Expected, Implicit, Excused, excusesOf, ExpectedLed, ImplicitLed, Guides, Free, Counted, Wrote, Room, Written, ByBits, BitsLeft, MarkedBits, Reported, StandIn};
 
 pub enum Listing {
     // How many rows the report has.
@@ -188,15 +190,32 @@ fn is_listed(
     !excuses_by(src, c, t4, t6, z.kind, a, b, fx)
 }
 
-// Enters row `r` of table 6 if it has the kind.
+// Whether the slots lead to a row before row `r` that has its name and the kind. A name may stand in table 6 a thousand times, and one of its rows is enough.
+fn has_stand_in(src: &[u8], t6: &[u32], kind: u32, r: u32, fx: &[u16]) -> bool
+    ensures { λ q. ⌜ (q ≡ true → StandIn (now (src .entry)) (now (t6 .entry)) r kind r (now (fx .entry))) ⌝ }
+{
+    let w = tables::UNUSED_WIDTH;
+    let a = tables::cell(t6, w, r, 1);
+    let b = tables::cell(t6, w, r, 2);
+    match finder::seek(src, t6, w, tables::KIND_NAME, r, fx, a, b) {
+        Sought::Seated(q) => tables::cell(t6, w, q, 0) == kind,
+        Sought::Unseated => false,
+        Sought::Untold => false,
+    }
+}
+
+// Enters row `r` of table 6 if it has the kind, and none stands in for it.
 fn guide_row(src: &[u8], t6: &[u32], kind: u32, r: u32, fx: &mut [u16])
     ensures grown { λ u. ⌜ Grown (now (fx .entry)) (now (fx .exit)) ⌝ }
-    ensures led { λ u. ⌜ (cell (width unused) (now (t6 .entry)) r 0 ≡ kind → LeadsTo (now (src .entry)) (width unused) kindName (now (t6 .entry)) (now (fx .exit)) r) ⌝ }
+    ensures led { λ u. ⌜ (cell (width unused) (now (t6 .entry)) r 0 ≡ kind → StandIn (now (src .entry)) (now (t6 .entry)) (r + 1) kind r (now (fx .exit))) ⌝ }
 {
-    if tables::cell(t6, tables::UNUSED_WIDTH, r, 0) == kind {
-        finder::enter(src, t6, tables::UNUSED_WIDTH, tables::KIND_NAME, r, fx);
+    if tables::cell(t6, tables::UNUSED_WIDTH, r, 0) != kind {
         return;
     }
+    if has_stand_in(src, t6, kind, r, fx) {
+        return;
+    }
+    finder::enter(src, t6, tables::UNUSED_WIDTH, tables::KIND_NAME, r, fx);
 }
 
 // Enters the rows of the kind, of the `n` of table 6.

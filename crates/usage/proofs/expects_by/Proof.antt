@@ -1,9 +1,7 @@
 -- `usage::expects_by` meets its contract: a row that is met tells, or else the search; none is met where none of the kind has the name. Assumes nothing.
 use Prim.Native.Nat.{ℕ}
-use denote.Ref.{now}
-use lib.Dec.{eqb}
+use mathlib.Core.Bool.{false, false≢true}
 use borrow.Author.Needs.{needs}
-use Rattle.tables.specs.Table.{cell}
 use Rattle.usage.proofs.Picked.{says-yes}
 use Rattle.usage.proofs.Guided.{expected-met, expected-none}
 use Rattle.usage.proofs.expects_by.Statement.{statement}
@@ -11,15 +9,11 @@ use Rattle.usage.proofs.expects_by.Tie as tie
 
 returns : tie.Need-returns
 returns c =
-    let s = c .before .before .before .before .before .before .before .before .before in
-    let m = c .before .before .before .before .before .meet .ensures (λ (r : ℕ). eqb (cell 3 (now (s .args .t6)) r 0) (s .args .kind)) (s .pre) in
-    expected-met _ _ _ _ _ _ _ m _ (c .before .before .before .e .given .1) (says-yes _ _ (c .if1 .taken) (c .before .expects .ensures))
+    let m = c .before .before .before .before .before .meet .ensures (λ (q : ℕ). false) (λ r l y. absurd (false≢true y)) in
+    expected-met _ _ _ _ _ _ _ _ m (c .before .before .before .e .given .1) (says-yes _ _ (c .if1 .taken) (c .before .expects .ensures))
 
 returns-3 : tie.Need-returns-3
-returns-3 c =
-    let s = c .before .before .before .before .before .before in
-    let m = c .before .before .meet .ensures (λ (r : ℕ). eqb (cell 3 (now (s .args .t6)) r 0) (s .args .kind)) (s .pre) in
-    expected-none _ _ _ _ _ _ _ m (c .enum-told .given .1)
+returns-3 c = expected-none _ _ _ _ _ _ _ _ (c .before .before .meet .ensures) (c .before .before .before .before .before .before .pre) (c .enum-told .given .1)
 
 pub expects-by-spec : {M : Type 1} → statement M
 expects-by-spec =

@@ -1,16 +1,12 @@
 -- `usage::guide_expected` meets its contract: the rows passed so far are led to. Assumes nothing.
-use Prim.Native.Nat.{ℕ, _-_, _≤_}
+use Prim.Native.Nat.{_-_, _≤_}
 use mathlib.Core.Path.{_≡_}
 use native.Mathlib.Omega.{arith}
-use denote.Ref.{now}
-use lib.Dec.{eqb}
-use borrow.Author.Tests.{eqb-true}
 use borrow.Author.Needs.{needs}
-use Rattle.tables.specs.Table.{cell}
 use Rattle.finder.specs.Finder.{Grown}
 use Rattle.finder.proofs.Laws.{grown-none, grown-on}
 use Rattle.usage.specs.Report.{ExpectedLed}
-use Rattle.usage.proofs.Guided.{led-more}
+use Rattle.usage.proofs.Guided.{stand-ins-more}
 use Rattle.usage.proofs.guide_expected.Statement.{statement}
 use Rattle.usage.proofs.guide_expected.Tie as tie
 
@@ -26,9 +22,8 @@ loop-holds c = (omega arith, grown-none _, λ r l y. absurd (omega arith))
 loop-again : tie.Need-loop-again Inv-loop μ-loop
 loop-again c =
     let l = c .before .before .before .before .before .loop in
-    let a = c .before .before .before .before .before .before .before .before .before .args in
     let g = c .before .before .guide-row .ensures .0 in
-    (omega arith, grown-on _ _ _ (l .inv .1) g, led-more (λ (q : ℕ). eqb (cell 3 (now (a .t6)) q 0) (a .kind)) (now (a .src)) 3 1 (now (a .t6)) (l .r) (l .fx) _ (l .inv .2) g (λ y. c .before .before .guide-row .ensures .1 (eqb-true _ _ y)))
+    (omega arith, grown-on _ _ _ (l .inv .1) g, stand-ins-more _ _ _ _ _ _ (l .inv .2) g (c .before .before .guide-row .ensures .1))
 
 same-length : tie.Need-same-length Inv-loop μ-loop
 same-length c = c .before .loop .inv .1 .size
