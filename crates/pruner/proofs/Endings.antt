@@ -14,12 +14,15 @@ use Rattle.sound.specs.Test.{countAt}
 use Rattle.validation.specs.declared.Flaw.{Flaw}
 use Rattle.validation.specs.declared.Validity.the-variants.{Valid, UnsoundTables, Invalid}
 use Rattle.validation.specs.Faults.{validity}
+use Rattle.reach.specs.Reach.{named, tokenSort}
+use Rattle.reach.proofs.Fair.{fair-sound}
 use Rattle.pruning.specs.declared.Pruning.the-variants.{AllPruned, PruningUnsound, PruningInvalid, PruningNoWords}
 use Rattle.pruning.specs.Stays.{StayWork}
 use Rattle.pruning.specs.Pruned.{Lent, Prunings}
 use Rattle.pruning.specs.Again.{grammarIn, excusesIn}
 use Rattle.pruning.proofs.Kept.{sound, ready, resolved}
 use Rattle.staying.specs.Marks.{StayMarks}
+use Rattle.staying.proofs.Laws.{calls-differ}
 use Rattle.pruner.specs.Asked.{Changing, Closable, Leaves, tablesWith, indexesOf}
 
 -- what is lent
@@ -69,8 +72,12 @@ closable src c g T X ws ten v w =
     let k = resolved src c g T X ws ten v w in
     record {
       tokens-fit = r .tokens-fit;
-      avoided-fit = r .avoided-fit;
-      epps-fit = r .epps-fit;
+      mentioned =
+          record {
+            avoided-fit = r .avoided-fit;
+            epps-fit = r .epps-fit;
+            apart = calls-differ src (named (T .t1) (tokenSort c)) (fair-sound src c g T X s .tokens-apart);
+          };
       rules-fit = r .rules-fit;
       linked =
           record {
@@ -83,5 +90,4 @@ closable src c g T X ws ten v w =
             token-slots = slots-3 (countAt c tokens) (length (T .t1)) (length (X .tokens)) (r .tokens-fit) (s .low tokens (omega arith)) (s .indexes .token-size .roomy);
             rule-slots = slots-5 (countAt c rules) (length (T .t7)) (length (X .rules)) (r .rules-fit) (s .low rules (omega arith)) (s .indexes .rule-size .roomy);
           };
-      indexed = s .indexes .tokens;
     }

@@ -15,7 +15,6 @@ use Rattle.tables.specs.declared.Found.{Found}
 use Rattle.tables.specs.declared.Found.the-variants.{RowAt, NoRow}
 use Rattle.tables.specs.Table.{cell, findName, zeroed}
 use Rattle.tables.specs.Layout.{tokens, productions, ruleRow, width}
-use Rattle.index.specs.Index.{enterRow, entries}
 use Rattle.grammar.specs.declared.Counts.{Counts}
 use Rattle.sound.specs.Test.{countAt}
 use Rattle.reach.specs.Reach.{tokenSort}
@@ -81,19 +80,11 @@ module _ (i1 i7 : List ℕ) (kind r q : ℕ) where
   unfolding numberIn
   number-token e h = rw (numberIn, ne-eqb kind 1 e) h
 
--- ---- an index anew
-
-pub entries-none : (src : List ℕ) (w : ℕ) (t ix u : List ℕ) → u ≡ zeroed ix → u ≡ entries src w 0 t (length u) 0
-unfolding entries
-entries-none src w t ix u e = let n : length u ≡ length ix = ap length e ∙ length-replicate (length ix) 0 in rw n e
-
-pub entries-more : (src : List ℕ) (w : ℕ) (t : List ℕ) (m r : ℕ) (ix : List ℕ) → ix ≡ entries src w 0 t m r → (u : List ℕ) → u ≡ enterRow src w 0 t r ix → u ≡ entries src w 0 t m (r + 1)
-unfolding entries
-entries-more src w t m r ix e u h = let n : r + 1 ≡ suc r = omega arith in rw n (h ∙ ap (enterRow src w 0 t r) e)
-
 pub rank-none : (stays : ℕ → Bool) → 0 ≡ rank stays 0
 unfolding rank
 rank-none stays = refl
 
-pub entries-size : (ix u : List ℕ) → u ≡ zeroed ix → length u ≡ length ix
-entries-size ix u e = ap length e ∙ length-replicate (length ix) 0
+-- ---- an index anew
+
+pub zeros-size : (ix u : List ℕ) → u ≡ zeroed ix → length u ≡ length ix
+zeros-size ix u e = ap length e ∙ length-replicate (length ix) 0

@@ -5,14 +5,20 @@ use mathlib.Core.List.{List}
 use lib.ListN.{length}
 use Rattle.tables.specs.Table.{cell}
 use Rattle.tables.specs.Rows.{Chained}
-use Rattle.tables.specs.Layout.{tokens, avoided, epps, rules, productions, symbols, ruleRow, symbolsFrom, symbolsTo, knownRow, width}
-use Rattle.index.specs.Index.{Indexed}
+use Rattle.tables.specs.Layout.{tokens, avoided, epps, rules, productions, symbols, keyName, ruleRow, symbolsFrom, symbolsTo, knownRow, width}
+use Rattle.finder.specs.Finder.{Apart}
 use Rattle.grammar.specs.declared.Counts.{Counts}
 use Rattle.grammar.specs.Sound.{Tables, Indexes}
 use Rattle.sound.specs.Test.{countAt}
-use Rattle.closing.specs.Close.{tableOf}
-use Rattle.pruning.specs.Pruned.{newNumber, chained, productionsLeft, symbolsLeft, Pruned, pruned}
+use Rattle.closing.specs.Close.{tableOf, closed}
+use Rattle.pruning.specs.Pruned.{newNumber, rowStays, chained, productionsLeft, symbolsLeft, Pruned, pruned}
 use Rattle.pruner.specs.Moving.{numberIn}
+
+-- tables 3 and 5, which name tokens, and table 1, whose names are pairwise different
+pub record Mentioned (src : List ℕ) (c : Counts) (t1 t3 t5 : List ℕ) : Type 0 where
+  pub avoided-fit : countAt c avoided * width avoided ≤ length t3
+  pub epps-fit : countAt c epps * width epps ≤ length t5
+  pub apart : Apart src (width tokens) 0 (countAt c tokens) t1
 
 -- "row numbers lie inside counts"
 abbrev pub Owned : Counts → List ℕ → Type 0
@@ -49,11 +55,25 @@ pub record Changing : Type 0 where
 -- those of valid tables
 pub record Closable (src : List ℕ) (c : Counts) (x : Changing) : Type 0 where
   pub tokens-fit : countAt c tokens * width tokens ≤ length (x .t1)
-  pub avoided-fit : countAt c avoided * width avoided ≤ length (x .t3)
-  pub epps-fit : countAt c epps * width epps ≤ length (x .t5)
+  pub mentioned : Mentioned src c (x .t1) (x .t3) (x .t5)
   pub rules-fit : countAt c rules * width rules ≤ length (x .t7)
   pub linked : Linked c (x .t8) (x .t9) (x .i1) (x .i7)
-  pub indexed : Indexed src (width tokens) 0 (countAt c tokens) (x .t1) (x .i1)
+
+-- tables 3 and 5 afterwards, with their counts
+pub record Mentions : Type 0 where
+  pub avoided : ℕ
+  pub epps : ℕ
+  pub t3 : List ℕ
+  pub t5 : List ℕ
+
+abbrev pub mentionsLeft : List ℕ → Counts → List ℕ → List ℕ → List ℕ → List ℕ → Mentions
+mentionsLeft src c t1 t3 t5 ws =
+    record {
+      avoided = closed (rowStays src c t1 ws (width avoided) 0 t3) (width avoided) (countAt c avoided) t3 .count;
+      epps = closed (rowStays src c t1 ws (width epps) keyName t5) (width epps) (countAt c epps) t5 .count;
+      t3 = closed (rowStays src c t1 ws (width avoided) 0 t3) (width avoided) (countAt c avoided) t3 .cells;
+      t5 = closed (rowStays src c t1 ws (width epps) keyName t5) (width epps) (countAt c epps) t5 .cells;
+    }
 
 -- tables 8 and 9 afterwards, with their counts
 pub record Links : Type 0 where

@@ -10,14 +10,21 @@ ghost use lib.ListN.{length};
 ghost use Rattle.tables.specs.Layout.{tokens, rules, productions, symbols, symbolsFrom, symbolsTo, width};
 ghost use Rattle.tables.specs.Rows.{Chained};
 ghost use Rattle.tables.specs.Table.{cell};
-ghost use Rattle.index.specs.Index.{Indexed, entries};
+ghost use Rattle.index.specs.Index.{entries};
+ghost use Rattle.finder.specs.Finder.{Held};
 ghost use Rattle.grammar.specs.Sound.{Tables, Indexes};
 ghost use Rattle.sound.specs.Test.{countAt};
 ghost use Rattle.reach.specs.Reach.{tokenSort};
 ghost use Rattle.closing.specs.Close.{Step, rank, tableOf, byBit, closed, closeUp};
 ghost use Rattle.pruning.specs.Pruned.{nameStays, rowStays, ruleStays, productionStays, chained, productionsLeft, symbolsLeft, countsLeft, Lent, Prunings};
 ghost use Rattle.pruner.specs.Moving.{Ranked, numberIn, movedSymbol, movedSymbols, symbolsStep, LinkStep, linkStep};
-ghost use Rattle.pruner.specs.Asked.{Owned, Movable, Linked, Closable, Links, linksLeft, Leaves};
+ghost use Rattle.pruner.specs.Asked.{Mentioned, Mentions, mentionsLeft, Owned, Movable, Linked, Closable, Links, linksLeft, Leaves};
+
+// How many rows of tables 3 and 5 stay.
+pub struct Mentioning {
+    pub avoided: u32,
+    pub epps: u32,
+}
 
 // How many productions stay, and how many symbols they have.
 pub struct Linking {
@@ -41,14 +48,14 @@ fn token_base(c: Counts) -> usize
     reach::words_for(sound::rows_of(c, tables::RULES)) * 32
 }
 
-// Whether the name is that of a token that stays, or of no token.
-fn name_stays(src: &[u8], c: Counts, t1: &[u32], i1: &[u32], ws: &[u32], a: u32, b: u32) -> bool
-    requires { ⌜ Indexed (now src) (width tokens) 0 (countAt c tokens) (now t1) (now i1) ⌝ }
+// Whether the name is that of a token that stays, or of no token. The finder leads to all tokens.
+fn name_stays(src: &[u8], c: Counts, t1: &[u32], fx: &[u16], ws: &[u32], a: u32, b: u32) -> bool
+    requires { ⌜ Held (now src) (width tokens) 0 (countAt c tokens) (now t1) (now fx) ⌝ }
     ensures { λ r. ⌜ r ≡ nameStays (now (src .entry)) c (now (t1 .entry)) (now (ws .entry)) a b ⌝ }
 {
     let n = sound::rows_of(c, tables::TOKENS);
     let base = token_base(c);
-    match index::find(src, t1, tables::TOKEN_WIDTH, tables::NAME, n, i1, a, b) {
+    match finder::find(src, t1, tables::TOKEN_WIDTH, tables::NAME, n, fx, a, b) {
         Found::RowAt(t) => bits::test_bit(ws, base + t as usize),
         Found::NoRow => true,
     }
@@ -63,10 +70,10 @@ fn close_named(
     src: &[u8],
     c: Counts,
     t1: &[u32],
-    i1: &[u32],
+    fx: &[u16],
     ws: &[u32],
 ) -> u32
-    requires { ⌜ (n * w ≤ length (now t)) × Indexed (now src) (width tokens) 0 (countAt c tokens) (now t1) (now i1) ⌝ }
+    requires { ⌜ (n * w ≤ length (now t)) × Held (now src) (width tokens) 0 (countAt c tokens) (now t1) (now fx) ⌝ }
     ensures { λ r. ⌜ _≡_ {A = Step} (record { count = r; cells = now (t .exit) }) (closed (rowStays (now (src .entry)) c (now (t1 .entry)) (now (ws .entry)) w k (now (t .entry))) w n (now (t .entry))) ⌝ }
 {
     let first = k as u32;
@@ -76,12 +83,139 @@ fn close_named(
     while r < n {
         let a = tables::cell(t, w, r, first);
         let b = tables::cell(t, w, r, second);
-        let stays = name_stays(src, c, t1, i1, ws, a, b);
+        let stays = name_stays(src, c, t1, fx, ws, a, b);
         m = closing::keep_row(t, w, stays, r, m);
         r += 1;
     }
     closing::zero_from(t, (m as usize) * (w as usize));
     m
+}
+
+// Tables 3 and 5, by a finder that leads to all tokens.
+fn close_held(
+    t3: &mut [u32],
+    t5: &mut [u32],
+    src: &[u8],
+    c: Counts,
+    t1: &[u32],
+    fx: &[u16],
+    ws: &[u32],
+) -> Mentioning
+    requires { ⌜ Mentioned (now src) c (now t1) (now t3) (now t5) × Held (now src) (width tokens) 0 (countAt c tokens) (now t1) (now fx) ⌝ }
+    ensures { λ r. ⌜ _≡_ {A = Mentions} (record { avoided = r .avoided; epps = r .epps; t3 = now (t3 .exit); t5 = now (t5 .exit) }) (mentionsLeft (now (src .entry)) c (now (t1 .entry)) (now (t3 .entry)) (now (t5 .entry)) (now (ws .entry))) ⌝ }
+{
+    let avoided = close_named(
+        t3,
+        tables::NAME_WIDTH,
+        tables::NAME,
+        sound::rows_of(c, tables::AVOIDED),
+        src,
+        c,
+        t1,
+        fx,
+        ws,
+    );
+    let epps = close_named(
+        t5,
+        tables::EPP_WIDTH,
+        tables::KEY_NAME,
+        sound::rows_of(c, tables::EPPS),
+        src,
+        c,
+        t1,
+        fx,
+        ws,
+    );
+    Mentioning { avoided, epps }
+}
+
+// All tokens are entered first.
+fn close_by(
+    t3: &mut [u32],
+    t5: &mut [u32],
+    src: &[u8],
+    c: Counts,
+    t1: &[u32],
+    fx: &mut [u16],
+    ws: &[u32],
+) -> Mentioning
+    requires { ⌜ Mentioned (now src) c (now t1) (now t3) (now t5) ⌝ }
+    ensures { λ r. ⌜ _≡_ {A = Mentions} (record { avoided = r .avoided; epps = r .epps; t3 = now (t3 .exit); t5 = now (t5 .exit) }) (mentionsLeft (now (src .entry)) c (now (t1 .entry)) (now (t3 .entry)) (now (t5 .entry)) (now (ws .entry))) ⌝ }
+{
+    let n = sound::rows_of(c, tables::TOKENS);
+    finder::enter_rows(src, t1, tables::TOKEN_WIDTH, tables::NAME, n, fx);
+    close_held(t3, t5, src, c, t1, fx, ws)
+}
+
+// Without slots, where there is nothing to look up.
+fn close_none(
+    t3: &mut [u32],
+    t5: &mut [u32],
+    src: &[u8],
+    c: Counts,
+    t1: &[u32],
+    ws: &[u32],
+) -> Mentioning
+    requires { ⌜ Mentioned (now src) c (now t1) (now t3) (now t5) ⌝ }
+    ensures { λ r. ⌜ _≡_ {A = Mentions} (record { avoided = r .avoided; epps = r .epps; t3 = now (t3 .exit); t5 = now (t5 .exit) }) (mentionsLeft (now (src .entry)) c (now (t1 .entry)) (now (t3 .entry)) (now (t5 .entry)) (now (ws .entry))) ⌝ }
+{
+    let none = [0u16; 0];
+    close_held(t3, t5, src, c, t1, &none, ws)
+}
+
+// With few slots, which are soon cleared.
+fn close_few(
+    t3: &mut [u32],
+    t5: &mut [u32],
+    src: &[u8],
+    c: Counts,
+    t1: &[u32],
+    ws: &[u32],
+) -> Mentioning
+    requires { ⌜ Mentioned (now src) c (now t1) (now t3) (now t5) ⌝ }
+    ensures { λ r. ⌜ _≡_ {A = Mentions} (record { avoided = r .avoided; epps = r .epps; t3 = now (t3 .exit); t5 = now (t5 .exit) }) (mentionsLeft (now (src .entry)) c (now (t1 .entry)) (now (t3 .entry)) (now (t5 .entry)) (now (ws .entry))) ⌝ }
+{
+    let mut fx = [0u16; staying::FEW_SLOTS];
+    close_by(t3, t5, src, c, t1, &mut fx, ws)
+}
+
+// With slots for every grammar that is read.
+fn close_many(
+    t3: &mut [u32],
+    t5: &mut [u32],
+    src: &[u8],
+    c: Counts,
+    t1: &[u32],
+    ws: &[u32],
+) -> Mentioning
+    requires { ⌜ Mentioned (now src) c (now t1) (now t3) (now t5) ⌝ }
+    ensures { λ r. ⌜ _≡_ {A = Mentions} (record { avoided = r .avoided; epps = r .epps; t3 = now (t3 .exit); t5 = now (t5 .exit) }) (mentionsLeft (now (src .entry)) c (now (t1 .entry)) (now (t3 .entry)) (now (t5 .entry)) (now (ws .entry))) ⌝ }
+{
+    let mut fx = [0u16; staying::MANY_SLOTS];
+    close_by(t3, t5, src, c, t1, &mut fx, ws)
+}
+
+// Tables 3 and 5; few tokens want few slots.
+fn close_mentions(
+    t3: &mut [u32],
+    t5: &mut [u32],
+    src: &[u8],
+    c: Counts,
+    t1: &[u32],
+    ws: &[u32],
+) -> Mentioning
+    requires { ⌜ Mentioned (now src) c (now t1) (now t3) (now t5) ⌝ }
+    ensures { λ r. ⌜ _≡_ {A = Mentions} (record { avoided = r .avoided; epps = r .epps; t3 = now (t3 .exit); t5 = now (t5 .exit) }) (mentionsLeft (now (src .entry)) c (now (t1 .entry)) (now (t3 .entry)) (now (t5 .entry)) (now (ws .entry))) ⌝ }
+{
+    let avoided = sound::rows_of(c, tables::AVOIDED) as usize;
+    let epps = sound::rows_of(c, tables::EPPS) as usize;
+    if avoided + epps == 0 {
+        return close_none(t3, t5, src, c, t1, ws);
+    }
+    if sound::rows_of(c, tables::TOKENS) <= staying::FEW_ROWS {
+        return close_few(t3, t5, src, c, t1, ws);
+    }
+    close_many(t3, t5, src, c, t1, ws)
 }
 
 // ---- new numbers
@@ -268,11 +402,7 @@ fn fill_index(src: &[u8], t: &[u32], w: u32, n: u32, ix: &mut [u32])
     ensures { λ u. ⌜ now (ix .exit) ≡ entries (now (src .entry)) w 0 (now (t .entry)) (length (now (ix .entry))) n ⌝ }
 {
     tables::zero(ix);
-    let mut r = 0;
-    while r < n {
-        index::enter_row(src, t, w, tables::NAME, r, ix);
-        r += 1;
-    }
+    index::enter_rows(src, t, w, tables::NAME, n, ix);
 }
 
 // Of `n` rows those stay whose bit is 1, and the index follows. Answers how many.
@@ -325,36 +455,13 @@ fn close_all(
     requires { ⌜ Closable (now src) c (record { t1 = now t1; t3 = now t3; t5 = now t5; t7 = now t7; t8 = now t8; t9 = now t9; i1 = now i1; i7 = now i7 }) ⌝ }
     ensures { λ r. ⌜ Leaves (now (src .entry)) c (record { t1 = now (t1 .entry); t3 = now (t3 .entry); t5 = now (t5 .entry); t7 = now (t7 .entry); t8 = now (t8 .entry); t9 = now (t9 .entry); i1 = now (i1 .entry); i7 = now (i7 .entry) }) (now (ws .entry)) r (record { t1 = now (t1 .exit); t3 = now (t3 .exit); t5 = now (t5 .exit); t7 = now (t7 .exit); t8 = now (t8 .exit); t9 = now (t9 .exit); i1 = now (i1 .exit); i7 = now (i7 .exit) }) ⌝ }
 {
-    let avoided = sound::rows_of(c, tables::AVOIDED);
-    let b = close_named(
-        t3,
-        tables::NAME_WIDTH,
-        tables::NAME,
-        avoided,
-        src,
-        c,
-        t1,
-        i1,
-        ws,
-    );
-    let epps = sound::rows_of(c, tables::EPPS);
-    let d = close_named(
-        t5,
-        tables::EPP_WIDTH,
-        tables::KEY_NAME,
-        epps,
-        src,
-        c,
-        t1,
-        i1,
-        ws,
-    );
+    let m = close_mentions(t3, t5, src, c, t1, ws);
     let l = close_linked(t8, t9, i1, i7, c, ws);
     let rules = sound::rows_of(c, tables::RULES);
     let e = close_names(t7, tables::RULE_WIDTH, rules, i7, src, ws, 0);
     let tokens = sound::rows_of(c, tables::TOKENS);
     let a = close_names(t1, tables::TOKEN_WIDTH, tokens, i1, src, ws, token_base(c));
-    counts_left(c, a, b, d, e, l.rows, l.symbols)
+    counts_left(c, a, m.avoided, m.epps, e, l.rows, l.symbols)
 }
 
 // Drops what neither the start nor an excused rule or token keeps. 44 and validate's number come first, then 42 for the work bits; after a refusal nothing has changed but the bits, which are zero.

@@ -1,21 +1,24 @@
 -- The rows that declarations excuse, one declaration after the other, and what the bits are in the end. Assumes nothing.
 use Prim.Native.Nat.{ℕ, _+_, _<_, _≤_, _^_}
-use mathlib.Core.Path.{_≡_, sym, _∙_}
+use mathlib.Core.Path.{_≡_, refl, sym, ap, _∙_}
 use mathlib.Core.List.{List}
-use mathlib.Core.Bool.{Bool, true}
+use mathlib.Core.Bool.{Bool, true, false}
 use mathlib.Core.Logic.{_⊎_, inl, inr, ⊎-elim}
 use native.Mathlib.Omega.{arith}
 use native.Mathlib.Decide.{decLt}
 use lib.ListN.{length, getD, replicate}
-use Rattle.bits.specs.Bits.{bit}
-use Rattle.bits.proofs.Bits.{bit-zeros}
-use Rattle.tables.specs.Table.{cell, hasName}
+use Rattle.bits.specs.Bits.{bit, setBit, BitSet}
+use Rattle.bits.proofs.Bits.{bit-zeros, set-there, set-again, set-only}
+use Rattle.tables.specs.Table.{cell, hasName, findName}
+use Rattle.tables.specs.declared.Found.{Found}
+use Rattle.tables.specs.declared.Found.the-variants.{RowAt, NoRow}
 use Rattle.tables.specs.Layout.{tokens, implicit, unused, rules, kindName, width}
-use Rattle.tables.proofs.Cases.{same-part-sym}
+use Rattle.tables.proofs.Cases.{same-part-iff, same-part-sym}
+use Rattle.finder.specs.Finder.{Led, Held, Apart as Different}
 use Rattle.grammar.specs.declared.Counts.{Counts}
 use Rattle.sound.specs.Test.{countAt}
-use Rattle.reach.specs.Reach.{wordsFor, ruleSort, tokenSort, Named, Grammar, Begins, Uses, symbol, precedence, Adds, Added, Fits, Called, Spread, TokenOf}
-use Rattle.reach.proofs.Laws.{added-none, adds-same}
+use Rattle.reach.specs.Reach.{wordsFor, ruleSort, tokenSort, Named, Grammar, Calls, Begins, Apart, Uses, symbol, precedence, Adds, Fits, Called, Spread, TokenOf}
+use Rattle.reach.proofs.Laws.{added-none, adds-same, name-calls, mark-unfound}
 use Rattle.reach.proofs.Chains.{begins-in, chain-in}
 use Rattle.usage.specs.Report.{Excuses, Expected, Implicit, Excused, expected, implied}
 use Rattle.pruning.specs.Stays.{Root, startRule, excusedRule, StaysRule, StaysToken, usedToken, excusedToken, Staying, rule, token, StayWork}
@@ -39,6 +42,45 @@ rows-then {P} {Q} R d ws vs us p q r x y = record {
     row : {S : ℕ → ℕ → Type 0} (k i : ℕ) → i < d .sort .count → k ≡ d .sort .base + i → S (cell (d .sort .wide) (d .cells) i 0) (cell (d .sort .wide) (d .cells) i 1) → RowBit d S k
     row k i h e s = record { row = i; inside = h; holds = s; bit-is = e }
 
+-- ---- the row of a name
+
+-- names that are each of one row differ, and a finder that leads to all rows finds them
+module _ (src : List ℕ) (d : Named) (one : Apart src d) where
+  pub calls-differ : Different src (d .sort .wide) 0 (d .sort .count) (d .cells)
+  unfolding hasName
+  calls-differ q r l m = go (hasName src (d .sort .wide) 0 (d .cells) (cell (d .sort .wide) (d .cells) r 0) (cell (d .sort .wide) (d .cells) r 1) q) refl
+    where
+      go : (x : Bool) → hasName src (d .sort .wide) 0 (d .cells) (cell (d .sort .wide) (d .cells) r 0) (cell (d .sort .wide) (d .cells) r 1) q ≡ x → x ≡ false
+      go true h =
+          let x = same-part-iff src _ _ _ _ .0 h in
+          let e : q ≡ r = one (cell (d .sort .wide) (d .cells) r 0) (cell (d .sort .wide) (d .cells) r 1) q r (record { inside = omega arith; same = h }) (record { inside = m; same = same-part-iff src _ _ _ _ .1 (x .2, x .3, x .2, x .3, refl) }) in
+          absurd (omega arith)
+      go false h = refl
+
+  pub calls-held : (ix : List ℕ) → Led src (d .sort .wide) 0 (d .sort .count) (d .cells) ix → Held src (d .sort .wide) 0 (d .sort .count) (d .cells) ix
+  calls-held ix led = record { led = led; apart = calls-differ }
+
+module _ (src : List ℕ) (d : Named) (a b : ℕ) (f : Found) (e : f ≡ findName src (d .sort .wide) 0 (d .sort .count) (d .cells) a b) (ws : List ℕ) where
+  -- its bit is set,
+  pub named-found : (r : ℕ) (vs : List ℕ) → Apart src d → Fits (d .sort) ws → f ≡ RowAt r → vs ≡ setBit (d .sort .base + r) ws → Adds (Called src d a b) ws vs
+  named-found r vs one fits h s = rw s (new (setBit (d .sort .base + r) ws) (set-there ws (d .sort .base + r) (omega (arith, fits .inside, mine .inside))))
+    where
+      mine : Calls src d a b r
+      mine = name-calls src d a b f e r h
+
+      new : (us : List ℕ) → BitSet (d .sort .base + r) ws us → Adds (Called src d a b) ws us
+      new us x =
+          record {
+            size = x .size;
+            kept = set-again (d .sort .base + r) ws us x;
+            only = λ j o. set-only (d .sort .base + r) ws us x j o (λ q. inr (record { row = r; calls = mine; bit-is = q })) (λ q. inl q);
+            all = λ j z. ap (bit us) (z .bit-is ∙ ap (λ (n : ℕ). d .sort .base + n) (one a b (z .row) r (z .calls) mine)) ∙ x .there;
+          }
+
+  -- or there is no such row
+  pub named-unfound : f ≡ NoRow → Adds (Called src d a b) ws ws
+  named-unfound h = mark-unfound src d a b f e ws h .adds
+
 -- ---- one declaration: the row that has its name is the row whose name it has
 
 module _ (src : List ℕ) (d : Named) (w at : ℕ) (t : List ℕ) (e : ℕ) where
@@ -46,16 +88,16 @@ module _ (src : List ℕ) (d : Named) (w at : ℕ) (t : List ℕ) (e : ℕ) wher
   unfolding hasName
   turned r = same-part-sym src _ _ _ _
 
-  pub name-rows : {P : ℕ → ℕ → Type 0} (a b : ℕ) (ws vs : List ℕ) (q : Bool) → a ≡ cell w t e at → b ≡ cell w t e (at + 1) → ((x y : ℕ) → hasName src w at t x y e ≡ true → P x y) → ((x y : ℕ) → P x y → hasName src w at t x y e ≡ true)
-      → Added (Called src d a b) ws vs q → Adds (RowBit d P) ws vs
-  name-rows {P} a b ws vs q f g to from m = rows (rw (← f, ← g) m)
+  pub name-rows : {P : ℕ → ℕ → Type 0} (a b : ℕ) (ws vs : List ℕ) → a ≡ cell w t e at → b ≡ cell w t e (at + 1) → ((x y : ℕ) → hasName src w at t x y e ≡ true → P x y) → ((x y : ℕ) → P x y → hasName src w at t x y e ≡ true)
+      → Adds (Called src d a b) ws vs → Adds (RowBit d P) ws vs
+  name-rows {P} a b ws vs f g to from m = rows (rw (← f, ← g) m)
     where
-      rows : Added (Called src d (cell w t e at) (cell w t e (at + 1))) ws vs q → Adds (RowBit d P) ws vs
+      rows : Adds (Called src d (cell w t e at) (cell w t e (at + 1))) ws vs → Adds (RowBit d P) ws vs
       rows n =
           adds-same
           (λ k z. record { row = z .row; inside = z .calls .inside; holds = to _ _ (sym (turned (z .row)) ∙ z .calls .same); bit-is = z .bit-is })
           (λ k z. record { row = z .row; calls = record { inside = z .inside; same = turned (z .row) ∙ from _ _ (z .holds) }; bit-is = z .bit-is })
-          (n .adds)
+          n
 
 -- ---- table 6
 
@@ -63,10 +105,10 @@ module _ (src : List ℕ) (d : Named) (t : List ℕ) where
   pub entry-other : (e x : ℕ) (ws : List ℕ) → x ≡ cell (width unused) t e 0 → (x ≡ d .sort .kind → ⊥) → Adds (EntryBit src d t e) ws ws
   entry-other e x ws f ne = adds-none ws (λ k q. ne (f ∙ q .holds .kind))
 
-  pub entry-named : (e x a b : ℕ) (ws vs : List ℕ) (q : Bool) → x ≡ cell (width unused) t e 0 → x ≡ d .sort .kind → a ≡ cell (width unused) t e kindName → b ≡ cell (width unused) t e (kindName + 1)
-      → Added (Called src d a b) ws vs q → Adds (EntryBit src d t e) ws vs
-  entry-named e x a b ws vs q f h u v m =
-      name-rows src d (width unused) kindName t e a b ws vs q u v (λ i j s. record { kind = sym f ∙ h; same = s }) (λ i j s. s .same) m
+  pub entry-named : (e x a b : ℕ) (ws vs : List ℕ) → x ≡ cell (width unused) t e 0 → x ≡ d .sort .kind → a ≡ cell (width unused) t e kindName → b ≡ cell (width unused) t e (kindName + 1)
+      → Adds (Called src d a b) ws vs → Adds (EntryBit src d t e) ws vs
+  entry-named e x a b ws vs f h u v m =
+      name-rows src d (width unused) kindName t e a b ws vs u v (λ i j s. record { kind = sym f ∙ h; same = s }) (λ i j s. s .same) m
 
   pub expected-none : (ws : List ℕ) → Adds (RowBit d (Expected src t 0 (d .sort .kind))) ws ws
   expected-none ws = adds-none ws (λ k q. omega (arith, q .holds .there))
@@ -93,9 +135,9 @@ module _ (src : List ℕ) (d : Named) (t : List ℕ) where
   pub implicit-none : (ws : List ℕ) → Adds (RowBit d (Implicit src t 0 (d .sort .kind))) ws ws
   implicit-none ws = adds-none ws (λ k q. omega (arith, q .holds .there))
 
-  pub implicit-more : (e a b : ℕ) (ws vs us : List ℕ) (q : Bool) → d .sort .kind ≡ 2 → a ≡ cell (width implicit) t e 0 → b ≡ cell (width implicit) t e 1
-      → Adds (RowBit d (Implicit src t e (d .sort .kind))) ws vs → Added (Called src d a b) vs us q → Adds (RowBit d (Implicit src t (e + 1) (d .sort .kind))) ws us
-  implicit-more e a b ws vs us q two u v x m =
+  pub implicit-more : (e a b : ℕ) (ws vs us : List ℕ) → d .sort .kind ≡ 2 → a ≡ cell (width implicit) t e 0 → b ≡ cell (width implicit) t e 1
+      → Adds (RowBit d (Implicit src t e (d .sort .kind))) ws vs → Adds (Called src d a b) vs us → Adds (RowBit d (Implicit src t (e + 1) (d .sort .kind))) ws us
+  implicit-more e a b ws vs us two u v x m =
       rows-then (Implicit src t (e + 1) (d .sort .kind)) d ws vs us
       (λ i j z. record { token = z .token; entry = z .entry; there = omega (arith, z .there); same = z .same })
       (λ i j z. record { token = two; entry = e; there = omega arith; same = z })
@@ -105,7 +147,7 @@ module _ (src : List ℕ) (d : Named) (t : List ℕ) where
         | no l ↦ let n : z .entry ≡ e = omega (arith, z .there) in inr (rw (← n) (z .same))
       ])
       x
-      (name-rows src d (width implicit) 0 t e a b vs us q u v (λ i j s. s) (λ i j s. s) m)
+      (name-rows src d (width implicit) 0 t e a b vs us u v (λ i j s. s) (λ i j s. s) m)
 
 -- ---- both tables
 
@@ -116,6 +158,14 @@ excused-both x d ws vs us p q = rows-then (Excused x (d .sort .kind)) d ws vs us
     parts : (a b : ℕ) → Excused x (d .sort .kind) a b → Expected (x .src) (x .expecteds) (x .expected-count) (d .sort .kind) a b ⊎ Implicit (x .src) (x .implicits) (x .implicit-count) (d .sort .kind) a b
     parts a b (expected z) = inl z
     parts a b (implied z) = inr z
+
+-- nothing is declared
+pub excused-none : (x : Excuses) (d : Named) (ws : List ℕ) → x .expected-count ≡ 0 → x .implicit-count ≡ 0 → Adds (RowBit d (Excused x (d .sort .kind))) ws ws
+excused-none x d ws m n = adds-none ws (λ k q. never _ _ (q .holds))
+  where
+    never : (a b : ℕ) → Excused x (d .sort .kind) a b → ⊥
+    never a b (expected z) = omega (arith, z .there)
+    never a b (implied z) = omega (arith, z .there)
 
 -- ---- where there are words enough, the bits of both sorts lie in them
 

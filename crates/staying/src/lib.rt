@@ -2,16 +2,38 @@
 use grammar::Counts;
 use grammar::Part;
 use reach::Sort;
+use tables::Found;
 ghost use Rattle.tables.specs.Layout.{tokens, rules, width};
 ghost use Rattle.sound.specs.Test.{countAt};
 ghost use Rattle.index.specs.Index.{Indexed};
-ghost use Rattle.reach.specs.Reach.{named, grammarOf, Apart, Fair, Adds, Fits};
+ghost use Rattle.finder.specs.Finder.{Led};
+ghost use Rattle.reach.specs.Reach.{named, grammarOf, Apart, Fair, Adds, Fits, Called};
 ghost use Rattle.usage.specs.Report.{Expected, Implicit, Excused, excusesOf};
 ghost use Rattle.staying.specs.Marks.{RowBit, EntryBit, StayMarks};
 
+// How many rows a finder of few slots is for, and how many slots a finder has.
+pub const FEW_ROWS: u32 = 512;
+
+pub const FEW_SLOTS: usize = 1024;
+
+pub const MANY_SLOTS: usize = 32768;
+
+// Sets the bit of the row that has the name from `a` to `b`, if there is one. The finder leads to all rows.
+fn mark_named(w: &mut [u32], src: &[u8], names: &[u32], fx: &[u16], z: Sort, a: u32, b: u32)
+    requires { ⌜ Fits z (now w) × Apart (now src) (named (now names) z) × Led (now src) (z .wide) 0 (z .count) (now names) (now fx) ⌝ }
+    ensures { λ r. ⌜ Adds (Called (now (src .entry)) (named (now (names .entry)) z) a b) (now (w .entry)) (now (w .exit)) ⌝ }
+{
+    match finder::find(src, names, z.wide, tables::NAME, z.count, fx, a, b) {
+        Found::RowAt(row) => {
+            bits::set_bit(w, z.base + row as usize);
+        }
+        Found::NoRow => {}
+    }
+}
+
 // Sets the bit of the row that row `e` of table 6 names, if that is of the sort.
-fn mark_entry(w: &mut [u32], src: &[u8], names: &[u32], ix: &[u32], z: Sort, t6: &[u32], e: u32)
-    requires { ⌜ Fits z (now w) × Apart (now src) (named (now names) z) × Indexed (now src) (z .wide) 0 (z .count) (now names) (now ix) ⌝ }
+fn mark_entry(w: &mut [u32], src: &[u8], names: &[u32], fx: &[u16], z: Sort, t6: &[u32], e: u32)
+    requires { ⌜ Fits z (now w) × Apart (now src) (named (now names) z) × Led (now src) (z .wide) 0 (z .count) (now names) (now fx) ⌝ }
     ensures { λ r. ⌜ Adds (EntryBit (now (src .entry)) (named (now (names .entry)) z) (now (t6 .entry)) e) (now (w .entry)) (now (w .exit)) ⌝ }
 {
     let wide = tables::UNUSED_WIDTH;
@@ -21,24 +43,24 @@ fn mark_entry(w: &mut [u32], src: &[u8], names: &[u32], ix: &[u32], z: Sort, t6:
     let at = tables::KIND_NAME as u32;
     let a = tables::cell(t6, wide, e, at);
     let b = tables::cell(t6, wide, e, at + 1);
-    reach::mark_name(w, src, names, ix, z, a, b);
+    mark_named(w, src, names, fx, z, a, b);
 }
 
 // The same for all of its `n` rows.
-fn mark_expected(w: &mut [u32], src: &[u8], names: &[u32], ix: &[u32], z: Sort, t6: &[u32], n: u32)
-    requires { ⌜ Fits z (now w) × Apart (now src) (named (now names) z) × Indexed (now src) (z .wide) 0 (z .count) (now names) (now ix) ⌝ }
+fn mark_expected(w: &mut [u32], src: &[u8], names: &[u32], fx: &[u16], z: Sort, t6: &[u32], n: u32)
+    requires { ⌜ Fits z (now w) × Apart (now src) (named (now names) z) × Led (now src) (z .wide) 0 (z .count) (now names) (now fx) ⌝ }
     ensures { λ r. ⌜ Adds (RowBit (named (now (names .entry)) z) (Expected (now (src .entry)) (now (t6 .entry)) n (z .kind))) (now (w .entry)) (now (w .exit)) ⌝ }
 {
     let mut e = 0;
     while e < n {
-        mark_entry(w, src, names, ix, z, t6, e);
+        mark_entry(w, src, names, fx, z, t6, e);
         e += 1;
     }
 }
 
 // Sets the bits of the rows that the `n` rows of table 4 name, which excuse tokens alone.
-fn mark_implicit(w: &mut [u32], src: &[u8], names: &[u32], ix: &[u32], z: Sort, t4: &[u32], n: u32)
-    requires { ⌜ Fits z (now w) × Apart (now src) (named (now names) z) × Indexed (now src) (z .wide) 0 (z .count) (now names) (now ix) ⌝ }
+fn mark_implicit(w: &mut [u32], src: &[u8], names: &[u32], fx: &[u16], z: Sort, t4: &[u32], n: u32)
+    requires { ⌜ Fits z (now w) × Apart (now src) (named (now names) z) × Led (now src) (z .wide) 0 (z .count) (now names) (now fx) ⌝ }
     ensures { λ r. ⌜ Adds (RowBit (named (now (names .entry)) z) (Implicit (now (src .entry)) (now (t4 .entry)) n (z .kind))) (now (w .entry)) (now (w .exit)) ⌝ }
 {
     if z.kind != 2 {
@@ -50,35 +72,96 @@ fn mark_implicit(w: &mut [u32], src: &[u8], names: &[u32], ix: &[u32], z: Sort, 
     while e < n {
         let a = tables::cell(t4, wide, e, at);
         let b = tables::cell(t4, wide, e, at + 1);
-        reach::mark_name(w, src, names, ix, z, a, b);
+        mark_named(w, src, names, fx, z, a, b);
         e += 1;
     }
 }
 
-// The bits of the excused rows of the sort.
+// The bits of the excused rows of the sort, by a finder that leads to all rows.
+fn mark_led(
+    w: &mut [u32],
+    src: &[u8],
+    c: Counts,
+    names: &[u32],
+    fx: &[u16],
+    z: Sort,
+    t4: &[u32],
+    t6: &[u32],
+)
+    requires { ⌜ Fits z (now w) × Apart (now src) (named (now names) z) × Led (now src) (z .wide) 0 (z .count) (now names) (now fx) ⌝ }
+    ensures { λ r. ⌜ Adds (RowBit (named (now (names .entry)) z) (Excused (excusesOf (now (src .entry)) c (now (t4 .entry)) (now (t6 .entry))) (z .kind))) (now (w .entry)) (now (w .exit)) ⌝ }
+{
+    mark_expected(w, src, names, fx, z, t6, sound::rows_of(c, tables::UNUSED));
+    mark_implicit(
+        w,
+        src,
+        names,
+        fx,
+        z,
+        t4,
+        sound::rows_of(c, tables::IMPLICIT),
+    );
+}
+
+// All rows are entered first.
+fn mark_by(
+    w: &mut [u32],
+    src: &[u8],
+    c: Counts,
+    names: &[u32],
+    fx: &mut [u16],
+    z: Sort,
+    t4: &[u32],
+    t6: &[u32],
+)
+    requires { ⌜ Fits z (now w) × Apart (now src) (named (now names) z) ⌝ }
+    ensures { λ r. ⌜ Adds (RowBit (named (now (names .entry)) z) (Excused (excusesOf (now (src .entry)) c (now (t4 .entry)) (now (t6 .entry))) (z .kind))) (now (w .entry)) (now (w .exit)) ⌝ }
+{
+    finder::enter_rows(src, names, z.wide, tables::NAME, z.count, fx);
+    mark_led(w, src, c, names, fx, z, t4, t6);
+}
+
+// With few slots, which are soon cleared.
+fn mark_few(w: &mut [u32], src: &[u8], c: Counts, names: &[u32], z: Sort, t4: &[u32], t6: &[u32])
+    requires { ⌜ Fits z (now w) × Apart (now src) (named (now names) z) ⌝ }
+    ensures { λ r. ⌜ Adds (RowBit (named (now (names .entry)) z) (Excused (excusesOf (now (src .entry)) c (now (t4 .entry)) (now (t6 .entry))) (z .kind))) (now (w .entry)) (now (w .exit)) ⌝ }
+{
+    let mut fx = [0u16; FEW_SLOTS];
+    mark_by(w, src, c, names, &mut fx, z, t4, t6);
+}
+
+// With slots for every grammar that is read.
+fn mark_many(w: &mut [u32], src: &[u8], c: Counts, names: &[u32], z: Sort, t4: &[u32], t6: &[u32])
+    requires { ⌜ Fits z (now w) × Apart (now src) (named (now names) z) ⌝ }
+    ensures { λ r. ⌜ Adds (RowBit (named (now (names .entry)) z) (Excused (excusesOf (now (src .entry)) c (now (t4 .entry)) (now (t6 .entry))) (z .kind))) (now (w .entry)) (now (w .exit)) ⌝ }
+{
+    let mut fx = [0u16; MANY_SLOTS];
+    mark_by(w, src, c, names, &mut fx, z, t4, t6);
+}
+
+// The bits of the excused rows of the sort. Where nothing is declared no finder is made.
 fn mark_excused(
     w: &mut [u32],
     src: &[u8],
     c: Counts,
     names: &[u32],
-    ix: &[u32],
     z: Sort,
     t4: &[u32],
     t6: &[u32],
 )
-    requires { ⌜ Fits z (now w) × Apart (now src) (named (now names) z) × Indexed (now src) (z .wide) 0 (z .count) (now names) (now ix) ⌝ }
+    requires { ⌜ Fits z (now w) × Apart (now src) (named (now names) z) ⌝ }
     ensures { λ r. ⌜ Adds (RowBit (named (now (names .entry)) z) (Excused (excusesOf (now (src .entry)) c (now (t4 .entry)) (now (t6 .entry))) (z .kind))) (now (w .entry)) (now (w .exit)) ⌝ }
 {
-    mark_expected(w, src, names, ix, z, t6, sound::rows_of(c, tables::UNUSED));
-    mark_implicit(
-        w,
-        src,
-        names,
-        ix,
-        z,
-        t4,
-        sound::rows_of(c, tables::IMPLICIT),
-    );
+    let expecteds = sound::rows_of(c, tables::UNUSED) as usize;
+    let implicits = sound::rows_of(c, tables::IMPLICIT) as usize;
+    if expecteds + implicits == 0 {
+        return;
+    }
+    if z.count <= FEW_ROWS {
+        mark_few(w, src, c, names, z, t4, t6);
+        return;
+    }
+    mark_many(w, src, c, names, z, t4, t6);
 }
 
 // The work bits: a 1 for each row that stays. False, and all zero, where there are too few words.
@@ -107,9 +190,9 @@ pub fn mark_staying(
     }
     reach::mark_start(w, src, c, start, t7, i7);
     // Before the spread: what an excused rule reaches stays too.
-    mark_excused(w, src, c, t7, i7, reach::rule_sort(c), t4, t6);
+    mark_excused(w, src, c, t7, reach::rule_sort(c), t4, t6);
     reach::spread(w, src, c, t7, t8, t9);
     reach::mark_tokens(w, src, c, t1, i1, t8, t9);
-    mark_excused(w, src, c, t1, i1, reach::token_sort(c), t4, t6);
+    mark_excused(w, src, c, t1, reach::token_sort(c), t4, t6);
     true
 }

@@ -15,10 +15,10 @@ use Rattle.pruner.proofs.close_named.Statement.{statement}
 use Rattle.pruner.proofs.close_named.Tie as tie
 
 abbrev Inv-loop : tie.InvT-loop
-Inv-loop t₀ w k n src c t1 i1 ws first second r₀ m₀ t r m = (r ≤ n) × Shut (rowStays src c t1 ws w k t₀) w t₀ r m t
+Inv-loop t₀ w k n src c t1 fx ws first second r₀ m₀ t r m = (r ≤ n) × Shut (rowStays src c t1 ws w k t₀) w t₀ r m t
 
 abbrev μ-loop : tie.MeasureT-loop
-μ-loop t₀ w k n src c t1 i1 ws first second r₀ m₀ t r m = n - r
+μ-loop t₀ w k n src c t1 fx ws first second r₀ m₀ t r m = n - r
 
 loop-holds : tie.Need-loop-holds Inv-loop μ-loop
 loop-holds c =

@@ -12,10 +12,10 @@ use Rattle.staying.proofs.mark_expected.Statement.{statement}
 use Rattle.staying.proofs.mark_expected.Tie as tie
 
 abbrev Inv-loop : tie.InvT-loop
-Inv-loop w₀ src names ix z t6 n e₀ w e = (e ≤ n) × Adds (RowBit (named names z) (Expected src t6 e (z .kind))) w₀ w
+Inv-loop w₀ src names fx z t6 n e₀ w e = (e ≤ n) × Adds (RowBit (named names z) (Expected src t6 e (z .kind))) w₀ w
 
 abbrev μ-loop : tie.MeasureT-loop
-μ-loop w₀ src names ix z t6 n e₀ w e = n - e
+μ-loop w₀ src names fx z t6 n e₀ w e = n - e
 
 begin : tie.Need-loop-holds Inv-loop μ-loop
 begin c =

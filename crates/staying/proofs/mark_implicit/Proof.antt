@@ -13,10 +13,10 @@ use Rattle.staying.proofs.mark_implicit.Statement.{statement}
 use Rattle.staying.proofs.mark_implicit.Tie as tie
 
 abbrev Inv-loop : tie.InvT-loop
-Inv-loop w₀ src names ix z t4 n wide at e₀ w e = (e ≤ n) × Adds (RowBit (named names z) (Implicit src t4 e (z .kind))) w₀ w
+Inv-loop w₀ src names fx z t4 n wide at e₀ w e = (e ≤ n) × Adds (RowBit (named names z) (Implicit src t4 e (z .kind))) w₀ w
 
 abbrev μ-loop : tie.MeasureT-loop
-μ-loop w₀ src names ix z t4 n wide at e₀ w e = n - e
+μ-loop w₀ src names fx z t4 n wide at e₀ w e = n - e
 
 no-token : tie.Need-returns Inv-loop μ-loop
 no-token c =
@@ -26,14 +26,14 @@ no-token c =
 begin : tie.Need-loop-holds Inv-loop μ-loop
 begin c = (omega arith, implicit-none _ _ _ _)
 
-ready : tie.Need-mark-name-requires Inv-loop μ-loop
+ready : tie.Need-mark-named-requires Inv-loop μ-loop
 ready c κs = (fits-on _ (now (c .before .before .before .before .before .before .before .before .before .before .before .before .args .w)) _ (c .before .before .before .before .loop .inv .1 .size) (c .before .before .before .before .before .before .before .before .before .before .before .before .pre .0), c .before .before .before .before .before .before .before .before .before .before .before .before .pre .1, c .before .before .before .before .before .before .before .before .before .before .before .before .pre .2)
 
 again : tie.Need-loop-again Inv-loop μ-loop
 again c =
     let a = c .before .before .before .before .before .before .before .before .before .before .before .before .before .before .before .args in
     let l = c .before .before .before .before .before .before .before .loop in
-    (omega arith, implicit-more (now (a .src)) (named (now (a .names)) (a .z)) (now (a .t4)) (l .e) _ _ (now (a .w)) (l .w) _ _ (c .before .before .before .before .before .before .before .before .if1 .left) (c .before .before .before .before .before .cell .ensures) (c .before .before .before .before .cell2 .ensures) (l .inv .1) (c .before .before .mark-name .ensures))
+    (omega arith, implicit-more (now (a .src)) (named (now (a .names)) (a .z)) (now (a .t4)) (l .e) _ _ (now (a .w)) (l .w) _ (c .before .before .before .before .before .before .before .before .if1 .left) (c .before .before .before .before .before .cell .ensures) (c .before .before .before .before .cell2 .ensures) (l .inv .1) (c .before .before .mark-named .ensures))
 
 all : tie.Need-returns-2 Inv-loop μ-loop
 all c =

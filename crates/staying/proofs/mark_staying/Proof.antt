@@ -28,7 +28,7 @@ rules-ready : tie.Need-mark-excused-requires
 rules-ready c κs =
     let given = c .before .before .before .before .before .before .before .before .before .before .before .before .before .before .before .before .before .before .before .before .before .before .before .before .before .pre in
     let size = c .before .before .before .before .mark-start .ensures .size ∙ same (c .before .before .before .before .before .before) in
-    rw (c .rule-sort .ensures) (fits-rules (c .before .before .before .before .before .before .before .before .before .before .before .before .before .before .before .before .before .before .before .before .before .before .before .before .before .args .c) _ (rw size (room (c .before .before .before .before .before .before))), given .0 .rules-apart, given .2)
+    rw (c .rule-sort .ensures) (fits-rules (c .before .before .before .before .before .before .before .before .before .before .before .before .before .before .before .before .before .before .before .before .before .before .before .before .before .args .c) _ (rw size (room (c .before .before .before .before .before .before))), given .0 .rules-apart)
 
 spread-ready : tie.Need-spread-requires
 spread-ready c κs =
@@ -45,7 +45,7 @@ excused-ready : tie.Need-mark-excused-requires-2
 excused-ready c κs =
     let given = c .before .before .before .before .before .before .before .before .before .before .before .before .before .before .before .before .before .before .before .before .before .before .before .before .before .before .before .before .before .before .before .before .before .before .before .before .before .before .pre in
     let size = c .before .before .before .before .mark-tokens .ensures .size ∙ c .before .before .before .before .before .before .before .before .spread .ensures .size ∙ c .before .before .before .before .before .before .before .before .before .before .before .before .mark-excused .ensures .size ∙ c .before .before .before .before .before .before .before .before .before .before .before .before .before .before .before .before .before .mark-start .ensures .size ∙ same (c .before .before .before .before .before .before .before .before .before .before .before .before .before .before .before .before .before .before .before) in
-    rw (c .token-sort .ensures) (fits-tokens (c .before .before .before .before .before .before .before .before .before .before .before .before .before .before .before .before .before .before .before .before .before .before .before .before .before .before .before .before .before .before .before .before .before .before .before .before .before .before .args .c) _ (rw size (room (c .before .before .before .before .before .before .before .before .before .before .before .before .before .before .before .before .before .before .before))) (low (c .before .before .before .before .before .before .before .before .before .before .before .before .before .before .before .before .before .before .before)), given .0 .tokens-apart, given .1)
+    rw (c .token-sort .ensures) (fits-tokens (c .before .before .before .before .before .before .before .before .before .before .before .before .before .before .before .before .before .before .before .before .before .before .before .before .before .before .before .before .before .before .before .before .before .before .before .before .before .before .args .c) _ (rw size (room (c .before .before .before .before .before .before .before .before .before .before .before .before .before .before .before .before .before .before .before))) (low (c .before .before .before .before .before .before .before .before .before .before .before .before .before .before .before .before .before .before .before)), given .0 .tokens-apart)
 
 sized : tie.Need-same-length-2
 sized c = c .before .before .mark-excused2 .ensures .size ∙ c .before .before .before .before .before .before .before .mark-tokens .ensures .size ∙ c .before .before .before .before .before .before .before .before .before .before .before .spread .ensures .size ∙ c .before .before .before .before .before .before .before .before .before .before .before .before .before .before .before .mark-excused .ensures .size ∙ c .before .before .before .before .before .before .before .before .before .before .before .before .before .before .before .before .before .before .before .before .mark-start .ensures .size ∙ same (c .before .before .before .before .before .before .before .before .before .before .before .before .before .before .before .before .before .before .before .before .before .before)
