@@ -14,8 +14,16 @@ ghost use Rattle.grammar.specs.Sound.{Tables};
 ghost use Rattle.tables.specs.Table.{cell};
 ghost use Rattle.tables.specs.Layout.{width, implicit, unused, kindName};
 ghost use Rattle.finder.specs.Finder.{LeadsTo, Grown};
+ghost use Rattle.sound.specs.Test.{countAt};
 ghost use Rattle.reach.specs.Reach.{named, ruleSort, tokenSort};
 ghost use Rattle.usage.specs.Report.{Says, Expects, Expected, Implicit, Excused, excusesOf, ExpectedLed, ImplicitLed, Guides, Free, Counted, Wrote, Room, Written, ByBits, BitsLeft, MarkedBits, Reported, StandIn};
+
+// Declarations that few slots are enough for, these slots, and those for as many as a source can have.
+const FEW_EXCUSES: usize = 1024;
+
+const FEW_SLOTS: usize = 2048;
+
+const MANY_SLOTS: usize = 20480;
 
 pub enum Listing {
     // How many rows the report has.
@@ -331,92 +339,160 @@ fn write_free(
     next
 }
 
-// The rows that the bits leave, rules first. The report is zero where it has no room.
-fn list_guided(
-    out: &mut [u32],
+// The same by slots of which nothing is known: they are filled first.
+fn count_by(
     w: &[u32],
     src: &[u8],
     c: Counts,
-    t1: &[u32],
+    names: &[u32],
+    z: Sort,
     t4: &[u32],
     t6: &[u32],
-    t7: &[u32],
-    fr: &[u16],
-    ft: &[u16],
-) -> Listing
-    requires { ⌜ Guides (excusesOf (now src) c (now t4) (now t6)) 1 (now fr) × Guides (excusesOf (now src) c (now t4) (now t6)) 2 (now ft) ⌝ }
-    ensures { λ r. ⌜ ByBits (now (w .entry)) (excusesOf (now (src .entry)) c (now (t4 .entry)) (now (t6 .entry))) (named (now (t7 .entry)) (ruleSort c)) (named (now (t1 .entry)) (tokenSort c)) r (now (out .entry)) (now (out .exit)) ⌝ }
+    fx: &mut [u16],
+) -> usize
+    requires { ⌜ z .base < 2 ^ 40 ⌝ }
+    ensures { λ r. ⌜ Counted (Free (now (w .entry)) (excusesOf (now (src .entry)) c (now (t4 .entry)) (now (t6 .entry))) (named (now (names .entry)) z)) (z .count) r ⌝ }
 {
-    tables::zero(out);
-    let rules = reach::rule_sort(c);
-    let tokens = reach::token_sort(c);
-    let first = count_free(w, src, c, t7, rules, t4, t6, fr);
-    let second = count_free(w, src, c, t1, tokens, t4, t6, ft);
-    if out.len() / 2 < first + second {
-        return Listing::NoRoom;
+    guide(src, c, t4, t6, z.kind, fx);
+    count_free(w, src, c, names, z, t4, t6, fx)
+}
+
+fn write_by(
+    out: &mut [u32],
+    at: usize,
+    w: &[u32],
+    src: &[u8],
+    c: Counts,
+    names: &[u32],
+    z: Sort,
+    t4: &[u32],
+    t6: &[u32],
+    fx: &mut [u16],
+) -> usize
+    requires { ⌜ (z .base < 2 ^ 40) × Room (Free (now w) (excusesOf (now src) c (now t4) (now t6)) (named (now names) z)) (z .count) at (now out) ⌝ }
+    ensures { λ r. ⌜ Written (Free (now (w .entry)) (excusesOf (now (src .entry)) c (now (t4 .entry)) (now (t6 .entry))) (named (now (names .entry)) z)) (z .kind) (z .count) at r (now (out .entry)) (now (out .exit)) ⌝ }
+{
+    guide(src, c, t4, t6, z.kind, fx);
+    write_free(out, at, w, src, c, names, z, t4, t6, fx)
+}
+
+// With few slots, which are soon cleared, and with slots for every grammar that is read.
+fn count_few(
+    w: &[u32],
+    src: &[u8],
+    c: Counts,
+    names: &[u32],
+    z: Sort,
+    t4: &[u32],
+    t6: &[u32],
+) -> usize
+    requires { ⌜ z .base < 2 ^ 40 ⌝ }
+    ensures { λ r. ⌜ Counted (Free (now (w .entry)) (excusesOf (now (src .entry)) c (now (t4 .entry)) (now (t6 .entry))) (named (now (names .entry)) z)) (z .count) r ⌝ }
+{
+    let mut fx = [0u16; FEW_SLOTS];
+    count_by(w, src, c, names, z, t4, t6, &mut fx)
+}
+
+fn count_many(
+    w: &[u32],
+    src: &[u8],
+    c: Counts,
+    names: &[u32],
+    z: Sort,
+    t4: &[u32],
+    t6: &[u32],
+) -> usize
+    requires { ⌜ z .base < 2 ^ 40 ⌝ }
+    ensures { λ r. ⌜ Counted (Free (now (w .entry)) (excusesOf (now (src .entry)) c (now (t4 .entry)) (now (t6 .entry))) (named (now (names .entry)) z)) (z .count) r ⌝ }
+{
+    let mut fx = [0u16; MANY_SLOTS];
+    count_by(w, src, c, names, z, t4, t6, &mut fx)
+}
+
+fn write_few(
+    out: &mut [u32],
+    at: usize,
+    w: &[u32],
+    src: &[u8],
+    c: Counts,
+    names: &[u32],
+    z: Sort,
+    t4: &[u32],
+    t6: &[u32],
+) -> usize
+    requires { ⌜ (z .base < 2 ^ 40) × Room (Free (now w) (excusesOf (now src) c (now t4) (now t6)) (named (now names) z)) (z .count) at (now out) ⌝ }
+    ensures { λ r. ⌜ Written (Free (now (w .entry)) (excusesOf (now (src .entry)) c (now (t4 .entry)) (now (t6 .entry))) (named (now (names .entry)) z)) (z .kind) (z .count) at r (now (out .entry)) (now (out .exit)) ⌝ }
+{
+    let mut fx = [0u16; FEW_SLOTS];
+    write_by(out, at, w, src, c, names, z, t4, t6, &mut fx)
+}
+
+fn write_many(
+    out: &mut [u32],
+    at: usize,
+    w: &[u32],
+    src: &[u8],
+    c: Counts,
+    names: &[u32],
+    z: Sort,
+    t4: &[u32],
+    t6: &[u32],
+) -> usize
+    requires { ⌜ (z .base < 2 ^ 40) × Room (Free (now w) (excusesOf (now src) c (now t4) (now t6)) (named (now names) z)) (z .count) at (now out) ⌝ }
+    ensures { λ r. ⌜ Written (Free (now (w .entry)) (excusesOf (now (src .entry)) c (now (t4 .entry)) (now (t6 .entry))) (named (now (names .entry)) z)) (z .kind) (z .count) at r (now (out .entry)) (now (out .exit)) ⌝ }
+{
+    let mut fx = [0u16; MANY_SLOTS];
+    write_by(out, at, w, src, c, names, z, t4, t6, &mut fx)
+}
+
+// How many declarations may excuse a name; few want few slots.
+fn excuse_count(c: Counts) -> usize
+    ensures { λ r. ⌜ r ≡ countAt c implicit + countAt c unused ⌝ }
+{
+    let implicits = sound::rows_of(c, tables::IMPLICIT) as usize;
+    let expecteds = sound::rows_of(c, tables::UNUSED) as usize;
+    implicits + expecteds
+}
+
+fn count_sort(
+    w: &[u32],
+    src: &[u8],
+    c: Counts,
+    names: &[u32],
+    z: Sort,
+    t4: &[u32],
+    t6: &[u32],
+) -> usize
+    requires { ⌜ z .base < 2 ^ 40 ⌝ }
+    ensures { λ r. ⌜ Counted (Free (now (w .entry)) (excusesOf (now (src .entry)) c (now (t4 .entry)) (now (t6 .entry))) (named (now (names .entry)) z)) (z .count) r ⌝ }
+{
+    if excuse_count(c) <= FEW_EXCUSES {
+        return count_few(w, src, c, names, z, t4, t6);
     }
-    let at = write_free(out, 0, w, src, c, t7, rules, t4, t6, fr);
-    let all = write_free(out, at, w, src, c, t1, tokens, t4, t6, ft);
-    Listing::Unused(all)
+    count_many(w, src, c, names, z, t4, t6)
 }
 
-// The slots are filled first: those that guide rules, and those that guide tokens.
-fn list_by(
+fn write_sort(
     out: &mut [u32],
+    at: usize,
     w: &[u32],
     src: &[u8],
     c: Counts,
-    t1: &[u32],
+    names: &[u32],
+    z: Sort,
     t4: &[u32],
     t6: &[u32],
-    t7: &[u32],
-    fr: &mut [u16],
-    ft: &mut [u16],
-) -> Listing
-    ensures { λ r. ⌜ ByBits (now (w .entry)) (excusesOf (now (src .entry)) c (now (t4 .entry)) (now (t6 .entry))) (named (now (t7 .entry)) (ruleSort c)) (named (now (t1 .entry)) (tokenSort c)) r (now (out .entry)) (now (out .exit)) ⌝ }
+) -> usize
+    requires { ⌜ (z .base < 2 ^ 40) × Room (Free (now w) (excusesOf (now src) c (now t4) (now t6)) (named (now names) z)) (z .count) at (now out) ⌝ }
+    ensures { λ r. ⌜ Written (Free (now (w .entry)) (excusesOf (now (src .entry)) c (now (t4 .entry)) (now (t6 .entry))) (named (now (names .entry)) z)) (z .kind) (z .count) at r (now (out .entry)) (now (out .exit)) ⌝ }
 {
-    guide(src, c, t4, t6, 1, fr);
-    guide(src, c, t4, t6, 2, ft);
-    list_guided(out, w, src, c, t1, t4, t6, t7, fr, ft)
+    if excuse_count(c) <= FEW_EXCUSES {
+        return write_few(out, at, w, src, c, names, z, t4, t6);
+    }
+    write_many(out, at, w, src, c, names, z, t4, t6)
 }
 
-// With few slots, which are soon cleared.
-fn list_few(
-    out: &mut [u32],
-    w: &[u32],
-    src: &[u8],
-    c: Counts,
-    t1: &[u32],
-    t4: &[u32],
-    t6: &[u32],
-    t7: &[u32],
-) -> Listing
-    ensures { λ r. ⌜ ByBits (now (w .entry)) (excusesOf (now (src .entry)) c (now (t4 .entry)) (now (t6 .entry))) (named (now (t7 .entry)) (ruleSort c)) (named (now (t1 .entry)) (tokenSort c)) r (now (out .entry)) (now (out .exit)) ⌝ }
-{
-    let mut fr = [0u16; 2048];
-    let mut ft = [0u16; 2048];
-    list_by(out, w, src, c, t1, t4, t6, t7, &mut fr, &mut ft)
-}
-
-// With slots for every grammar that is read.
-fn list_many(
-    out: &mut [u32],
-    w: &[u32],
-    src: &[u8],
-    c: Counts,
-    t1: &[u32],
-    t4: &[u32],
-    t6: &[u32],
-    t7: &[u32],
-) -> Listing
-    ensures { λ r. ⌜ ByBits (now (w .entry)) (excusesOf (now (src .entry)) c (now (t4 .entry)) (now (t6 .entry))) (named (now (t7 .entry)) (ruleSort c)) (named (now (t1 .entry)) (tokenSort c)) r (now (out .entry)) (now (out .exit)) ⌝ }
-{
-    let mut fr = [0u16; 32768];
-    let mut ft = [0u16; 32768];
-    list_by(out, w, src, c, t1, t4, t6, t7, &mut fr, &mut ft)
-}
-
-// The rows that the bits leave; few declarations want few slots.
+// The rows that the bits leave, rules first. The report is zero where it has no room. One sort's slots are alive at a time.
 fn list_unused(
     out: &mut [u32],
     w: &[u32],
@@ -429,12 +505,17 @@ fn list_unused(
 ) -> Listing
     ensures { λ r. ⌜ ByBits (now (w .entry)) (excusesOf (now (src .entry)) c (now (t4 .entry)) (now (t6 .entry))) (named (now (t7 .entry)) (ruleSort c)) (named (now (t1 .entry)) (tokenSort c)) r (now (out .entry)) (now (out .exit)) ⌝ }
 {
-    let implicits = sound::rows_of(c, tables::IMPLICIT) as usize;
-    let expecteds = sound::rows_of(c, tables::UNUSED) as usize;
-    if implicits + expecteds <= 1024 {
-        return list_few(out, w, src, c, t1, t4, t6, t7);
+    tables::zero(out);
+    let rules = reach::rule_sort(c);
+    let tokens = reach::token_sort(c);
+    let first = count_sort(w, src, c, t7, rules, t4, t6);
+    let second = count_sort(w, src, c, t1, tokens, t4, t6);
+    if out.len() / 2 < first + second {
+        return Listing::NoRoom;
     }
-    list_many(out, w, src, c, t1, t4, t6, t7)
+    let at = write_sort(out, 0, w, src, c, t7, rules, t4, t6);
+    let all = write_sort(out, at, w, src, c, t1, tokens, t4, t6);
+    Listing::Unused(all)
 }
 
 // The list behind a marking. Where the report has no room for it the work bits are zero too.
