@@ -60,7 +60,7 @@ module _ (src : List ℕ) (kind : ℕ) (T : Tables) (X : Indexes) (o : Result) (
       told (λ (r : Result). Sound src (r .counts) (r .singles) (r .tables) (r .indexes)) (sym e)
       (read-sound src kind T X (told (λ (v : Verdict). Full v) (sym h ∙ ap (λ (r : Result). r .answer) e) tt))
 
-  pub accepted-walkable : Walkable src (o .counts) (o .tables .t1) (o .tables .t7) (o .tables .t8) (o .tables .t9) (o .indexes .tokens) (o .indexes .rules)
+  pub accepted-walkable : Walkable src (o .counts) (o .tables .t1) (o .tables .t7) (o .tables .t8) (o .tables .t9) (o .indexes .rules)
   accepted-walkable = sound-walkable src (o .counts) (o .singles) (o .tables) (o .indexes) accepted-sound
 
   pub accepted-judged : (j : Judgement) → j ≡ judged (Accepted i) (first (faults src (o .counts) (o .singles) (o .tables .t1) (o .tables .t2) (o .tables .t4) (o .tables .t5) (o .tables .t6) (o .tables .t7) (o .tables .t8) (o .tables .t9)))

@@ -42,7 +42,7 @@ pub fn judge(
     i1: &[u32],
     i7: &[u32],
 ) -> Judgement
-    requires { ⌜ Walkable (now src) c (now t1) (now t7) (now t8) (now t9) (now i1) (now i7) ⌝ }
+    requires { ⌜ Walkable (now src) c (now t1) (now t7) (now t8) (now t9) (now i7) ⌝ }
     ensures { λ q. ⌜ q ≡ judged (Accepted end) (first (faults (now (src .entry)) c g (now (t1 .entry)) (now (t2 .entry)) (now (t4 .entry)) (now (t5 .entry)) (now (t6 .entry)) (now (t7 .entry)) (now (t8 .entry)) (now (t9 .entry)))) ⌝ }
 {
     match validation::find_fault(src, c, g, t1, t2, t4, t5, t6, t7, t8, t9, i1, i7) {

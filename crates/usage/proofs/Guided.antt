@@ -1,4 +1,4 @@
--- What slots that guide tell: rows entered one by one, and a name met by them. Assumes nothing.
+-- What slots that guide tell: a row that stands in for another, and a name met by them. Assumes nothing.
 use Prim.Native.Nat.{ℕ, _+_, _≤_}
 use mathlib.Core.Path.{_≡_, refl, sym, _∙_}
 use mathlib.Core.List.{List}
@@ -17,15 +17,6 @@ use Rattle.finder.specs.declared.Sought.the-variants.{Seated}
 use Rattle.finder.specs.Finder.{markOf, LeadsTo, LedOf, Met, Tells, Grown}
 use Rattle.finder.proofs.Laws.{mark-some, leads-grown}
 use Rattle.usage.specs.Report.{Excuses, Expects, Expected, Implicit, StandIn, ExpectedLed, Guides}
-
--- rows entered one by one
-module _ (asked : ℕ → Bool) (src : List ℕ) (w k : ℕ) (t : List ℕ) where
-  pub led-grown : (n : ℕ) (ix jx : List ℕ) → LedOf asked src w k n t ix → Grown ix jx → LedOf asked src w k n t jx
-  led-grown n ix jx L G r l y = rw (G .size) (leads-grown ix jx (markOf r) (mark-some r) G (length ix) _ (L r l y))
-
-  pub led-more : (n : ℕ) (ix jx : List ℕ) → LedOf asked src w k n t ix → Grown ix jx → (asked n ≡ true → LeadsTo src w k t jx n) → LedOf asked src w k (n + 1) t jx
-  led-more n ix jx L G N r l y =
-      elim (ℕ-discrete r n) [ yes e ↦ rw e (N (rw e at y)) | no e ↦ led-grown n ix jx L G r (omega arith) y ]
 
 -- the kind is known
 pub guides-kind : (x : Excuses) (fx : List ℕ) (k j : ℕ) → k ≡ j → Guides x j fx → Guides x k fx

@@ -1,14 +1,16 @@
 -- What the functions' proofs cite: what is left of a definition behind each test, and the tests put together. Assumes nothing.
 use Prim.Native.Nat.{ℕ, zero, suc, _+_, _-_, _≤_, _<_}
-use mathlib.Core.Path.{_≡_, refl, sym, _∙_}
+use mathlib.Core.Path.{_≡_, refl, sym, ap, _∙_}
 use mathlib.Core.List.{List, [], _∷_, _++_, append-assoc}
 use mathlib.Core.Bool.{Bool, true, false, _||_, not}
 use native.Mathlib.Omega.{arith}
 use borrow.Author.Tests.{eq-eqb, ne-eqb, not-true, not-false}
 use lib.Dec.{eqb}
 use Rattle.tables.specs.Table.{cell, findName, zeroed}
-use Rattle.tables.specs.Layout.{tokens, precedences, implicit, epps, unused, rules, productions, symbols, keyName, kindName, ruleRow, symbolsFrom, symbolsTo, knownRow, noRow, width}
+use Rattle.tables.specs.Layout.{tokens, precedences, implicit, epps, unused, rules, productions, symbols, keyName, kindName, ruleRow, symbolsFrom, symbolsTo, knownRow, noRow, prec, width}
 use Rattle.tables.specs.declared.Found.{Found}
+use Rattle.tables.specs.Below.{below}
+use Rattle.tables.proofs.Below.{below-on, below-not, below-all}
 use Rattle.tables.proofs.Cases.{find-cases}
 use Rattle.tables.proofs.Ends.{chained-inside}
 use Rattle.symbols.specs.Symbols.{rowNumber, lexicon, namedRow, rowFor, Knows}
@@ -25,7 +27,7 @@ use Rattle.productions.specs.declared.Prec.the-variants.{PrecAt}
 use Rattle.sound.specs.Test.{countAt, soundTest}
 use Rattle.sound.proofs.Iff.{sound-iff}
 use Rattle.validation.specs.Faults.{first, upto, unless, isRow, known, startFaults, precGiven, precFaults, nameFaults, kindFaults, kindsFaults, productionFaults, ofRule, rulesFaults, eppFaults, eppsFaults, faults, validity}
-use Rattle.validation.specs.Walk.{SymbolsKnown, Walkable, symbolFaults, symbolsFaults, failing, AllFaults, allFaults, faultListing}
+use Rattle.validation.specs.Walk.{lacksPrec, hasPrecs, SymbolsKnown, Walkable, symbolFaults, symbolsFaults, failing, AllFaults, allFaults, faultListing}
 use Rattle.validation.specs.declared.Test.the-variants.{Failed}
 use Rattle.validation.specs.declared.Flaw.{Flaw}
 use Rattle.validation.specs.declared.Flaw.the-variants.{NoStartRule, InvalidStartRule, UnknownRuleRef, UnknownTokenRef, UnknownEppKey}
@@ -132,6 +134,17 @@ module _ (t8 : List ℕ) (k r : ℕ) (fs : List Flaw) where
   unfolding isOfRule
   of-other h = rw h
 
+-- whether a production has a `%prec`, production by production
+module _ (t8 : List ℕ) (r v : ℕ) (e : v ≡ cellOf t8 r prec) where
+  pub prec-here : v ≡ 1 → (n : ℕ) → r < n → true ≡ hasPrecs t8 n
+  prec-here h n l = ap not (below-not (lacksPrec t8) r n false l (rw (← e, eq-eqb v 1 h)) refl)
+
+  pub prec-on : (v ≡ 1 → ⊥) → below r (lacksPrec t8) ≡ true → below (r + 1) (lacksPrec t8) ≡ true
+  prec-on h k = below-on (lacksPrec t8) r true k (rw (← e, ne-eqb v 1 h)) refl
+
+pub prec-none : (t8 : List ℕ) (r n : ℕ) → below r (lacksPrec t8) ≡ true → r ≤ n → n ≤ r → false ≡ hasPrecs t8 n
+prec-none t8 r n h k l = ap not (below-all (lacksPrec t8) r n h k l)
+
 -- the tests in two halves, behind the counts of the tables
 module _ (src : List ℕ) (c : Counts) (n1 n7 : ℕ) (h1 : n1 ≡ countAt c tokens) (h7 : n7 ≡ countAt c rules) where
   pub start-rules-are : (t1 t2 t7 t8 t9 : List ℕ) (p : Part) (n2 n8 : ℕ) → n2 ≡ countAt c precedences → n8 ≡ countAt c productions → (fs : List Flaw) → fs ≡ startFaults src p t7 n7 → fs ++ rulesFaults src t1 n1 t2 n2 t7 n7 t8 t9 n8 ≡ startFaults src p t7 (countAt c rules) ++ rulesFaults src t1 (countAt c tokens) t2 (countAt c precedences) t7 (countAt c rules) t8 t9 (countAt c productions)
@@ -140,12 +153,11 @@ module _ (src : List ℕ) (c : Counts) (n1 n7 : ℕ) (h1 : n1 ≡ countAt c toke
   pub epps-unused-are : (t1 t4 t5 t6 t7 : List ℕ) (n4 n5 n6 : ℕ) → n4 ≡ countAt c implicit → n5 ≡ countAt c epps → n6 ≡ countAt c unused → eppsFaults src t1 n1 t4 n4 t5 n5 ++ kindsFaults src (width unused) t6 t1 n1 t7 n7 0 n6 ≡ eppsFaults src t1 (countAt c tokens) t4 (countAt c implicit) t5 (countAt c epps) ++ kindsFaults src (width unused) t6 t1 (countAt c tokens) t7 (countAt c rules) 0 (countAt c unused)
   epps-unused-are t1 t4 t5 t6 t7 n4 n5 n6 h4 h5 h6 = rw (h1, h4, h5, h6, h7)
 
--- sound tables have the indexes that names are looked up by, and symbols that know their rows
-pub sound-walkable : (src : List ℕ) (c : Counts) (g : Singles) (T : Tables) (X : Indexes) → Sound src c g T X → Walkable src c (T .t1) (T .t7) (T .t8) (T .t9) (X .tokens) (X .rules)
+-- sound tables have the index that the start rule is looked up by, and symbols that know their rows
+pub sound-walkable : (src : List ℕ) (c : Counts) (g : Singles) (T : Tables) (X : Indexes) → Sound src c g T X → Walkable src c (T .t1) (T .t7) (T .t8) (T .t9) (X .rules)
 unfolding productionAt
 sound-walkable src c g T X s =
     record {
-      tokens = s .indexes .tokens;
       rules = s .indexes .rules;
       symbols = record { count = countAt c symbols; rows = s .known; inside = λ r h. chained-inside (width productions) symbolsFrom symbolsTo (countAt c productions) (T .t8) (countAt c symbols) (s .ranges) r h (omega arith) };
     }
@@ -157,7 +169,7 @@ module _ (src : List ℕ) (c : Counts) (g : Singles) where
   faults-are t1 t2 t4 t5 t6 t7 t8 t9 = append-assoc (startFaults src (g .start) t7 (countAt c rules)) _ _
 
   module _ (T : Tables) (X : Indexes) (q : Bool) (e : q ≡ soundTest src c g T X) where
-    pub tested-walkable : not q ≡ false → Walkable src c (T .t1) (T .t7) (T .t8) (T .t9) (X .tokens) (X .rules)
+    pub tested-walkable : not q ≡ false → Walkable src c (T .t1) (T .t7) (T .t8) (T .t9) (X .rules)
     tested-walkable h = sound-walkable src c g T X (sound-iff src c g T X .0 (sym e ∙ not-false q h))
 
     pub unsound : not q ≡ true → UnsoundTables ≡ validity src c g T X

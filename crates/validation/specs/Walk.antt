@@ -2,15 +2,16 @@
 -- that writes each fault as a row of table 14, and what the list of all faults gives.
 use Prim.Native.Nat.{ℕ, _+_, _*_, _-_, _/_, _<_, _≤_}
 use mathlib.Core.List.{List, [], _∷_, _++_}
-use mathlib.Core.Bool.{Bool, true, false}
+use mathlib.Core.Bool.{Bool, true, false, not}
 use lib.Dec.{eqb, ltb, leb}
 use lib.ListN.{length, replicate}
 use Rattle.tables.specs.Table.{cell, put, zeroed}
-use Rattle.tables.specs.Layout.{tokens, precedences, rules, productions, symbols, epps, unused, width, faultWidth, kindName, knownRow, noRow}
+use Rattle.tables.specs.Layout.{tokens, precedences, implicit, rules, productions, symbols, epps, unused, prec, width, faultWidth, kindName, knownRow, noRow}
+use Rattle.tables.specs.Below.{below}
 use Rattle.index.specs.Index.{Indexed}
 use Rattle.finder.specs.Finder.{Led}
 use Rattle.symbols.specs.Symbols.{lexicon, Knows}
-use Rattle.productions.specs.Cells.{productionAt}
+use Rattle.productions.specs.Cells.{cellOf, productionAt}
 use Rattle.grammar.specs.declared.Counts.{Counts}
 use Rattle.grammar.specs.declared.Singles.{Singles}
 use Rattle.grammar.specs.Sound.{Tables, Indexes}
@@ -25,18 +26,30 @@ use Rattle.validation.specs.declared.Walk.the-variants.{NextRow, Unwritt
 use Rattle.validation.specs.declared.FaultListing.{FaultListing}
 use Rattle.validation.specs.declared.FaultListing.the-variants.{Faulted, FaultsUnsound, FaultsNoRoom}
 
--- ---- the indexes that names are looked up by
+-- ---- what names are looked up by
 
--- that of n tokens, and that of n rules
-abbrev pub TokenNames : List ℕ → ℕ → List ℕ → List ℕ → Type 0
-TokenNames src n t1 i1 = Indexed src (width tokens) 0 n t1 i1
-
+-- the start rule by the index of n rules
 abbrev pub RuleNames : List ℕ → ℕ → List ℕ → List ℕ → Type 0
 RuleNames src n t7 i7 = Indexed src (width rules) 0 n t7 i7
 
--- the working finder of n precedences, whose table has no index
-abbrev pub PrecedenceNames : List ℕ → ℕ → List ℕ → List ℕ → Type 0
-PrecedenceNames src n t2 fx = Led src (width precedences) 0 n t2 fx
+-- the others by a working finder: a `%prec` where it leads to the n tokens and the m precedences
+abbrev pub PrecNames : List ℕ → List ℕ → ℕ → List ℕ → ℕ → List ℕ → Type 0
+PrecNames src t1 n t2 m fx = Led src (width tokens) 0 n t1 fx × Led src (width precedences) 0 m t2 fx
+
+-- an expected unused name where it leads to the n tokens and the m rules
+abbrev pub SymbolNames : List ℕ → List ℕ → ℕ → List ℕ → ℕ → List ℕ → Type 0
+SymbolNames src t1 n t7 m fx = Led src (width tokens) 0 n t1 fx × Led src (width rules) 0 m t7 fx
+
+-- and the key of an `%epp` where it leads to the n tokens and the m implicit ones
+abbrev pub KeyNames : List ℕ → List ℕ → ℕ → List ℕ → ℕ → List ℕ → Type 0
+KeyNames src t1 n t4 m fx = Led src (width tokens) 0 n t1 fx × Led src (width implicit) 0 m t4 fx
+
+-- whether one of the n productions has a `%prec`
+abbrev pub lacksPrec : List ℕ → ℕ → Bool
+lacksPrec t8 r = not (eqb (cellOf t8 r prec) 1)
+
+abbrev pub hasPrecs : List ℕ → ℕ → Bool
+hasPrecs t8 n = not (below n (lacksPrec t8))
 
 -- document 02, request Five, "The report, validation and the fault list each look a symbol up again": the symbols of the first n productions know their rows
 pub record SymbolsKnown (src t1 : List ℕ) (tokens : ℕ) (t7 : List ℕ) (rules : ℕ) (t8 t9 : List ℕ) (n : ℕ) : Type 0 where
@@ -44,10 +57,9 @@ pub record SymbolsKnown (src t1 : List ℕ) (tokens : ℕ) (t7 : List ℕ) (rule
   pub rows : Knows (lexicon src t1 tokens t7 rules) count t9
   pub inside : (r : ℕ) → r < n → productionAt t8 r .last ≤ count
 
--- what the walk goes by: the indexes of all tokens and rules, and the rows of all symbols
-pub record Walkable (src : List ℕ) (c : Counts) (t1 t7 t8 t9 i1 i7 : List ℕ) : Type 0 where
+-- what the walk goes by: the index of all rules, and the rows of all symbols
+pub record Walkable (src : List ℕ) (c : Counts) (t1 t7 t8 t9 i7 : List ℕ) : Type 0 where
   pub symbols : SymbolsKnown src t1 (countAt c tokens) t7 (countAt c rules) t8 t9 (countAt c productions)
-  pub tokens : Indexed src (width tokens) 0 (countAt c tokens) t1 i1
   pub rules : Indexed src (width rules) 0 (countAt c rules) t7 i7
 
 -- the fault of a symbol by its own cell, and those of symbols from one up to another

@@ -14,26 +14,29 @@ ghost use Rattle.sound.specs.Test.{countAt};
 ghost use Rattle.grammar.specs.Sound.{Tables};
 ghost use Rattle.validation.specs.Faults.{faultCells, known, first, startFaults, precFaults, nameFaults, kindFaults, kindsFaults, productionFaults, ruleFaults, rulesFaults, eppFaults, eppsFaults, faults, validity};
 ghost use Rattle.links.specs.Links.{Linked};
-ghost use Rattle.validation.specs.Walk.{TokenNames, RuleNames, PrecedenceNames, SymbolsKnown, Walkable, symbolFaults, symbolsFaults, failing, Walked, noted, AllFaults, faultListing};
+ghost use Rattle.validation.specs.Walk.{RuleNames, PrecNames, SymbolNames, KeyNames, SymbolsKnown, hasPrecs, Walkable, symbolFaults, symbolsFaults, failing, Walked, noted, AllFaults, faultListing};
 
 // Rules and productions that links are kept for: those of a large dialect, and the most that 65,536 bytes can hold.
 const FEW_RULES: usize = 1024;
 
 const FEW_PRODUCTIONS: usize = 4096;
 
-const MANY_RULES: usize = 16384;
+const MANY_RULES: usize = 14336;
 
 const MANY_PRODUCTIONS: usize = 65536;
 
 // The most productions that are linked: a link has 16 bits, and stands for none too.
 const MOST_LINKED: u32 = 65535;
 
-// Precedences that a small finder is taken for, its slots, and those of a finder for as many as a source can have.
-const FEW_PRECEDENCES: u32 = 512;
+// Names that a small finder is taken for, and its slots.
+const FEW_NAMES: u64 = 512;
 
 const FEW_SLOTS: usize = 1024;
 
-const MANY_SLOTS: usize = 32768;
+// Slots for as many tokens and precedences as a source can have, and for as many tokens, implicit ones and rules.
+const MANY_SLOTS: usize = 40960;
+
+const MOST_SLOTS: usize = 49152;
 
 // What a reading lacks, by the place of the name.
 pub enum Flaw {
@@ -76,17 +79,7 @@ pub enum FaultListing {
     FaultsNoRoom,
 }
 
-// Whether one of the `n` rows has the name, which stands in their first cells.
-pub fn is_known(src: &[u8], t: &[u32], w: u32, n: u32, a: u32, b: u32) -> bool
-    ensures { λ r. ⌜ r ≡ known (now (src .entry)) (now (t .entry)) w n a b ⌝ }
-{
-    match tables::find(src, t, w, tables::NAME, n, a, b) {
-        Found::RowAt(_) => true,
-        Found::NoRow => false,
-    }
-}
-
-// The same by the index of the table.
+// Whether one of the `n` rows has the name, which stands in their first cells; by the index of the table.
 pub fn is_indexed(src: &[u8], t: &[u32], w: u32, n: u32, ix: &[u32], a: u32, b: u32) -> bool
     requires { ⌜ Indexed (now src) w 0 n (now t) (now ix) ⌝ }
     ensures { λ r. ⌜ r ≡ known (now (src .entry)) (now (t .entry)) w n a b ⌝ }
@@ -108,15 +101,45 @@ pub fn is_led(src: &[u8], t: &[u32], w: u32, n: u32, fx: &[u16], a: u32, b: u32)
     }
 }
 
-// The finder leads to each of the `n` rows of table 2, whatever it held before.
-fn guide_precedences(src: &[u8], t2: &[u32], n: u32, fx: &mut [u16])
-    ensures { λ u. ⌜ PrecedenceNames (now (src .entry)) n (now (t2 .entry)) (now (fx .exit)) ⌝ }
+// The finder leads to each row of tables 1 and 2, whatever it held before: what a `%prec` is looked up by.
+fn guide_precs(src: &[u8], t1: &[u32], tokens: u32, t2: &[u32], precedences: u32, fx: &mut [u16])
+    ensures { λ u. ⌜ PrecNames (now (src .entry)) (now (t1 .entry)) tokens (now (t2 .entry)) precedences (now (fx .exit)) ⌝ }
+{
+    finder::enter_rows(
+        src,
+        t2,
+        tables::PRECEDENCE_WIDTH,
+        tables::NAME,
+        precedences,
+        fx,
+    );
+    finder::enter_rows(src, t1, tables::TOKEN_WIDTH, tables::NAME, tokens, fx);
+}
+
+// The same for tables 1, 4 and 7: what the `%epp` keys and the expected unused names are looked up by.
+fn guide_names(src: &[u8], c: Counts, t1: &[u32], t4: &[u32], t7: &[u32], fx: &mut [u16])
+    ensures { λ u. ⌜ KeyNames (now (src .entry)) (now (t1 .entry)) (countAt c tokens) (now (t4 .entry)) (countAt c implicit) (now (fx .exit)) × SymbolNames (now (src .entry)) (now (t1 .entry)) (countAt c tokens) (now (t7 .entry)) (countAt c rules) (now (fx .exit)) ⌝ }
+{
+    let tokens = sound::rows_of(c, tables::TOKENS);
+    let implicit = sound::rows_of(c, tables::IMPLICIT);
+    let rules = sound::rows_of(c, tables::RULES);
+    finder::enter_rows(src, t1, tables::TOKEN_WIDTH, tables::NAME, tokens, fx);
+    finder::enter_rows(src, t4, tables::NAME_WIDTH, tables::NAME, implicit, fx);
+    finder::enter_rows(src, t7, tables::RULE_WIDTH, tables::NAME, rules, fx);
+}
+
+// Whether one of the `n` productions has a `%prec`. Only the time depends on it.
+fn has_precs(t8: &[u32], n: u32) -> bool
+    ensures { λ r. ⌜ r ≡ hasPrecs (now (t8 .entry)) n ⌝ }
 {
     let mut r = 0;
     while r < n {
-        finder::enter(src, t2, tables::PRECEDENCE_WIDTH, tables::NAME, r, fx);
+        if tables::cell(t8, tables::PRODUCTION_WIDTH, r, tables::PREC) == 1 {
+            return true;
+        }
         r += 1;
     }
+    false
 }
 
 pub fn start_fault(src: &[u8], start: Part, t7: &[u32], rules: u32, i7: &[u32]) -> Test
@@ -143,16 +166,15 @@ pub fn prec_fault(
     tokens: u32,
     t2: &[u32],
     precedences: u32,
-    i1: &[u32],
     fx: &[u16],
 ) -> Test
-    requires { ⌜ TokenNames (now src) tokens (now t1) (now i1) × PrecedenceNames (now src) precedences (now t2) (now fx) ⌝ }
+    requires { ⌜ PrecNames (now src) (now t1) tokens (now t2) precedences (now fx) ⌝ }
     ensures { λ r. ⌜ failing r ≡ precFaults (now (src .entry)) p (now (t1 .entry)) tokens (now (t2 .entry)) precedences ⌝ }
 {
     match p {
         Prec::NoPrec => Test::Met,
         Prec::PrecAt(a, b) => {
-            if !is_indexed(src, t1, tables::TOKEN_WIDTH, tokens, i1, a, b) {
+            if !is_led(src, t1, tables::TOKEN_WIDTH, tokens, fx, a, b) {
                 return Test::Failed(Flaw::UnknownPrecToken(a, b));
             }
             if is_led(src, t2, tables::PRECEDENCE_WIDTH, precedences, fx, a, b) {
@@ -174,19 +196,18 @@ pub fn name_fault(
     tokens: u32,
     t7: &[u32],
     rules: u32,
-    i1: &[u32],
-    i7: &[u32],
+    fx: &[u16],
 ) -> Test
-    requires { ⌜ TokenNames (now src) tokens (now t1) (now i1) × RuleNames (now src) rules (now t7) (now i7) ⌝ }
+    requires { ⌜ SymbolNames (now src) (now t1) tokens (now t7) rules (now fx) ⌝ }
     ensures { λ r. ⌜ failing r ≡ nameFaults (now (src .entry)) kind a b (now (t1 .entry)) tokens (now (t7 .entry)) rules ⌝ }
 {
     if kind == 1 {
-        if is_indexed(src, t7, tables::RULE_WIDTH, rules, i7, a, b) {
+        if is_led(src, t7, tables::RULE_WIDTH, rules, fx, a, b) {
             return Test::Met;
         }
         return Test::Failed(Flaw::UnknownRuleRef(a, b));
     }
-    if is_indexed(src, t1, tables::TOKEN_WIDTH, tokens, i1, a, b) {
+    if is_led(src, t1, tables::TOKEN_WIDTH, tokens, fx, a, b) {
         return Test::Met;
     }
     Test::Failed(Flaw::UnknownTokenRef(a, b))
@@ -201,10 +222,9 @@ pub fn unused_fault(
     tokens: u32,
     t7: &[u32],
     rules: u32,
-    i1: &[u32],
-    i7: &[u32],
+    fx: &[u16],
 ) -> Test
-    requires { ⌜ TokenNames (now src) tokens (now t1) (now i1) × RuleNames (now src) rules (now t7) (now i7) ⌝ }
+    requires { ⌜ SymbolNames (now src) (now t1) tokens (now t7) rules (now fx) ⌝ }
     ensures { λ q. ⌜ failing q ≡ kindFaults (now (src .entry)) (width unused) (now (t6 .entry)) (now (t1 .entry)) tokens (now (t7 .entry)) rules r ⌝ }
 {
     let w = tables::UNUSED_WIDTH;
@@ -217,8 +237,7 @@ pub fn unused_fault(
         tokens,
         t7,
         rules,
-        i1,
-        i7,
+        fx,
     )
 }
 
@@ -247,18 +266,18 @@ pub fn epp_fault(
     implicit: u32,
     t5: &[u32],
     r: u32,
-    i1: &[u32],
+    fx: &[u16],
 ) -> Test
-    requires { ⌜ TokenNames (now src) tokens (now t1) (now i1) ⌝ }
+    requires { ⌜ KeyNames (now src) (now t1) tokens (now t4) implicit (now fx) ⌝ }
     ensures { λ q. ⌜ failing q ≡ eppFaults (now (src .entry)) (now (t1 .entry)) tokens (now (t4 .entry)) implicit (now (t5 .entry)) r ⌝ }
 {
     let w = tables::EPP_WIDTH;
     let a = tables::cell(t5, w, r, 2);
     let b = tables::cell(t5, w, r, 3);
-    if is_indexed(src, t1, tables::TOKEN_WIDTH, tokens, i1, a, b) {
+    if is_led(src, t1, tables::TOKEN_WIDTH, tokens, fx, a, b) {
         return Test::Met;
     }
-    if is_known(src, t4, tables::NAME_WIDTH, implicit, a, b) {
+    if is_led(src, t4, tables::NAME_WIDTH, implicit, fx, a, b) {
         return Test::Met;
     }
     Test::Failed(Flaw::UnknownEppKey(tables::cell(t5, w, r, 0), tables::cell(t5, w, r, 1)))
@@ -309,18 +328,17 @@ pub fn note_unused(
     tokens: u32,
     t7: &[u32],
     rules: u32,
-    i1: &[u32],
-    i7: &[u32],
+    fx: &[u16],
     at: usize,
     t14: &mut [u32],
 ) -> Walk
-    requires { ⌜ TokenNames (now src) tokens (now t1) (now i1) × RuleNames (now src) rules (now t7) (now i7) ⌝ }
+    requires { ⌜ SymbolNames (now src) (now t1) tokens (now t7) rules (now fx) ⌝ }
     ensures { λ q. ⌜ _≡_ {A = Walked} (record { answer = q; cells = now (t14 .exit) }) (noted (kindsFaults (now (src .entry)) (width unused) (now (t6 .entry)) (now (t1 .entry)) tokens (now (t7 .entry)) rules 0 n) at (now (t14 .entry))) ⌝ }
 {
     let mut next = at;
     let mut r = 0;
     while r < n {
-        let v = unused_fault(src, t6, r, t1, tokens, t7, rules, i1, i7);
+        let v = unused_fault(src, t6, r, t1, tokens, t7, rules, fx);
         match note(v, next, t14) {
             Walk::NextRow(m) => {
                 next = m;
@@ -367,17 +385,16 @@ pub fn note_production(
     t8: &[u32],
     t9: &[u32],
     r: u32,
-    i1: &[u32],
     at: usize,
     t14: &mut [u32],
     fx: &[u16],
 ) -> Walk
-    requires { ⌜ TokenNames (now src) tokens (now t1) (now i1) × SymbolsKnown (now src) (now t1) tokens (now t7) rules (now t8) (now t9) (r + 1) × PrecedenceNames (now src) precedences (now t2) (now fx) ⌝ }
+    requires { ⌜ SymbolsKnown (now src) (now t1) tokens (now t7) rules (now t8) (now t9) (r + 1) × PrecNames (now src) (now t1) tokens (now t2) precedences (now fx) ⌝ }
     ensures { λ q. ⌜ _≡_ {A = Walked} (record { answer = q; cells = now (t14 .exit) }) (noted (productionFaults (now (src .entry)) (now (t1 .entry)) tokens (now (t2 .entry)) precedences (now (t7 .entry)) rules (now (t8 .entry)) (now (t9 .entry)) r) at (now (t14 .entry))) ⌝ }
 {
     let p = productions::load_production(t8, r);
     let q = p.prec;
-    let v = prec_fault(src, q, t1, tokens, t2, precedences, i1, fx);
+    let v = prec_fault(src, q, t1, tokens, t2, precedences, fx);
     match note(v, at, t14) {
         Walk::NextRow(n) => note_symbols(t9, p.first, p.last, n, t14),
         Walk::Unwritten(f) => Walk::Unwritten(f),
@@ -397,14 +414,13 @@ pub fn note_rule(
     t9: &[u32],
     n: u32,
     k: u32,
-    i1: &[u32],
     heads: &[u16],
     nexts: &[u16],
     at: usize,
     t14: &mut [u32],
     fx: &[u16],
 ) -> Walk
-    requires { ⌜ TokenNames (now src) tokens (now t1) (now i1) × SymbolsKnown (now src) (now t1) tokens (now t7) rules (now t8) (now t9) n × Linked (now t8) 0 n (now heads) (now nexts) × PrecedenceNames (now src) precedences (now t2) (now fx) ⌝ }
+    requires { ⌜ SymbolsKnown (now src) (now t1) tokens (now t7) rules (now t8) (now t9) n × Linked (now t8) 0 n (now heads) (now nexts) × PrecNames (now src) (now t1) tokens (now t2) precedences (now fx) ⌝ }
     ensures { λ q. ⌜ _≡_ {A = Walked} (record { answer = q; cells = now (t14 .exit) }) (noted (ruleFaults (now (src .entry)) (now (t1 .entry)) tokens (now (t2 .entry)) precedences (now (t7 .entry)) rules (now (t8 .entry)) (now (t9 .entry)) n k) at (now (t14 .entry))) ⌝ }
 {
     let mut next = at;
@@ -421,7 +437,6 @@ pub fn note_rule(
             t8,
             t9,
             r,
-            i1,
             next,
             t14,
             fx,
@@ -450,14 +465,13 @@ pub fn note_linked(
     t8: &[u32],
     t9: &[u32],
     n: u32,
-    i1: &[u32],
     heads: &[u16],
     nexts: &[u16],
     at: usize,
     t14: &mut [u32],
     fx: &[u16],
 ) -> Walk
-    requires { ⌜ TokenNames (now src) tokens (now t1) (now i1) × SymbolsKnown (now src) (now t1) tokens (now t7) rules (now t8) (now t9) n × Linked (now t8) 0 n (now heads) (now nexts) × PrecedenceNames (now src) precedences (now t2) (now fx) ⌝ }
+    requires { ⌜ SymbolsKnown (now src) (now t1) tokens (now t7) rules (now t8) (now t9) n × Linked (now t8) 0 n (now heads) (now nexts) × PrecNames (now src) (now t1) tokens (now t2) precedences (now fx) ⌝ }
     ensures { λ q. ⌜ _≡_ {A = Walked} (record { answer = q; cells = now (t14 .exit) }) (noted (rulesFaults (now (src .entry)) (now (t1 .entry)) tokens (now (t2 .entry)) precedences (now (t7 .entry)) rules (now (t8 .entry)) (now (t9 .entry)) n) at (now (t14 .entry))) ⌝ }
 {
     let mut next = at;
@@ -475,7 +489,6 @@ pub fn note_linked(
             t9,
             n,
             k,
-            i1,
             heads,
             nexts,
             next,
@@ -494,7 +507,7 @@ pub fn note_linked(
     Walk::NextRow(next)
 }
 
-// The same with links for as many rules and productions as a large dialect has, and a finder for its precedences.
+// The same with links for as many rules and productions as a large dialect has.
 pub fn note_few(
     src: &[u8],
     t1: &[u32],
@@ -506,18 +519,16 @@ pub fn note_few(
     t8: &[u32],
     t9: &[u32],
     n: u32,
-    i1: &[u32],
     at: usize,
     t14: &mut [u32],
+    fx: &[u16],
 ) -> Walk
-    requires { ⌜ TokenNames (now src) tokens (now t1) (now i1) × SymbolsKnown (now src) (now t1) tokens (now t7) rules (now t8) (now t9) n × (n ≤ 65535) ⌝ }
+    requires { ⌜ SymbolsKnown (now src) (now t1) tokens (now t7) rules (now t8) (now t9) n × (n ≤ 65535) × PrecNames (now src) (now t1) tokens (now t2) precedences (now fx) ⌝ }
     ensures { λ q. ⌜ _≡_ {A = Walked} (record { answer = q; cells = now (t14 .exit) }) (noted (rulesFaults (now (src .entry)) (now (t1 .entry)) tokens (now (t2 .entry)) precedences (now (t7 .entry)) rules (now (t8 .entry)) (now (t9 .entry)) n) at (now (t14 .entry))) ⌝ }
 {
     let mut heads = [0u16; FEW_RULES];
     let mut nexts = [0u16; FEW_PRODUCTIONS];
     links::link(t8, n, &mut heads, &mut nexts);
-    let mut fx = [0u16; FEW_SLOTS];
-    guide_precedences(src, t2, precedences, &mut fx);
     note_linked(
         src,
         t1,
@@ -529,12 +540,11 @@ pub fn note_few(
         t8,
         t9,
         n,
-        i1,
         &heads,
         &nexts,
         at,
         t14,
-        &fx,
+        fx,
     )
 }
 
@@ -550,18 +560,16 @@ pub fn note_many(
     t8: &[u32],
     t9: &[u32],
     n: u32,
-    i1: &[u32],
     at: usize,
     t14: &mut [u32],
+    fx: &[u16],
 ) -> Walk
-    requires { ⌜ TokenNames (now src) tokens (now t1) (now i1) × SymbolsKnown (now src) (now t1) tokens (now t7) rules (now t8) (now t9) n × (n ≤ 65535) ⌝ }
+    requires { ⌜ SymbolsKnown (now src) (now t1) tokens (now t7) rules (now t8) (now t9) n × (n ≤ 65535) × PrecNames (now src) (now t1) tokens (now t2) precedences (now fx) ⌝ }
     ensures { λ q. ⌜ _≡_ {A = Walked} (record { answer = q; cells = now (t14 .exit) }) (noted (rulesFaults (now (src .entry)) (now (t1 .entry)) tokens (now (t2 .entry)) precedences (now (t7 .entry)) rules (now (t8 .entry)) (now (t9 .entry)) n) at (now (t14 .entry))) ⌝ }
 {
     let mut heads = [0u16; MANY_RULES];
     let mut nexts = [0u16; MANY_PRODUCTIONS];
     links::link(t8, n, &mut heads, &mut nexts);
-    let mut fx = [0u16; MANY_SLOTS];
-    guide_precedences(src, t2, precedences, &mut fx);
     note_linked(
         src,
         t1,
@@ -573,16 +581,15 @@ pub fn note_many(
         t8,
         t9,
         n,
-        i1,
         &heads,
         &nexts,
         at,
         t14,
-        &fx,
+        fx,
     )
 }
 
-// And without links, where their cells are too narrow, nor a finder. No source that is read has so many productions.
+// And without links, where their cells are too narrow. No source that is read has so many productions.
 pub fn note_unlinked(
     src: &[u8],
     t1: &[u32],
@@ -594,11 +601,11 @@ pub fn note_unlinked(
     t8: &[u32],
     t9: &[u32],
     n: u32,
-    i1: &[u32],
     at: usize,
     t14: &mut [u32],
+    fx: &[u16],
 ) -> Walk
-    requires { ⌜ TokenNames (now src) tokens (now t1) (now i1) × SymbolsKnown (now src) (now t1) tokens (now t7) rules (now t8) (now t9) n ⌝ }
+    requires { ⌜ SymbolsKnown (now src) (now t1) tokens (now t7) rules (now t8) (now t9) n × PrecNames (now src) (now t1) tokens (now t2) precedences (now fx) ⌝ }
     ensures { λ q. ⌜ _≡_ {A = Walked} (record { answer = q; cells = now (t14 .exit) }) (noted (rulesFaults (now (src .entry)) (now (t1 .entry)) tokens (now (t2 .entry)) precedences (now (t7 .entry)) rules (now (t8 .entry)) (now (t9 .entry)) n) at (now (t14 .entry))) ⌝ }
 {
     let none = [0u16; 0];
@@ -613,17 +620,16 @@ pub fn note_unlinked(
         t8,
         t9,
         n,
-        i1,
         &none,
         &none,
         at,
         t14,
-        &none,
+        fx,
     )
 }
 
-// Rules in order, their productions in order.
-pub fn note_rules(
+// With links for as many rules and productions as there are, and a finder that is given.
+pub fn note_led(
     src: &[u8],
     t1: &[u32],
     tokens: u32,
@@ -634,32 +640,30 @@ pub fn note_rules(
     t8: &[u32],
     t9: &[u32],
     n: u32,
-    i1: &[u32],
     at: usize,
     t14: &mut [u32],
+    fx: &[u16],
 ) -> Walk
-    requires { ⌜ TokenNames (now src) tokens (now t1) (now i1) × SymbolsKnown (now src) (now t1) tokens (now t7) rules (now t8) (now t9) n ⌝ }
+    requires { ⌜ SymbolsKnown (now src) (now t1) tokens (now t7) rules (now t8) (now t9) n × PrecNames (now src) (now t1) tokens (now t2) precedences (now fx) ⌝ }
     ensures { λ q. ⌜ _≡_ {A = Walked} (record { answer = q; cells = now (t14 .exit) }) (noted (rulesFaults (now (src .entry)) (now (t1 .entry)) tokens (now (t2 .entry)) precedences (now (t7 .entry)) rules (now (t8 .entry)) (now (t9 .entry)) n) at (now (t14 .entry))) ⌝ }
 {
     if (rules as usize) < FEW_RULES {
         if (n as usize) < FEW_PRODUCTIONS {
-            if precedences <= FEW_PRECEDENCES {
-                return note_few(
-                    src,
-                    t1,
-                    tokens,
-                    t2,
-                    precedences,
-                    t7,
-                    rules,
-                    t8,
-                    t9,
-                    n,
-                    i1,
-                    at,
-                    t14,
-                );
-            }
+            return note_few(
+                src,
+                t1,
+                tokens,
+                t2,
+                precedences,
+                t7,
+                rules,
+                t8,
+                t9,
+                n,
+                at,
+                t14,
+                fx,
+            );
         }
     }
     if MOST_LINKED < n {
@@ -674,9 +678,9 @@ pub fn note_rules(
             t8,
             t9,
             n,
-            i1,
             at,
             t14,
+            fx,
         );
     }
     note_many(
@@ -690,7 +694,149 @@ pub fn note_rules(
         t8,
         t9,
         n,
-        i1,
+        at,
+        t14,
+        fx,
+    )
+}
+
+// The same with a finder for few tokens and precedences, so that little has to be cleared.
+pub fn note_few_precs(
+    src: &[u8],
+    t1: &[u32],
+    tokens: u32,
+    t2: &[u32],
+    precedences: u32,
+    t7: &[u32],
+    rules: u32,
+    t8: &[u32],
+    t9: &[u32],
+    n: u32,
+    at: usize,
+    t14: &mut [u32],
+) -> Walk
+    requires { ⌜ SymbolsKnown (now src) (now t1) tokens (now t7) rules (now t8) (now t9) n ⌝ }
+    ensures { λ q. ⌜ _≡_ {A = Walked} (record { answer = q; cells = now (t14 .exit) }) (noted (rulesFaults (now (src .entry)) (now (t1 .entry)) tokens (now (t2 .entry)) precedences (now (t7 .entry)) rules (now (t8 .entry)) (now (t9 .entry)) n) at (now (t14 .entry))) ⌝ }
+{
+    let mut fx = [0u16; FEW_SLOTS];
+    guide_precs(src, t1, tokens, t2, precedences, &mut fx);
+    note_led(
+        src,
+        t1,
+        tokens,
+        t2,
+        precedences,
+        t7,
+        rules,
+        t8,
+        t9,
+        n,
+        at,
+        t14,
+        &fx,
+    )
+}
+
+// And for as many as a source can have.
+pub fn note_many_precs(
+    src: &[u8],
+    t1: &[u32],
+    tokens: u32,
+    t2: &[u32],
+    precedences: u32,
+    t7: &[u32],
+    rules: u32,
+    t8: &[u32],
+    t9: &[u32],
+    n: u32,
+    at: usize,
+    t14: &mut [u32],
+) -> Walk
+    requires { ⌜ SymbolsKnown (now src) (now t1) tokens (now t7) rules (now t8) (now t9) n ⌝ }
+    ensures { λ q. ⌜ _≡_ {A = Walked} (record { answer = q; cells = now (t14 .exit) }) (noted (rulesFaults (now (src .entry)) (now (t1 .entry)) tokens (now (t2 .entry)) precedences (now (t7 .entry)) rules (now (t8 .entry)) (now (t9 .entry)) n) at (now (t14 .entry))) ⌝ }
+{
+    let mut fx = [0u16; MANY_SLOTS];
+    guide_precs(src, t1, tokens, t2, precedences, &mut fx);
+    note_led(
+        src,
+        t1,
+        tokens,
+        t2,
+        precedences,
+        t7,
+        rules,
+        t8,
+        t9,
+        n,
+        at,
+        t14,
+        &fx,
+    )
+}
+
+// Rules in order, their productions in order. Without a `%prec` no name is looked up, and no finder is filled.
+pub fn note_rules(
+    src: &[u8],
+    t1: &[u32],
+    tokens: u32,
+    t2: &[u32],
+    precedences: u32,
+    t7: &[u32],
+    rules: u32,
+    t8: &[u32],
+    t9: &[u32],
+    n: u32,
+    at: usize,
+    t14: &mut [u32],
+) -> Walk
+    requires { ⌜ SymbolsKnown (now src) (now t1) tokens (now t7) rules (now t8) (now t9) n ⌝ }
+    ensures { λ q. ⌜ _≡_ {A = Walked} (record { answer = q; cells = now (t14 .exit) }) (noted (rulesFaults (now (src .entry)) (now (t1 .entry)) tokens (now (t2 .entry)) precedences (now (t7 .entry)) rules (now (t8 .entry)) (now (t9 .entry)) n) at (now (t14 .entry))) ⌝ }
+{
+    if !has_precs(t8, n) {
+        let none = [0u16; 0];
+        return note_led(
+            src,
+            t1,
+            tokens,
+            t2,
+            precedences,
+            t7,
+            rules,
+            t8,
+            t9,
+            n,
+            at,
+            t14,
+            &none,
+        );
+    }
+    if tokens as u64 + precedences as u64 <= FEW_NAMES {
+        return note_few_precs(
+            src,
+            t1,
+            tokens,
+            t2,
+            precedences,
+            t7,
+            rules,
+            t8,
+            t9,
+            n,
+            at,
+            t14,
+        );
+    }
+    note_many_precs(
+        src,
+        t1,
+        tokens,
+        t2,
+        precedences,
+        t7,
+        rules,
+        t8,
+        t9,
+        n,
         at,
         t14,
     )
@@ -704,17 +850,17 @@ pub fn note_epps(
     implicit: u32,
     t5: &[u32],
     n: u32,
-    i1: &[u32],
+    fx: &[u16],
     at: usize,
     t14: &mut [u32],
 ) -> Walk
-    requires { ⌜ TokenNames (now src) tokens (now t1) (now i1) ⌝ }
+    requires { ⌜ KeyNames (now src) (now t1) tokens (now t4) implicit (now fx) ⌝ }
     ensures { λ q. ⌜ _≡_ {A = Walked} (record { answer = q; cells = now (t14 .exit) }) (noted (eppsFaults (now (src .entry)) (now (t1 .entry)) tokens (now (t4 .entry)) implicit (now (t5 .entry)) n) at (now (t14 .entry))) ⌝ }
 {
     let mut next = at;
     let mut r = 0;
     while r < n {
-        let v = epp_fault(src, t1, tokens, t4, implicit, t5, r, i1);
+        let v = epp_fault(src, t1, tokens, t4, implicit, t5, r, fx);
         match note(v, next, t14) {
             Walk::NextRow(m) => {
                 next = m;
@@ -738,11 +884,10 @@ pub fn note_start_rules(
     t7: &[u32],
     t8: &[u32],
     t9: &[u32],
-    i1: &[u32],
     i7: &[u32],
     t14: &mut [u32],
 ) -> Walk
-    requires { ⌜ Walkable (now src) c (now t1) (now t7) (now t8) (now t9) (now i1) (now i7) ⌝ }
+    requires { ⌜ Walkable (now src) c (now t1) (now t7) (now t8) (now t9) (now i7) ⌝ }
     ensures { λ q. ⌜ _≡_ {A = Walked} (record { answer = q; cells = now (t14 .exit) }) (noted (startFaults (now (src .entry)) start (now (t7 .entry)) (countAt c rules) ++ rulesFaults (now (src .entry)) (now (t1 .entry)) (countAt c tokens) (now (t2 .entry)) (countAt c precedences) (now (t7 .entry)) (countAt c rules) (now (t8 .entry)) (now (t9 .entry)) (countAt c productions)) 0 (now (t14 .entry))) ⌝ }
 {
     let tokens = sound::rows_of(c, tables::TOKENS);
@@ -762,7 +907,6 @@ pub fn note_start_rules(
             t8,
             t9,
             n,
-            i1,
             at,
             t14,
         ),
@@ -770,7 +914,72 @@ pub fn note_start_rules(
     }
 }
 
-// The `%epp` keys and the expected unused names, the other two.
+// The `%epp` keys and the expected unused names, the other two, by a finder of their names.
+pub fn note_named(
+    src: &[u8],
+    c: Counts,
+    t1: &[u32],
+    t4: &[u32],
+    t5: &[u32],
+    t6: &[u32],
+    t7: &[u32],
+    fx: &[u16],
+    at: usize,
+    t14: &mut [u32],
+) -> Walk
+    requires { ⌜ KeyNames (now src) (now t1) (countAt c tokens) (now t4) (countAt c implicit) (now fx) × SymbolNames (now src) (now t1) (countAt c tokens) (now t7) (countAt c rules) (now fx) ⌝ }
+    ensures { λ q. ⌜ _≡_ {A = Walked} (record { answer = q; cells = now (t14 .exit) }) (noted (eppsFaults (now (src .entry)) (now (t1 .entry)) (countAt c tokens) (now (t4 .entry)) (countAt c implicit) (now (t5 .entry)) (countAt c epps) ++ kindsFaults (now (src .entry)) (width unused) (now (t6 .entry)) (now (t1 .entry)) (countAt c tokens) (now (t7 .entry)) (countAt c rules) 0 (countAt c unused)) at (now (t14 .entry))) ⌝ }
+{
+    let tokens = sound::rows_of(c, tables::TOKENS);
+    let implicit = sound::rows_of(c, tables::IMPLICIT);
+    let epps = sound::rows_of(c, tables::EPPS);
+    let unused = sound::rows_of(c, tables::UNUSED);
+    let rules = sound::rows_of(c, tables::RULES);
+    match note_epps(src, t1, tokens, t4, implicit, t5, epps, fx, at, t14) {
+        Walk::NextRow(n) => note_unused(src, t6, unused, t1, tokens, t7, rules, fx, n, t14),
+        Walk::Unwritten(f) => Walk::Unwritten(f),
+    }
+}
+
+// The same with a finder for few names.
+pub fn note_few_names(
+    src: &[u8],
+    c: Counts,
+    t1: &[u32],
+    t4: &[u32],
+    t5: &[u32],
+    t6: &[u32],
+    t7: &[u32],
+    at: usize,
+    t14: &mut [u32],
+) -> Walk
+    ensures { λ q. ⌜ _≡_ {A = Walked} (record { answer = q; cells = now (t14 .exit) }) (noted (eppsFaults (now (src .entry)) (now (t1 .entry)) (countAt c tokens) (now (t4 .entry)) (countAt c implicit) (now (t5 .entry)) (countAt c epps) ++ kindsFaults (now (src .entry)) (width unused) (now (t6 .entry)) (now (t1 .entry)) (countAt c tokens) (now (t7 .entry)) (countAt c rules) 0 (countAt c unused)) at (now (t14 .entry))) ⌝ }
+{
+    let mut fx = [0u16; FEW_SLOTS];
+    guide_names(src, c, t1, t4, t7, &mut fx);
+    note_named(src, c, t1, t4, t5, t6, t7, &fx, at, t14)
+}
+
+// And for as many as a source can have.
+pub fn note_many_names(
+    src: &[u8],
+    c: Counts,
+    t1: &[u32],
+    t4: &[u32],
+    t5: &[u32],
+    t6: &[u32],
+    t7: &[u32],
+    at: usize,
+    t14: &mut [u32],
+) -> Walk
+    ensures { λ q. ⌜ _≡_ {A = Walked} (record { answer = q; cells = now (t14 .exit) }) (noted (eppsFaults (now (src .entry)) (now (t1 .entry)) (countAt c tokens) (now (t4 .entry)) (countAt c implicit) (now (t5 .entry)) (countAt c epps) ++ kindsFaults (now (src .entry)) (width unused) (now (t6 .entry)) (now (t1 .entry)) (countAt c tokens) (now (t7 .entry)) (countAt c rules) 0 (countAt c unused)) at (now (t14 .entry))) ⌝ }
+{
+    let mut fx = [0u16; MOST_SLOTS];
+    guide_names(src, c, t1, t4, t7, &mut fx);
+    note_named(src, c, t1, t4, t5, t6, t7, &fx, at, t14)
+}
+
+// Where there is neither a key nor an expected name, nothing is looked up, and no finder is filled.
 pub fn note_epps_unused(
     src: &[u8],
     c: Counts,
@@ -779,23 +988,24 @@ pub fn note_epps_unused(
     t5: &[u32],
     t6: &[u32],
     t7: &[u32],
-    i1: &[u32],
-    i7: &[u32],
     at: usize,
     t14: &mut [u32],
 ) -> Walk
-    requires { ⌜ TokenNames (now src) (countAt c tokens) (now t1) (now i1) × RuleNames (now src) (countAt c rules) (now t7) (now i7) ⌝ }
     ensures { λ q. ⌜ _≡_ {A = Walked} (record { answer = q; cells = now (t14 .exit) }) (noted (eppsFaults (now (src .entry)) (now (t1 .entry)) (countAt c tokens) (now (t4 .entry)) (countAt c implicit) (now (t5 .entry)) (countAt c epps) ++ kindsFaults (now (src .entry)) (width unused) (now (t6 .entry)) (now (t1 .entry)) (countAt c tokens) (now (t7 .entry)) (countAt c rules) 0 (countAt c unused)) at (now (t14 .entry))) ⌝ }
 {
+    if sound::rows_of(c, tables::EPPS) == 0 {
+        if sound::rows_of(c, tables::UNUSED) == 0 {
+            let none = [0u16; 0];
+            return note_named(src, c, t1, t4, t5, t6, t7, &none, at, t14);
+        }
+    }
     let tokens = sound::rows_of(c, tables::TOKENS);
     let implicit = sound::rows_of(c, tables::IMPLICIT);
-    let epps = sound::rows_of(c, tables::EPPS);
-    let unused = sound::rows_of(c, tables::UNUSED);
     let rules = sound::rows_of(c, tables::RULES);
-    match note_epps(src, t1, tokens, t4, implicit, t5, epps, i1, at, t14) {
-        Walk::NextRow(n) => note_unused(src, t6, unused, t1, tokens, t7, rules, i1, i7, n, t14),
-        Walk::Unwritten(f) => Walk::Unwritten(f),
+    if tokens as u64 + implicit as u64 + rules as u64 <= FEW_NAMES {
+        return note_few_names(src, c, t1, t4, t5, t6, t7, at, t14);
     }
+    note_many_names(src, c, t1, t4, t5, t6, t7, at, t14)
 }
 
 // The tests behind 44, in their order, from row 0 of table 14 on.
@@ -815,12 +1025,12 @@ pub fn note_faults(
     i7: &[u32],
     t14: &mut [u32],
 ) -> Walk
-    requires { ⌜ Walkable (now src) c (now t1) (now t7) (now t8) (now t9) (now i1) (now i7) ⌝ }
+    requires { ⌜ Walkable (now src) c (now t1) (now t7) (now t8) (now t9) (now i7) ⌝ }
     ensures { λ q. ⌜ _≡_ {A = Walked} (record { answer = q; cells = now (t14 .exit) }) (noted (faults (now (src .entry)) c g (now (t1 .entry)) (now (t2 .entry)) (now (t4 .entry)) (now (t5 .entry)) (now (t6 .entry)) (now (t7 .entry)) (now (t8 .entry)) (now (t9 .entry))) 0 (now (t14 .entry))) ⌝ }
 {
     let start = g.start;
-    match note_start_rules(src, c, start, t1, t2, t7, t8, t9, i1, i7, t14) {
-        Walk::NextRow(at) => note_epps_unused(src, c, t1, t4, t5, t6, t7, i1, i7, at, t14),
+    match note_start_rules(src, c, start, t1, t2, t7, t8, t9, i7, t14) {
+        Walk::NextRow(at) => note_epps_unused(src, c, t1, t4, t5, t6, t7, at, t14),
         Walk::Unwritten(f) => Walk::Unwritten(f),
     }
 }
@@ -841,7 +1051,7 @@ pub fn find_fault(
     i1: &[u32],
     i7: &[u32],
 ) -> Validity
-    requires { ⌜ Walkable (now src) c (now t1) (now t7) (now t8) (now t9) (now i1) (now i7) ⌝ }
+    requires { ⌜ Walkable (now src) c (now t1) (now t7) (now t8) (now t9) (now i7) ⌝ }
     ensures { λ q. ⌜ q ≡ first (faults (now (src .entry)) c g (now (t1 .entry)) (now (t2 .entry)) (now (t4 .entry)) (now (t5 .entry)) (now (t6 .entry)) (now (t7 .entry)) (now (t8 .entry)) (now (t9 .entry))) ⌝ }
 {
     let mut none = [0u32; 1];

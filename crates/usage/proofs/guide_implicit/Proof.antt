@@ -6,9 +6,8 @@ use native.Mathlib.Omega.{arith}
 use denote.Ref.{now}
 use borrow.Author.Needs.{needs}
 use Rattle.finder.specs.Finder.{Grown}
-use Rattle.finder.proofs.Laws.{grown-none, grown-on}
+use Rattle.finder.proofs.Laws.{grown-none, grown-on, led-more}
 use Rattle.usage.specs.Report.{ImplicitLed}
-use Rattle.usage.proofs.Guided.{led-more}
 use Rattle.usage.proofs.guide_implicit.Statement.{statement}
 use Rattle.usage.proofs.guide_implicit.Tie as tie
 

@@ -9,8 +9,8 @@ name-fault-spec =
     tie.close
     (tie.spec
     (λ c κs. search needs)
-    (λ c. name-rule _ _ _ _ _ _ _ _ _ _ (c .before .before .if1 .taken) (c .before .is-indexed .ensures) (c .if2 .taken))
-    (λ c. name-rule _ _ _ _ _ _ _ _ _ _ (c .before .before .if1 .taken) (c .before .is-indexed .ensures) (c .if2 .left))
+    (λ c. name-rule _ _ _ _ _ _ _ _ _ _ (c .before .before .if1 .taken) (c .before .is-led .ensures) (c .if2 .taken))
+    (λ c. name-rule _ _ _ _ _ _ _ _ _ _ (c .before .before .if1 .taken) (c .before .is-led .ensures) (c .if2 .left))
     (λ c κs. search needs)
-    (λ c. name-token _ _ _ _ _ _ _ _ _ _ (c .before .before .if1 .left) (c .before .is-indexed2 .ensures) (c .if3 .taken))
-    (λ c. name-token _ _ _ _ _ _ _ _ _ _ (c .before .before .if1 .left) (c .before .is-indexed2 .ensures) (c .if3 .left)))
+    (λ c. name-token _ _ _ _ _ _ _ _ _ _ (c .before .before .if1 .left) (c .before .is-led2 .ensures) (c .if3 .taken))
+    (λ c. name-token _ _ _ _ _ _ _ _ _ _ (c .before .before .if1 .left) (c .before .is-led2 .ensures) (c .if3 .left)))

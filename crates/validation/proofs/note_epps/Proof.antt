@@ -11,10 +11,10 @@ use Rattle.validation.proofs.note_epps.Statement.{statement}
 use Rattle.validation.proofs.note_epps.Tie as tie
 
 abbrev Inv-loop : tie.InvT-loop
-Inv-loop src t1 tokens t4 implicit t5 n i1 at t14₀ next₀ r₀ t14 next r = (r ≤ n) × (walked (NextRow next) t14 ≡ noted (upto r (eppFaults src t1 tokens t4 implicit t5)) at t14₀)
+Inv-loop src t1 tokens t4 implicit t5 n fx at t14₀ next₀ r₀ t14 next r = (r ≤ n) × (walked (NextRow next) t14 ≡ noted (upto r (eppFaults src t1 tokens t4 implicit t5)) at t14₀)
 
 abbrev μ-loop : tie.MeasureT-loop
-μ-loop src t1 tokens t4 implicit t5 n i1 at t14₀ next₀ r₀ t14 next r = n - r
+μ-loop src t1 tokens t4 implicit t5 n fx at t14₀ next₀ r₀ t14 next r = n - r
 
 loop-again : tie.Need-loop-again Inv-loop μ-loop
 loop-again c =

@@ -7,9 +7,6 @@ use Rattle.validation.proofs.Noted.{walked-length, part-on, part-over}
 use Rattle.validation.proofs.note_faults.Statement.{statement}
 use Rattle.validation.proofs.note_faults.Tie as tie
 
-second-ready : tie.Need-note-epps-unused-requires
-second-ready c κs = let given = c .before .before .before .before .before .before .before .before .before .before .before .before .before .before .before .before .before .before .before .before .pre in (given .tokens, given .rules)
-
 same-length : tie.Need-same-length
 same-length c = walked-length _ _ _ _ _ (c .before .before .note-epps-unused .ensures) ∙ walked-length _ _ _ _ _ (c .before .before .before .before .before .before .before .before .before .note-start-rules .ensures)
 
@@ -32,7 +29,7 @@ note-faults-spec =
     (tie.spec
     (λ c κs. search needs)
     (λ c. search needs)
-    second-ready
+    (λ c κs. search needs)
     (λ c. search needs)
     same-length
     second

@@ -11,10 +11,10 @@ use Rattle.validation.proofs.note_linked.Statement.{statement}
 use Rattle.validation.proofs.note_linked.Tie as tie
 
 abbrev Inv-loop : tie.InvT-loop
-Inv-loop src t1 tokens t2 precedences t7 rules t8 t9 n i1 heads nexts at t14₀ fx next₀ k₀ t14 next k = (k ≤ rules) × (walked (NextRow next) t14 ≡ noted (upto k (ruleFaults src t1 tokens t2 precedences t7 rules t8 t9 n)) at t14₀)
+Inv-loop src t1 tokens t2 precedences t7 rules t8 t9 n heads nexts at t14₀ fx next₀ k₀ t14 next k = (k ≤ rules) × (walked (NextRow next) t14 ≡ noted (upto k (ruleFaults src t1 tokens t2 precedences t7 rules t8 t9 n)) at t14₀)
 
 abbrev μ-loop : tie.MeasureT-loop
-μ-loop src t1 tokens t2 precedences t7 rules t8 t9 n i1 heads nexts at t14₀ fx next₀ k₀ t14 next k = rules - k
+μ-loop src t1 tokens t2 precedences t7 rules t8 t9 n heads nexts at t14₀ fx next₀ k₀ t14 next k = rules - k
 
 loop-again : tie.Need-loop-again Inv-loop μ-loop
 loop-again c =

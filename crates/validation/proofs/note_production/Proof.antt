@@ -21,14 +21,14 @@ same-length-2 c = walked-length _ _ _ _ _ (c .before .before .before .before .be
 -- a production's faults, by the cells of its symbols
 module _ (m : tie.After-note) where
   abbrev start : tie.Start
-  start = m .before .before .before .before .before .before .before .before .before .before .before .before .before
+  start = m .before .before .before .before .before .before .before .before .before .before .before .before
 
   parts : failing (m .before .before .prec-fault .result) ++ symbolsFaults (now (start .args .t9)) (m .before .before .before .load-production .result .first) (m .before .before .before .load-production .result .last)
       ≡ productionFaults (now (start .args .src)) (now (start .args .t1)) (start .args .tokens) (now (start .args .t2)) (start .args .precedences) (now (start .args .t7)) (start .args .rules) (now (start .args .t8)) (now (start .args .t9)) (start .args .r)
   parts =
       let n : start .args .tokens ≤ 4294967295 = let f = start .fits .tokens in omega arith in
       let l : start .args .rules ≤ 4294967295 = let f = start .fits .rules in omega arith in
-      production-is _ _ _ _ _ _ _ _ _ _ (start .pre .1) n l _ _ (m .before .before .before .load-production .ensures) (m .before .before .prec-fault .ensures)
+      production-is _ _ _ _ _ _ _ _ _ _ (start .pre .0) n l _ _ (m .before .before .before .load-production .ensures) (m .before .before .prec-fault .ensures)
 
 symbols : tie.Need-returns
 symbols c =

@@ -18,29 +18,29 @@ use Rattle.validation.proofs.note_rule.Statement.{statement}
 use Rattle.validation.proofs.note_rule.Tie as tie
 
 abbrev Inv-loop : tie.InvT-loop
-Inv-loop src t1 tokens t2 precedences t7 rules t8 t9 n k i1 heads nexts at t14₀ fx next₀ r₀ t14 next r =
+Inv-loop src t1 tokens t2 precedences t7 rules t8 t9 n k heads nexts at t14₀ fx next₀ r₀ t14 next r =
     (r ≤ n)
     × (r < n → isOfRule t8 k r ≡ true)
     × (walked (NextRow next) t14 ≡ noted (upto r (λ i. ofRule (eqb (cellOf t8 i ruleRow) k) (productionFaults src t1 tokens t2 precedences t7 rules t8 t9 i))) at t14₀)
 
 abbrev μ-loop : tie.MeasureT-loop
-μ-loop src t1 tokens t2 precedences t7 rules t8 t9 n k i1 heads nexts at t14₀ fx next₀ r₀ t14 next r = n - r
+μ-loop src t1 tokens t2 precedences t7 rules t8 t9 n k heads nexts at t14₀ fx next₀ r₀ t14 next r = n - r
 
 loop-holds : tie.Need-loop-holds Inv-loop μ-loop
 loop-holds c = walk-next _ _ _ _ _ (c .first-of .ensures) (omega arith) _ _ _ _ _ (walk-start _ _ _)
 
 first-ready : tie.Need-first-of-requires Inv-loop μ-loop
-first-ready c κs = c .before .before .before .before .before .before .before .before .before .before .before .pre .2 .first
+first-ready c κs = c .before .before .before .before .before .before .before .before .before .before .pre .1 .first
 
 production-ready : tie.Need-note-production-requires Inv-loop μ-loop
 production-ready c κs =
-    let given = c .before .before .before .before .before .before .before .before .before .before .before .before .before .before .before .pre in
-    (given .0, fewer-known _ _ _ _ _ _ _ _ _ (c .before .loop-test .taken) (given .1), given .3)
+    let given = c .before .before .before .before .before .before .before .before .before .before .before .before .before .before .pre in
+    (fewer-known _ _ _ _ _ _ _ _ _ (c .before .loop-test .taken) (given .0), given .2)
 
 next-ready : tie.Need-next-of-requires Inv-loop μ-loop
 next-ready c κs =
     let t = c .before .before .before .before .before .before .before .loop-test .taken in
-    (c .before .before .before .before .before .before .before .before .before .before .before .before .before .before .before .before .before .before .before .before .before .pre .2 .later, t, c .before .before .before .before .before .before .before .before .loop .inv .1 t)
+    (c .before .before .before .before .before .before .before .before .before .before .before .before .before .before .before .before .before .before .before .before .pre .1 .later, t, c .before .before .before .before .before .before .before .before .loop .inv .1 t)
 
 loop-again : tie.Need-loop-again Inv-loop μ-loop
 loop-again c =

@@ -1,18 +1,14 @@
 -- `validation::note_unlinked` meets its contract: arrays without cells claim nothing. Assumes nothing.
-use mathlib.Core.Path.{refl}
 use native.Mathlib.Omega.{arith}
-use denote.Ref.{now}
 use borrow.Author.Needs.{needs}
-use Rattle.tables.specs.Layout.{precedences, width}
-use Rattle.validation.proofs.Led.{led-empty}
 use Rattle.validation.proofs.note_unlinked.Statement.{statement}
 use Rattle.validation.proofs.note_unlinked.Tie as tie
 
 ready : tie.Need-note-linked-requires
 ready c κs =
-    let s = c .before .before .before .before .before .before .before .before .before .before .before .before in
-    (s .pre .0, s .pre .1, record { first = λ k h. absurd (omega arith); later = λ r l h j. absurd (omega arith) }, led-empty _ (width precedences) 0 (now (s .args .t2)) _ _ refl)
+    let s = c .before .before .before .before .before .before .before .before .before .before .before in
+    (s .pre .0, record { first = λ k h. absurd (omega arith); later = λ r l h j. absurd (omega arith) }, s .pre .1)
 
 pub note-unlinked-spec : {M : Type 1} → statement M
 note-unlinked-spec =
-    tie.close (tie.spec (λ c. search needs) (λ c. search needs) (λ c. search needs) ready (λ c. search needs) (λ c. search needs))
+    tie.close (tie.spec (λ c. search needs) (λ c. search needs) ready (λ c. search needs) (λ c. search needs))

@@ -12,11 +12,11 @@ use Rattle.validation.proofs.note_unused.Statement.{statement}
 use Rattle.validation.proofs.note_unused.Tie as tie
 
 abbrev Inv-loop : tie.InvT-loop
-Inv-loop src t6 n t1 tokens t7 rules i1 i7 at t14₀ next₀ r₀ t14 next r =
+Inv-loop src t6 n t1 tokens t7 rules fx at t14₀ next₀ r₀ t14 next r =
     (r ≤ n) × (walked (NextRow next) t14 ≡ noted (upto (r - 0) (λ i. kindFaults src (width unused) t6 t1 tokens t7 rules (0 + i))) at t14₀)
 
 abbrev μ-loop : tie.MeasureT-loop
-μ-loop src t6 n t1 tokens t7 rules i1 i7 at t14₀ next₀ r₀ t14 next r = n - r
+μ-loop src t6 n t1 tokens t7 rules fx at t14₀ next₀ r₀ t14 next r = n - r
 
 loop-again : tie.Need-loop-again Inv-loop μ-loop
 loop-again c =
