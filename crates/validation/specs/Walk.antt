@@ -21,6 +21,8 @@ use Rattle.validation.specs.declared.Flaw.{Flaw}
 use Rattle.validation.specs.declared.Flaw.the-variants.{UnknownRuleRef, UnknownTokenRef}
 use Rattle.validation.specs.declared.Test.{Test}
 use Rattle.validation.specs.declared.Test.the-variants.{Met, Failed}
+use Rattle.validation.specs.declared.Validity.{Validity}
+use Rattle.validation.specs.declared.Validity.the-variants.{Valid, Invalid}
 use Rattle.validation.specs.declared.Walk.{Walk}
 use Rattle.validation.specs.declared.Walk.the-variants.{NextRow, Unwritten}
 use Rattle.validation.specs.declared.FaultListing.{FaultListing}
@@ -78,6 +80,11 @@ symbolsFaults t9 from to = upto (to - from) (λ i. symbolFaults t9 (from + i))
 abbrev pub failing : Test → List Flaw
 failing Met = []
 failing (Failed f) = f ∷ []
+
+-- what validation says of a test that comes first
+abbrev pub verdict : Test → Validity
+verdict Met = Valid
+verdict (Failed f) = Invalid f
 
 pub record Walked : Type 0 where
   pub answer : Walk

@@ -14,7 +14,7 @@ ghost use Rattle.sound.specs.Test.{countAt};
 ghost use Rattle.grammar.specs.Sound.{Tables};
 ghost use Rattle.validation.specs.Faults.{faultCells, known, first, startFaults, precFaults, nameFaults, kindFaults, kindsFaults, productionFaults, ruleFaults, rulesFaults, eppFaults, eppsFaults, faults, validity};
 ghost use Rattle.links.specs.Links.{Linked};
-ghost use Rattle.validation.specs.Walk.{RuleNames, PrecNames, SymbolNames, KeyNames, SymbolsKnown, hasPrecs, Walkable, symbolFaults, symbolsFaults, failing, Walked, noted, AllFaults, faultListing};
+ghost use Rattle.validation.specs.Walk.{RuleNames, PrecNames, SymbolNames, KeyNames, SymbolsKnown, hasPrecs, Walkable, symbolFaults, symbolsFaults, failing, verdict, Walked, noted, AllFaults, faultListing};
 
 // Rules and productions that links are kept for: those of a large dialect, and the most that 65,536 bytes can hold.
 const FEW_RULES: usize = 1024;
@@ -1035,7 +1035,212 @@ pub fn note_faults(
     }
 }
 
-// The first fault: the walk over a table that has no row.
+// ---- the first fault alone
+
+// The first fault of production `r`: the walk over a table that has no row.
+pub fn production_fault(
+    src: &[u8],
+    t1: &[u32],
+    tokens: u32,
+    t2: &[u32],
+    precedences: u32,
+    t7: &[u32],
+    rules: u32,
+    t8: &[u32],
+    t9: &[u32],
+    r: u32,
+    fx: &[u16],
+) -> Test
+    requires { ⌜ SymbolsKnown (now src) (now t1) tokens (now t7) rules (now t8) (now t9) (r + 1) × PrecNames (now src) (now t1) tokens (now t2) precedences (now fx) ⌝ }
+    ensures { λ q. ⌜ verdict q ≡ first (productionFaults (now (src .entry)) (now (t1 .entry)) tokens (now (t2 .entry)) precedences (now (t7 .entry)) rules (now (t8 .entry)) (now (t9 .entry)) r) ⌝ }
+{
+    let mut none = [0u32; 1];
+    match note_production(
+        src,
+        t1,
+        tokens,
+        t2,
+        precedences,
+        t7,
+        rules,
+        t8,
+        t9,
+        r,
+        0,
+        &mut none,
+        fx,
+    ) {
+        Walk::NextRow(_) => Test::Met,
+        Walk::Unwritten(f) => Test::Failed(f),
+    }
+}
+
+// The first fault of all rules, in one pass over the `n` productions: that of the foremost rule, and of its first production. No production need be found by its rule.
+pub fn fault_led(
+    src: &[u8],
+    t1: &[u32],
+    tokens: u32,
+    t2: &[u32],
+    precedences: u32,
+    t7: &[u32],
+    rules: u32,
+    t8: &[u32],
+    t9: &[u32],
+    n: u32,
+    fx: &[u16],
+) -> Test
+    requires { ⌜ SymbolsKnown (now src) (now t1) tokens (now t7) rules (now t8) (now t9) n × PrecNames (now src) (now t1) tokens (now t2) precedences (now fx) ⌝ }
+    ensures { λ q. ⌜ verdict q ≡ first (rulesFaults (now (src .entry)) (now (t1 .entry)) tokens (now (t2 .entry)) precedences (now (t7 .entry)) rules (now (t8 .entry)) (now (t9 .entry)) n) ⌝ }
+{
+    let mut best = Test::Met;
+    let mut owner = rules;
+    let mut r = 0;
+    while r < n {
+        let rule = tables::cell(t8, tables::PRODUCTION_WIDTH, r, tables::RULE_ROW);
+        if rule < owner {
+            match production_fault(src, t1, tokens, t2, precedences, t7, rules, t8, t9, r, fx) {
+                Test::Met => {
+                    r += 1;
+                }
+                Test::Failed(f) => {
+                    best = Test::Failed(f);
+                    owner = rule;
+                    r += 1;
+                }
+            }
+        } else {
+            r += 1;
+        }
+    }
+    best
+}
+
+// The same with a finder for few tokens and precedences, and for as many as a source can have.
+pub fn fault_few_precs(
+    src: &[u8],
+    t1: &[u32],
+    tokens: u32,
+    t2: &[u32],
+    precedences: u32,
+    t7: &[u32],
+    rules: u32,
+    t8: &[u32],
+    t9: &[u32],
+    n: u32,
+) -> Test
+    requires { ⌜ SymbolsKnown (now src) (now t1) tokens (now t7) rules (now t8) (now t9) n ⌝ }
+    ensures { λ q. ⌜ verdict q ≡ first (rulesFaults (now (src .entry)) (now (t1 .entry)) tokens (now (t2 .entry)) precedences (now (t7 .entry)) rules (now (t8 .entry)) (now (t9 .entry)) n) ⌝ }
+{
+    let mut fx = [0u16; FEW_SLOTS];
+    guide_precs(src, t1, tokens, t2, precedences, &mut fx);
+    fault_led(src, t1, tokens, t2, precedences, t7, rules, t8, t9, n, &fx)
+}
+
+pub fn fault_many_precs(
+    src: &[u8],
+    t1: &[u32],
+    tokens: u32,
+    t2: &[u32],
+    precedences: u32,
+    t7: &[u32],
+    rules: u32,
+    t8: &[u32],
+    t9: &[u32],
+    n: u32,
+) -> Test
+    requires { ⌜ SymbolsKnown (now src) (now t1) tokens (now t7) rules (now t8) (now t9) n ⌝ }
+    ensures { λ q. ⌜ verdict q ≡ first (rulesFaults (now (src .entry)) (now (t1 .entry)) tokens (now (t2 .entry)) precedences (now (t7 .entry)) rules (now (t8 .entry)) (now (t9 .entry)) n) ⌝ }
+{
+    let mut fx = [0u16; MANY_SLOTS];
+    guide_precs(src, t1, tokens, t2, precedences, &mut fx);
+    fault_led(src, t1, tokens, t2, precedences, t7, rules, t8, t9, n, &fx)
+}
+
+// Without a `%prec` no name is looked up, and no finder is filled.
+pub fn rules_fault(
+    src: &[u8],
+    t1: &[u32],
+    tokens: u32,
+    t2: &[u32],
+    precedences: u32,
+    t7: &[u32],
+    rules: u32,
+    t8: &[u32],
+    t9: &[u32],
+    n: u32,
+) -> Test
+    requires { ⌜ SymbolsKnown (now src) (now t1) tokens (now t7) rules (now t8) (now t9) n ⌝ }
+    ensures { λ q. ⌜ verdict q ≡ first (rulesFaults (now (src .entry)) (now (t1 .entry)) tokens (now (t2 .entry)) precedences (now (t7 .entry)) rules (now (t8 .entry)) (now (t9 .entry)) n) ⌝ }
+{
+    if !has_precs(t8, n) {
+        let none = [0u16; 0];
+        return fault_led(
+            src,
+            t1,
+            tokens,
+            t2,
+            precedences,
+            t7,
+            rules,
+            t8,
+            t9,
+            n,
+            &none,
+        );
+    }
+    if tokens as u64 + precedences as u64 <= FEW_NAMES {
+        return fault_few_precs(src, t1, tokens, t2, precedences, t7, rules, t8, t9, n);
+    }
+    fault_many_precs(src, t1, tokens, t2, precedences, t7, rules, t8, t9, n)
+}
+
+// The first fault of the `%epp` keys and the expected unused names.
+pub fn names_fault(
+    src: &[u8],
+    c: Counts,
+    t1: &[u32],
+    t4: &[u32],
+    t5: &[u32],
+    t6: &[u32],
+    t7: &[u32],
+) -> Validity
+    ensures { λ q. ⌜ q ≡ first (eppsFaults (now (src .entry)) (now (t1 .entry)) (countAt c tokens) (now (t4 .entry)) (countAt c implicit) (now (t5 .entry)) (countAt c epps) ++ kindsFaults (now (src .entry)) (width unused) (now (t6 .entry)) (now (t1 .entry)) (countAt c tokens) (now (t7 .entry)) (countAt c rules) 0 (countAt c unused)) ⌝ }
+{
+    let mut none = [0u32; 1];
+    match note_epps_unused(src, c, t1, t4, t5, t6, t7, 0, &mut none) {
+        Walk::NextRow(_) => Validity::Valid,
+        Walk::Unwritten(f) => Validity::Invalid(f),
+    }
+}
+
+// The first fault of start and rules.
+pub fn start_rules_fault(
+    src: &[u8],
+    c: Counts,
+    start: Part,
+    t1: &[u32],
+    t2: &[u32],
+    t7: &[u32],
+    t8: &[u32],
+    t9: &[u32],
+    i7: &[u32],
+) -> Test
+    requires { ⌜ Walkable (now src) c (now t1) (now t7) (now t8) (now t9) (now i7) ⌝ }
+    ensures { λ q. ⌜ verdict q ≡ first (startFaults (now (src .entry)) start (now (t7 .entry)) (countAt c rules) ++ rulesFaults (now (src .entry)) (now (t1 .entry)) (countAt c tokens) (now (t2 .entry)) (countAt c precedences) (now (t7 .entry)) (countAt c rules) (now (t8 .entry)) (now (t9 .entry)) (countAt c productions)) ⌝ }
+{
+    let rules = sound::rows_of(c, tables::RULES);
+    match start_fault(src, start, t7, rules, i7) {
+        Test::Met => {
+            let tokens = sound::rows_of(c, tables::TOKENS);
+            let precedences = sound::rows_of(c, tables::PRECEDENCES);
+            let n = sound::rows_of(c, tables::PRODUCTIONS);
+            rules_fault(src, t1, tokens, t2, precedences, t7, rules, t8, t9, n)
+        }
+        Test::Failed(f) => Test::Failed(f),
+    }
+}
+
+// The first fault, part by part; the parts behind it are not tested.
 pub fn find_fault(
     src: &[u8],
     c: Counts,
@@ -1054,10 +1259,10 @@ pub fn find_fault(
     requires { ⌜ Walkable (now src) c (now t1) (now t7) (now t8) (now t9) (now i7) ⌝ }
     ensures { λ q. ⌜ q ≡ first (faults (now (src .entry)) c g (now (t1 .entry)) (now (t2 .entry)) (now (t4 .entry)) (now (t5 .entry)) (now (t6 .entry)) (now (t7 .entry)) (now (t8 .entry)) (now (t9 .entry))) ⌝ }
 {
-    let mut none = [0u32; 1];
-    match note_faults(src, c, g, t1, t2, t4, t5, t6, t7, t8, t9, i1, i7, &mut none) {
-        Walk::NextRow(_) => Validity::Valid,
-        Walk::Unwritten(f) => Validity::Invalid(f),
+    let start = g.start;
+    match start_rules_fault(src, c, start, t1, t2, t7, t8, t9, i7) {
+        Test::Met => names_fault(src, c, t1, t4, t5, t6, t7),
+        Test::Failed(f) => Validity::Invalid(f),
     }
 }
 

@@ -1,23 +1,27 @@
--- `validation::find_fault` meets its contract: a walk that has no row to write ends at the first fault. Assumes nothing.
-use native.Mathlib.Omega.{arith}
+-- `validation::find_fault` meets its contract: the names are tested where start and rules have no fault. Assumes nothing.
+use denote.Ref.{now}
 use borrow.Author.Needs.{needs}
-use Rattle.validation.proofs.Noted.{found-none, found-one}
+use Rattle.validation.proofs.Foremost.{faults-behind, faults-before}
 use Rattle.validation.proofs.find_fault.Statement.{statement}
 use Rattle.validation.proofs.find_fault.Tie as tie
 
-none : tie.Need-returns
-none c = found-none _ _ _ _ (omega arith) (c .before .before .before .note-faults .ensures) _ (c .enum-told .given .1)
+returns : tie.Need-returns
+returns c =
+    let a = c .before .before .before .before .before .before .before .before .before .before .before .before .before .before .before .args in
+    faults-behind (now (a .src)) (a .c) (a .g) (now (a .t1)) (now (a .t2)) (now (a .t4)) (now (a .t5)) (now (a .t6)) (now (a .t7)) (now (a .t8)) (now (a .t9)) _ (c .before .before .before .start-rules-fault .ensures) (c .before .enum-told .given .1) _ (c .names-fault .ensures)
 
-one : tie.Need-returns-2
-one c = found-one _ _ _ _ (omega arith) (c .before .before .before .before .note-faults .ensures) _ (c .before .f .given .1)
+returns-2 : tie.Need-returns-2
+returns-2 c =
+    let a = c .before .before .before .before .before .before .before .before .before .before .before .before .before .before .before .args in
+    faults-before (now (a .src)) (a .c) (a .g) (now (a .t1)) (now (a .t2)) (now (a .t4)) (now (a .t5)) (now (a .t6)) (now (a .t7)) (now (a .t8)) (now (a .t9)) _ (c .before .before .before .start-rules-fault .ensures) _ (c .before .f .given .1)
 
 pub find-fault-spec : {M : Type 1} → statement M
 find-fault-spec =
     tie.close
     (tie.spec
+    (λ c κs. search needs)
     (λ c. search needs)
     (λ c κs. search needs)
     (λ c. search needs)
-    (λ c. search needs)
-    none
-    one)
+    returns
+    returns-2)

@@ -1,0 +1,27 @@
+-- `validation::rules_fault` meets its contract: a finder without slots leads every name to the search. Assumes nothing.
+use mathlib.Core.Path.{refl}
+use denote.Ref.{now}
+use borrow.Author.Needs.{needs}
+use Rattle.tables.specs.Layout.{tokens, precedences, width}
+use Rattle.finder.proofs.Laws.{led-empty}
+use Rattle.validation.proofs.rules_fault.Statement.{statement}
+use Rattle.validation.proofs.rules_fault.Tie as tie
+
+fault-led-requires : tie.Need-fault-led-requires
+fault-led-requires c κs =
+    let s = c .before .before .before .before .before .before .before .before .before in
+    (s .pre, (led-empty _ (width tokens) 0 (now (s .args .t1)) _ _ refl, led-empty _ (width precedences) 0 (now (s .args .t2)) _ _ refl))
+
+pub rules-fault-spec : {M : Type 1} → statement M
+rules-fault-spec =
+    tie.close
+    (tie.spec
+    (λ c κs. search needs)
+    (λ c. search needs)
+    fault-led-requires
+    (λ c. search needs)
+    (λ c. search needs)
+    (λ c κs. search needs)
+    (λ c. search needs)
+    (λ c κs. search needs)
+    (λ c. search needs))
