@@ -2,7 +2,7 @@
 ghost use mathlib.Core.Path.{_≡_};
 ghost use Prim.Native.Nat.{_≤_};
 ghost use lib.ListN.{length};
-ghost use Rattle.scan.specs.Scan.{isAt, startsAt, isLetter, isDigit, isEol, inClass, runEndAt, Runs};
+ghost use Rattle.scan.specs.Scan.{isAt, startsAt, isLetter, isDigit, isEol, inClass, runEndAt, eightAt, Runs};
 ghost use Rattle.scan.specs.Lines.{linesAt};
 
 // A part of the source: its first byte, and the byte behind its last.
@@ -21,6 +21,13 @@ pub enum Class {
     LineByte,
     // No line feed, and not the quote that is given.
     Unquoted(u8),
+    // No line end, and no `*`.
+    CommentByte,
+    // Plain bytes of an action, no line end and no brace among them.
+    TextByte,
+    // A code point by itself that is no blank.
+    Graphic,
+    Ascii,
 }
 
 // Whether the byte at `k` is `b`.
@@ -79,6 +86,10 @@ pub fn in_class(c: u8, class: Class) -> bool
         Class::Digit => is_digit(c),
         Class::LineByte => !is_eol(c),
         Class::Unquoted(q) => (c != q) & (c != 10),
+        Class::CommentByte => !is_eol(c) & (c != b'*'),
+        Class::TextByte => (13 < c) & (c < b'{'),
+        Class::Graphic => (32 < c) & (c < 127),
+        Class::Ascii => c < 128,
     }
 }
 
@@ -97,6 +108,38 @@ pub fn run_end(s: &[u8], from: usize, class: Class) -> usize
         i += 1;
     }
     i
+}
+
+// Whether the eight bytes from `i` on are of the class; not so, where there are not so many.
+fn eight_in(s: &[u8], i: usize, class: Class) -> bool
+    requires { ⌜ i ≤ length (now s) ⌝ }
+    ensures { λ r. ⌜ r ≡ eightAt (inClass class) (now (s .entry)) i ⌝ }
+{
+    if s.len() - i < 8 {
+        return false;
+    }
+    // no test waits for another: straight code
+    in_class(s[i], class)
+        & in_class(s[i + 1], class)
+        & in_class(s[i + 2], class)
+        & in_class(s[i + 3], class)
+        & in_class(s[i + 4], class)
+        & in_class(s[i + 5], class)
+        & in_class(s[i + 6], class)
+        & in_class(s[i + 7], class)
+}
+
+// The same end as `run_end`, eight bytes at a time: for long runs.
+pub fn far_end(s: &[u8], from: usize, class: Class) -> usize
+    requires { ⌜ from ≤ length (now s) ⌝ }
+    ensures { λ r. ⌜ r ≡ runEndAt (inClass class) (now (s .entry)) from ⌝ }
+    ensures { λ r. ⌜ Runs (inClass class) (now (s .entry)) from r ⌝ }
+{
+    let mut i = from;
+    while eight_in(s, i, class) {
+        i += 8;
+    }
+    run_end(s, i, class)
 }
 
 // How many lines end with the byte at `k`: one with an LF, or with a CR that no LF follows; none past the end.

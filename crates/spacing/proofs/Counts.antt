@@ -1,10 +1,9 @@
 -- Lines that spacing has counted stay counted, a line end that it passed is counted, and so is that of a `//` comment. Assumes nothing.
 use Prim.Native.Nat.{ℕ, _+_, _≤_, _<_}
-use mathlib.Core.Path.{_≡_, refl, sym, _∙_}
+use mathlib.Core.Path.{_≡_, refl}
 use mathlib.Core.List.{List, [], _∷_}
 use mathlib.Core.Bool.{Bool, true, false, not, _&&_, false≢true}
 use mathlib.Core.Logic.{⊎-elim}
-use native.Mathlib.Decide.{decLt}
 use native.Mathlib.Omega.{arith}
 use lib.Dec.{eqb}
 use lib.ListN.{length, getD, drop}
@@ -14,6 +13,7 @@ use Rattle.scan.specs.Scan.{isEol, inClass, begins, startsAt, Runs}
 use Rattle.scan.specs.Lines.{linesHere, linesAt}
 use Rattle.scan.proofs.Bytes.{on-test, told, starts-fits, starts-byte}
 use Rattle.scan.proofs.Lines.{here-pair}
+use Rattle.scan.proofs.Runs.{run-past, run-tail}
 use Rattle.spacing.specs.Spacing.{isBlank, Mode, gap, slash, line, comment, spacing, spacingAt, spacesAt, AtLeast}
 use Rattle.spacing.specs.declared.Spaced.{Spaced}
 use Rattle.spacing.specs.declared.Spaced.the-variants.{To, LineEnd, OpenComment}
@@ -69,8 +69,5 @@ module _ (ok : Bool) where
       slash-on c q = rw q
 
       -- the first byte of the comment is no line end, so the run goes on behind it
-      past : getD s i 0 ≡ 47 → i < e
-      past q = elim (decLt i e) [ yes y ↦ y | no y ↦ absurd (false≢true (sym (told (λ j. inClass LineByte (getD s j 0) ≡ false) {x = e} {y = i} (let u = x .onward in omega arith) (x .stops l)) ∙ slash-on _ q)) ]
-
       behind : getD s i 0 ≡ 47 → Runs (inClass LineByte) s (i + 1) e
-      behind q = let p = past q in record { onward = omega arith; inside = x .inside; each = λ k u v. x .each k (omega arith) v; stops = x .stops }
+      behind q = run-tail (inClass LineByte) s i e x (run-past (inClass LineByte) s i e x (let u = x .onward in omega arith) (slash-on _ q))

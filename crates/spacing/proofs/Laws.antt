@@ -1,18 +1,19 @@
 -- One law for each way through `spacing`, from what the arms of a `match` on a byte know, as rules for `search`: the goal shows the index,
 -- the count and the answer r. At a known byte the definition computes, so an arm of one number wants `drop-key` alone. Assumes nothing.
-use Prim.Native.Nat.{ℕ, zero, suc, _+_, _-_, _≤_, _<_}
+use Prim.Native.Nat.{ℕ, _+_, _≤_, _<_}
 use mathlib.Core.Path.{_≡_, refl, sym, _∙_}
 use mathlib.Core.List.{List, [], _∷_}
-use mathlib.Core.Bool.{Bool, true, false, not}
+use mathlib.Core.Bool.{Bool, true, false, not, and-eq-true-iff}
 use mathlib.Core.Logic.{_⊎_, inl, inr, ⊎-elim}
-use native.Mathlib.Omega.{arith}
+use lib.Dec.{eqb}
 use lib.ListN.{length, getD, drop, drop-of-length-le}
 use borrow.Author.Tests.{eq-eqb, ne-eqb, not-true, not-false}
 use types.Run.{OneOf}
-use Rattle.scan.specs.declared.Class.the-variants.{LineByte}
+use Rattle.scan.specs.declared.Class.the-variants.{LineByte, CommentByte}
 use Rattle.scan.specs.Scan.{isEol, isAt, inClass, Runs}
 use Rattle.scan.specs.Lines.{linesAt}
 use Rattle.scan.proofs.Bytes.{drop-at, drop-key, ends, eol-yes, eol-no, at-true, at-here, le-or-lt}
+use Rattle.scan.proofs.Runs.{run-keeps}
 use Rattle.spacing.specs.Spacing.{isBlank, gap, slash, line, comment, spacing, spacingAt}
 use Rattle.spacing.specs.declared.Spaced.{Spaced}
 use Rattle.spacing.specs.declared.Spaced.the-variants.{To, LineEnd, OpenComment}
@@ -91,21 +92,9 @@ line-byte c true e = not-false (isEol c) e
 line-byte c false e = not-true (isEol c) e
 
 module _ (ok : Bool) (s : List ℕ) (n : ℕ) (r : Spaced) where
-  along : (m i : ℕ) → i + m ≤ length s → ((k : ℕ) → i ≤ k → k < i + m → inClass LineByte (getD s k 0) ≡ true) → spacingAt ok line s i n ≡ r → spacingAt ok line s (i + m) n ≡ r
-  along zero i h each inv = let e : i + 0 ≡ i = omega arith in rw e inv
-  along (suc m) i h each inv =
-      let e : i + suc m ≡ i + 1 + m = omega arith in
-      rw e
-      (along m (i + 1) (omega arith) (λ k a b. each k (omega arith) (omega arith))
-      (l-on ok s i n r inv (omega arith) (line-byte _ false (each i (omega arith) (omega arith)))))
-
   module _ (i e : ℕ) (inv : spacingAt ok gap s i n ≡ r) (h : i < length s) (c : getD s i 0 ≡ 47) (k : i + 1 < length s) (d : getD s (i + 1) 0 ≡ 47) (x : Runs (inClass LineByte) s (i + 1) e) where
     to-end : spacingAt ok line s e n ≡ r
-    to-end =
-        let u = x .onward in
-        let v = x .inside in
-        let z : i + 1 + (e - (i + 1)) ≡ e = omega arith in
-        rw z at (along (e - (i + 1)) (i + 1) (omega arith) (λ j a b. x .each j a (omega arith)) (a-line ok s i n r inv h c k d))
+    to-end = run-keeps (λ j. spacingAt ok line s j n ≡ r) (inClass LineByte) s (i + 1) e x (λ j l t v. l-on ok s j n r v l (line-byte _ false t)) (a-line ok s i n r inv h c k d)
 
     pub a-line-last : length s ≤ e → spacingAt ok gap s e n ≡ r
     a-line-last l = l-end ok s e n r to-end l
@@ -139,9 +128,15 @@ module _ (ok : Bool) (s : List ℕ) (b k n : ℕ) (r : Spaced) (inv : spacingAt 
     unfolding spacing spacingAt
     c-refused o f = rw (drop-at s k h, eol-yes _ o, f, spacing) at inv
 
-    pub c-on : (OneOf ends (getD s k 0) → ⊥) → (getD s k 0 ≡ 42 → ⊥) → spacingAt ok (comment b false) s (k + 1) n ≡ r
+    c-on : (OneOf ends (getD s k 0) → ⊥) → (getD s k 0 ≡ 42 → ⊥) → spacingAt ok (comment b false) s (k + 1) n ≡ r
     unfolding spacing spacingAt
     c-on a f = rw (drop-at s k h, eol-no _ a, ne-eqb _ _ f, spacing) at inv
+
+    c-byte : inClass CommentByte (getD s k 0) ≡ true → spacingAt ok (comment b false) s (k + 1) n ≡ r
+    unfolding spacing spacingAt inClass
+    c-byte t =
+        let x = and-eq-true-iff _ _ .0 t in
+        rw (drop-at s k h, not-true (isEol (getD s k 0)) (x .0), not-true (eqb (getD s k 0) 42) (x .1), spacing) at inv
 
     c-eol : OneOf ends (getD s k 0) → not ok ≡ false → spacingAt ok (comment b true) s (k + 1) (n + linesAt s k) ≡ r
     unfolding spacing spacingAt linesAt
@@ -163,3 +158,8 @@ module _ (ok : Bool) (s : List ℕ) (b k n : ℕ) (r : Spaced) (inv : spacingAt 
 
       pub c-star-close : getD s k 0 ≡ 42 → f ≡ true → spacingAt ok gap s (k + 1 + 1) n ≡ r
       c-star-close e t = behind-close ok s b (k + 1) n r f (c-star e) q t
+
+-- a byte that is neither line end nor `*`, and a run of such behind it
+pub c-run : (ok : Bool) (s : List ℕ) (b k n e : ℕ) (r : Spaced) → spacingAt ok (comment b false) s k n ≡ r → k < length s → Runs (inClass CommentByte) s (k + 1) e → (OneOf ends (getD s k 0) → ⊥) → (getD s k 0 ≡ 42 → ⊥) → spacingAt ok (comment b false) s e n ≡ r
+c-run ok s b k n e r inv h x o f =
+    run-keeps (λ j. spacingAt ok (comment b false) s j n ≡ r) (inClass CommentByte) s (k + 1) e x (λ j l t v. c-byte ok s b j n r v l t) (c-on ok s b k n r inv h o f)

@@ -42,7 +42,7 @@ pub fn parse_ws(s: &[u8], from: usize, ends_allowed: bool) -> Spaced
                 let d = s[j];
                 match d {
                     47 => {
-                        let e = scan::run_end(s, j, Class::LineByte);
+                        let e = scan::far_end(s, j, Class::LineByte);
                         if s.len() <= e {
                             i = e;
                         } else {
@@ -76,7 +76,9 @@ pub fn parse_ws(s: &[u8], from: usize, ends_allowed: bool) -> Spaced
                                         break 'comment;
                                     }
                                 }
-                                _ => {}
+                                _ => {
+                                    k = scan::far_end(s, k, Class::CommentByte);
+                                }
                             }
                         }
                         i = k;

@@ -2,18 +2,20 @@
 use Prim.Native.Nat.{ℕ, _+_, _-_, _≤_, _<_}
 use mathlib.Core.Path.{_≡_, refl, sym, _∙_, ap}
 use mathlib.Core.List.{List, [], _∷_}
-use mathlib.Core.Bool.{Bool, true, false, not}
+use mathlib.Core.Bool.{Bool, true, false, not, and-eq-true-iff}
 use mathlib.Core.Logic.{⊎-elim}
 use native.Mathlib.Omega.{arith}
 use lib.Dec.{eqb}
 use lib.ListN.{length, getD, drop, drop-of-length-le}
-use borrow.Author.Tests.{eq-eqb, ne-eqb, eqb-true, not-true, not-false}
+use borrow.Author.Tests.{eq-eqb, ne-eqb, eqb-true, ltb-true, not-true, not-false}
 use types.Run.{OneOf}
 use Rattle.scan.specs.declared.Place.{Place}
-use Rattle.scan.specs.Scan.{isEol, isAt}
+use Rattle.scan.specs.declared.Class.the-variants.{TextByte}
+use Rattle.scan.specs.Scan.{isEol, isAt, inClass, Runs}
 use Rattle.scan.specs.Lines.{linesHere, linesAt}
 use Rattle.scan.proofs.Bytes.{drop-at, drop-key, ends, eol-yes, eol-no, at-below, at-here, at-next, le-or-lt, on-test, drop-below, drop-next, drop-byte, drop-ended}
 use Rattle.scan.proofs.Lines.{here-few}
+use Rattle.scan.proofs.Runs.{run-keeps}
 use Rattle.trim.specs.Trim.{trimmed}
 use Rattle.trim.proofs.Inside.{trim-inside}
 use Rattle.texts.specs.Colon.{Mode, plain, colon, single, singleFrom, singleAt, colonText, colonTextAt, Singled, ColonTexts}
@@ -91,9 +93,21 @@ module _ (d : ℕ) (s : List ℕ) (j n : ℕ) (r : Brace) (inv : bracedFrom d s 
     unfolding braced bracedFrom linesAt
     b-eol m o q = rw q (rw (drop-at s j h, end-no _ 123 o (omega arith), end-no _ 125 o (omega arith), eol-yes _ o, braced) at inv)
 
-    pub b-on : (OneOf ends (getD s j 0) → ⊥) → (getD s j 0 ≡ 123 → ⊥) → (getD s j 0 ≡ 125 → ⊥) → bracedFrom d s (j + 1) n ≡ r
+    b-on : (OneOf ends (getD s j 0) → ⊥) → (getD s j 0 ≡ 123 → ⊥) → (getD s j 0 ≡ 125 → ⊥) → bracedFrom d s (j + 1) n ≡ r
     unfolding braced bracedFrom
     b-on o f g = rw (drop-at s j h, ne-eqb _ _ f, ne-eqb _ _ g, eol-no _ o, braced) at inv
+
+    b-text : inClass TextByte (getD s j 0) ≡ true → bracedFrom d s (j + 1) n ≡ r
+    unfolding inClass
+    b-text t =
+        let x = and-eq-true-iff _ _ .0 t in
+        let u : 13 < getD s j 0 = ltb-true _ _ (x .0) in
+        let v : getD s j 0 < 123 = ltb-true _ _ (x .1) in
+        b-on (λ o. ⊎-elim (λ e. absurd (omega arith)) (λ e. absurd (omega arith)) o) (λ e. omega arith) (λ e. omega arith)
+
+-- such a byte, and a run of plain ones behind it
+pub b-run : (d : ℕ) (s : List ℕ) (j n e : ℕ) (r : Brace) → bracedFrom d s j n ≡ r → j < length s → Runs (inClass TextByte) s (j + 1) e → (OneOf ends (getD s j 0) → ⊥) → (getD s j 0 ≡ 123 → ⊥) → (getD s j 0 ≡ 125 → ⊥) → bracedFrom d s e n ≡ r
+b-run d s j n e r inv h x o f g = run-keeps (λ k. bracedFrom d s k n ≡ r) (inClass TextByte) s (j + 1) e x (λ k l t v. b-text d s k n r v l t) (b-on d s j n r inv h o f g)
 
 -- where the scans end
 module _ (s : List ℕ) (from : ℕ) where

@@ -40,7 +40,7 @@ pub fn parse_to_eol(s: &[u8], from: usize) -> usize
     ensures { λ r. ⌜ r ≡ lineEndAt (now (s .entry)) from ⌝ }
     ensures { λ r. ⌜ Lined (now (s .entry)) from r ⌝ }
 {
-    scan::run_end(s, from, Class::LineByte)
+    scan::far_end(s, from, Class::LineByte)
 }
 
 pub fn single_colon(s: &[u8], from: usize) -> Colon
@@ -111,7 +111,7 @@ pub fn closing_brace(s: &[u8], from: usize) -> Brace
                 j += 1;
             }
             _ => {
-                j += 1;
+                j = scan::far_end(s, j + 1, Class::TextByte);
             }
         }
     }

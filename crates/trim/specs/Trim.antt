@@ -3,9 +3,11 @@ use Prim.Native.Nat.{ℕ, suc, _+_, _-_, _≤_, _<_}
 use mathlib.Core.List.{List}
 use mathlib.Core.Bool.{true, false}
 use lib.Dec.{ltb, eqb}
-use lib.ListN.{length}
+use lib.ListN.{length, take}
 use Rattle.scan.specs.Loop.{Turn, more, stop, turns}
 use Rattle.scan.specs.declared.Place.{Place}
+use Rattle.scan.specs.declared.Class.the-variants.{Graphic}
+use Rattle.scan.specs.Scan.{inClass, runEndAt}
 use Rattle.utf8.specs.White.{isWhite}
 use Rattle.utf8.specs.Utf8.{decodeAt}
 use Rattle.utf8.specs.declared.Decoded.{Decoded}
@@ -30,6 +32,10 @@ endOf (Kept j) = j
 -- Document 01: "All places are byte offsets, half open": what is passed has at least one byte and lies in the source.
 abbrev pub Passes : List ℕ → ℕ → Passed → Type 0
 Passes s i r = (i < endOf r) × (endOf r ≤ length s)
+
+-- where the graphic bytes from index i on end, in front of index `to`
+unfoldable pub plainEnd : List ℕ → ℕ → ℕ → ℕ
+plainEnd s i to = runEndAt (inClass Graphic) (take to s) i
 
 -- Document 01, a "trimmed text" under way: index i is reached, and what was kept so far runs from `from` to `to`; nothing, where these are the same.
 pub record Trim : Type 0 where

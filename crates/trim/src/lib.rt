@@ -1,10 +1,11 @@
 // The part of a region that is left when blanks are taken off at both ends.
+use scan::Class;
 use scan::Place;
 use utf8::Decoded;
 ghost use mathlib.Core.Path.{_≡_};
 ghost use Prim.Native.Nat.{_≤_, _<_};
 ghost use lib.ListN.{length};
-ghost use Rattle.trim.specs.Trim.{passedAt, Passes, trimmed, Inside};
+ghost use Rattle.trim.specs.Trim.{passedAt, Passes, plainEnd, trimmed, Inside};
 
 // One code point, by its end: a blank, or one that is kept. A byte that begins no well-formed sequence is kept.
 pub enum Passed {
@@ -29,6 +30,15 @@ pub fn pass(s: &[u8], i: usize) -> Passed
     }
 }
 
+// The end of the graphic bytes from `i` on, none of which is a blank; in front of `to`, as such bytes may go on far behind it.
+fn plain_end(s: &[u8], i: usize, to: usize) -> usize
+    requires { ⌜ i ≤ to ⌝ }
+    requires { ⌜ to ≤ length (now s) ⌝ }
+    ensures { λ r. ⌜ r ≡ plainEnd (now (s .entry)) i to ⌝ }
+{
+    scan::far_end(&s[..to], i, Class::Graphic)
+}
+
 // The region from `from` to `to`, trimmed; nothing is kept as long as `start` is `end`.
 pub fn trim(s: &[u8], from: usize, to: usize) -> Place
     requires { ⌜ to ≤ length (now s) ⌝ }
@@ -39,16 +49,25 @@ pub fn trim(s: &[u8], from: usize, to: usize) -> Place
     let mut start = from;
     let mut end = from;
     while i < to {
-        match pass(s, i) {
-            Passed::White(j) => {
-                i = j;
+        let e = plain_end(s, i, to);
+        if i < e {
+            if start == end {
+                start = i;
             }
-            Passed::Kept(j) => {
-                if start == end {
-                    start = i;
+            end = e;
+            i = e;
+        } else {
+            match pass(s, i) {
+                Passed::White(j) => {
+                    i = j;
                 }
-                end = j;
-                i = j;
+                Passed::Kept(j) => {
+                    if start == end {
+                        start = i;
+                    }
+                    end = j;
+                    i = j;
+                }
             }
         }
     }

@@ -5,8 +5,11 @@ use mathlib.Core.List.{List, [], _∷_}
 use native.Mathlib.Omega.{arith}
 use lib.ListN.{length, getD, drop, drop-of-length-le}
 use lib.Seq.{drop-nil, drop-drop}
-use borrow.Author.Tests.{lt-ltb}
+use borrow.Author.Tests.{lt-ltb, ltb-true}
+use Rattle.scan.specs.declared.Class.the-variants.{Ascii}
+use Rattle.scan.specs.Scan.{inClass, Runs}
 use Rattle.scan.proofs.Bytes.{drop-at}
+use Rattle.scan.proofs.Runs.{run-keeps, run-past}
 use Rattle.utf8.specs.Utf8.{leadOf, begun, decode, decodeAt}
 use Rattle.utf8.proofs.Utf8.{decode-past}
 use Rattle.utf8.specs.declared.Decoded.{Decoded}
@@ -36,6 +39,10 @@ plain : (a : ℕ) (bs : List ℕ) (i : ℕ) → a < 128 → decode (a ∷ bs) i 
 unfolding decode leadOf begun
 plain a bs i l = rw (lt-ltb a 128 l, leadOf)
 
+pub decode-plain : (s : List ℕ) (i : ℕ) → i < length s → getD s i 0 < 128 → decodeAt s i ≡ Point (getD s i 0) (i + 1)
+unfolding decodeAt
+decode-plain s i h l = rw (drop-at s i h) (plain (getD s i 0) (drop (i + 1) s) i l)
+
 module _ (s : List ℕ) (i : ℕ) (r : Checked) (inv : checkAt s i ≡ r) where
   pub check-end : length s ≤ i → Good ≡ r
   unfolding check checkAt
@@ -61,6 +68,15 @@ module _ (s : List ℕ) (i : ℕ) (r : Checked) (inv : checkAt s i ≡ r) where
     unfolding decodeAt
     check-less p j h e = let k = decode-past (drop i s) i p j (sym q ∙ e) in omega arith
 
-  pub check-plain : i < length s → getD s i 0 < 128 → checkAt s (i + 1) ≡ r
-  unfolding decodeAt
-  check-plain h l = check-on (decodeAt s i) refl (getD s i 0) (i + 1) (rw (drop-at s i h) (plain (getD s i 0) (drop (i + 1) s) i l))
+  check-plain : i < length s → getD s i 0 < 128 → checkAt s (i + 1) ≡ r
+  check-plain h l = check-on (decodeAt s i) refl (getD s i 0) (i + 1) (decode-plain s i h l)
+
+-- a run of such bytes, the first of which was tested
+module _ (s : List ℕ) (i e : ℕ) (x : Runs (inClass Ascii) s i e) where
+  pub check-run : (r : Checked) → checkAt s i ≡ r → checkAt s e ≡ r
+  unfolding inClass
+  check-run r inv = run-keeps (λ k. checkAt s k ≡ r) (inClass Ascii) s i e x (λ k h t v. check-plain s k r v h (ltb-true _ _ t)) inv
+
+  pub run-less : i < length s → getD s i 0 < 128 → length s - e < length s - i
+  unfolding inClass
+  run-less h l = let p = run-past (inClass Ascii) s i e x h (lt-ltb _ _ l) in omega arith

@@ -1,4 +1,5 @@
 // A whole source by RFC 3629: is it UTF-8, and if not, where not.
+use scan::Class;
 use utf8::Decoded;
 ghost use mathlib.Core.Path.{_≡_};
 ghost use lib.ListN.{length};
@@ -16,9 +17,9 @@ pub fn check(src: &[u8]) -> Checked
 {
     let mut i = 0;
     while i < src.len() {
-        // most bytes are code points by themselves
+        // most bytes are code points by themselves, and stand in long runs
         if src[i] < 128 {
-            i += 1;
+            i = scan::far_end(src, i, Class::Ascii);
         } else {
             match utf8::decode(src, i) {
                 Decoded::Point(_, j) => {

@@ -6,7 +6,7 @@ use borrow.Author.Needs.{needs}
 use mathlib.Core.Bool.{false}
 use Rattle.scan.proofs.Bytes.{at-next}
 use Rattle.spacing.specs.Spacing.{gap, comment, spacingAt, spacesAt}
-use Rattle.spacing.proofs.Laws.{a-blank, a-comment, a-end, c-end, a-eol, a-line-last, a-line-counted, a-other, a-refused, a-slash-end, a-slash-other, c-eol-close, c-eol-on, c-on, c-refused, c-star-close, c-star-on}
+use Rattle.spacing.proofs.Laws.{a-blank, a-comment, a-end, c-end, a-eol, a-line-last, a-line-counted, a-other, a-refused, a-slash-end, a-slash-other, c-eol-close, c-eol-on, c-run, c-refused, c-star-close, c-star-on}
 use Rattle.spacing.proofs.Places.{placed}
 use Rattle.spacing.proofs.parse_ws.Statement.{statement}
 use Rattle.spacing.proofs.parse_ws.Tie as tie
@@ -63,8 +63,8 @@ add-j c = search needs
 shared-slice-read-d : tie.Need-shared-slice-read-d Inv-comment μ-comment Inv-gap μ-gap
 shared-slice-read-d c = search needs
 
-run-end-requires : tie.Need-run-end-requires Inv-comment μ-comment Inv-gap μ-gap
-run-end-requires c κs = search needs
+far-end-requires : tie.Need-far-end-requires Inv-comment μ-comment Inv-gap μ-gap
+far-end-requires c κs = search needs
 
 gap-less-3 : tie.Need-gap-less-3 Inv-comment μ-comment Inv-gap μ-gap
 gap-less-3 c = search needs
@@ -136,11 +136,14 @@ comment-less-2 c = search needs
 comment-again-2 : tie.Need-comment-again-2 Inv-comment μ-comment Inv-gap μ-gap
 comment-again-2 c = search (c-star-on, needs)
 
+far-end-requires-2 : tie.Need-far-end-requires-2 Inv-comment μ-comment Inv-gap μ-gap
+far-end-requires-2 c κs = search needs
+
 comment-less-3 : tie.Need-comment-less-3 Inv-comment μ-comment Inv-gap μ-gap
 comment-less-3 c = search needs
 
 comment-again-3 : tie.Need-comment-again-3 Inv-comment μ-comment Inv-gap μ-gap
-comment-again-3 c = search (c-on, needs)
+comment-again-3 c = search (c-run, needs)
 
 gap-less-5 : tie.Need-gap-less-5 Inv-comment μ-comment Inv-gap μ-gap
 gap-less-5 c = search needs
@@ -193,7 +196,7 @@ parse-ws-spec =
     gap-again-2
     add-j
     shared-slice-read-d
-    run-end-requires
+    far-end-requires
     gap-less-3
     gap-again-3
     lines-at-requires-2
@@ -217,6 +220,7 @@ parse-ws-spec =
     add-k-4
     comment-less-2
     comment-again-2
+    far-end-requires-2
     comment-less-3
     comment-again-3
     gap-less-5

@@ -4,7 +4,7 @@ use mathlib.Core.Path.{_≡_}
 use lib.ListN.{length}
 use borrow.Author.Needs.{needs}
 use Rattle.texts.specs.Action.{bracedFrom, bracedAt}
-use Rattle.texts.proofs.Laws.{b-end, b-open, b-last, b-close, b-eol, b-on, brace-placed}
+use Rattle.texts.proofs.Laws.{b-end, b-open, b-last, b-close, b-eol, b-run, brace-placed}
 use Rattle.texts.proofs.closing_brace.Statement.{statement}
 use Rattle.texts.proofs.closing_brace.Tie as tie
 
@@ -37,6 +37,7 @@ closing-brace-spec =
     (λ c. search needs)
     (λ c. search (b-eol, needs))
     (λ c. search needs)
+    (λ c κs. search needs)
     (λ c. search needs)
-    (λ c. search (b-on, needs))
+    (λ c. search (b-run, needs))
     (λ c. brace-placed _ _ (search needs) _ (search (b-end, needs))))

@@ -6,7 +6,7 @@ use Rattle.texts.proofs.parse_to_eol.Tie as tie
 
 returns : tie.Need-returns
 unfolding lineEndAt
-returns c = c .run-end .ensures
+returns c = c .far-end .ensures
 
 pub parse-to-eol-spec : {M : Type 1} → statement M
 parse-to-eol-spec = tie.close (tie.spec (λ c κs. search needs) returns)

@@ -4,7 +4,7 @@ use mathlib.Core.Path.{_≡_}
 use lib.ListN.{length}
 use borrow.Author.Needs.{needs}
 use Rattle.whole.specs.Whole.{checkAt}
-use Rattle.whole.proofs.Laws.{check-end, check-plain, check-on, check-bad, check-less}
+use Rattle.whole.proofs.Laws.{check-end, check-run, run-less, check-on, check-bad, check-less}
 use Rattle.whole.proofs.check.Statement.{statement}
 use Rattle.whole.proofs.check.Tie as tie
 
@@ -22,9 +22,9 @@ check-spec =
     μ-loop
     (λ c. search needs)
     (λ c. search needs)
-    (λ c. search needs)
-    (λ c. search needs)
-    (λ c. search (check-plain, needs))
+    (λ c κs. search needs)
+    (λ c. search (run-less, needs))
+    (λ c. search (check-run, needs))
     (λ c κs. search needs)
     (λ c. search needs)
     (λ c. search (check-less, needs))
