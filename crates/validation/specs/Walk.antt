@@ -2,7 +2,7 @@
 -- that writes each fault as a row of table 14, and what the list of all faults gives.
 use Prim.Native.Nat.{ℕ, _+_, _*_, _-_, _/_, _<_, _≤_}
 use mathlib.Core.List.{List, [], _∷_, _++_}
-use mathlib.Core.Bool.{Bool, true, false, not}
+use mathlib.Core.Bool.{Bool, true, false, not, _||_}
 use lib.Dec.{eqb, ltb, leb}
 use lib.ListN.{length, replicate}
 use Rattle.tables.specs.Table.{cell, put, zeroed}
@@ -46,12 +46,23 @@ SymbolNames src t1 n t7 m fx = Led src (width tokens) 0 n t1 fx × Led src (widt
 abbrev pub KeyNames : List ℕ → List ℕ → ℕ → List ℕ → ℕ → List ℕ → Type 0
 KeyNames src t1 n t4 m fx = Led src (width tokens) 0 n t1 fx × Led src (width implicit) 0 m t4 fx
 
+-- one finder of all: it leads to every token, precedence, implicit token and rule
+pub record AllNames (src : List ℕ) (c : Counts) (t1 t2 t4 t7 fx : List ℕ) : Type 0 where
+  pub tokens : Led src (width tokens) 0 (countAt c tokens) t1 fx
+  pub precedences : Led src (width precedences) 0 (countAt c precedences) t2 fx
+  pub implicit : Led src (width implicit) 0 (countAt c implicit) t4 fx
+  pub rules : Led src (width rules) 0 (countAt c rules) t7 fx
+
 -- whether one of the n productions has a `%prec`
 abbrev pub lacksPrec : List ℕ → ℕ → Bool
 lacksPrec t8 r = not (eqb (cellOf t8 r prec) 1)
 
 abbrev pub hasPrecs : List ℕ → ℕ → Bool
 hasPrecs t8 n = not (below n (lacksPrec t8))
+
+-- whether a name is looked up behind the start: an `%epp` key, an expected unused name or a `%prec`
+abbrev pub looksUp : Counts → List ℕ → Bool
+looksUp c t8 = (not (eqb (countAt c epps) 0) || not (eqb (countAt c unused) 0)) || hasPrecs t8 (countAt c productions)
 
 -- document 02, request Five, "The report, validation and the fault list each look a symbol up again": the symbols of the first n productions know their rows
 pub record SymbolsKnown (src t1 : List ℕ) (tokens : ℕ) (t7 : List ℕ) (rules : ℕ) (t8 t9 : List ℕ) (n : ℕ) : Type 0 where

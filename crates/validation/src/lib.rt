@@ -14,7 +14,7 @@ ghost use Rattle.sound.specs.Test.{countAt};
 ghost use Rattle.grammar.specs.Sound.{Tables};
 ghost use Rattle.validation.specs.Faults.{faultCells, known, first, startFaults, precFaults, nameFaults, kindFaults, kindsFaults, productionFaults, ruleFaults, rulesFaults, eppFaults, eppsFaults, faults, validity};
 ghost use Rattle.links.specs.Links.{Linked};
-ghost use Rattle.validation.specs.Walk.{RuleNames, PrecNames, SymbolNames, KeyNames, SymbolsKnown, hasPrecs, Walkable, symbolFaults, symbolsFaults, failing, verdict, Walked, noted, AllFaults, faultListing};
+ghost use Rattle.validation.specs.Walk.{RuleNames, PrecNames, SymbolNames, KeyNames, AllNames, looksUp, SymbolsKnown, hasPrecs, Walkable, symbolFaults, symbolsFaults, failing, verdict, Walked, noted, AllFaults, faultListing};
 
 // Rules and productions that links are kept for: those of a large dialect, and the most that 65,536 bytes can hold.
 const FEW_RULES: usize = 1024;
@@ -1115,85 +1115,6 @@ pub fn fault_led(
     best
 }
 
-// The same with a finder for few tokens and precedences, and for as many as a source can have.
-pub fn fault_few_precs(
-    src: &[u8],
-    t1: &[u32],
-    tokens: u32,
-    t2: &[u32],
-    precedences: u32,
-    t7: &[u32],
-    rules: u32,
-    t8: &[u32],
-    t9: &[u32],
-    n: u32,
-) -> Test
-    requires { ⌜ SymbolsKnown (now src) (now t1) tokens (now t7) rules (now t8) (now t9) n ⌝ }
-    ensures { λ q. ⌜ verdict q ≡ first (rulesFaults (now (src .entry)) (now (t1 .entry)) tokens (now (t2 .entry)) precedences (now (t7 .entry)) rules (now (t8 .entry)) (now (t9 .entry)) n) ⌝ }
-{
-    let mut fx = [0u16; FEW_SLOTS];
-    guide_precs(src, t1, tokens, t2, precedences, &mut fx);
-    fault_led(src, t1, tokens, t2, precedences, t7, rules, t8, t9, n, &fx)
-}
-
-pub fn fault_many_precs(
-    src: &[u8],
-    t1: &[u32],
-    tokens: u32,
-    t2: &[u32],
-    precedences: u32,
-    t7: &[u32],
-    rules: u32,
-    t8: &[u32],
-    t9: &[u32],
-    n: u32,
-) -> Test
-    requires { ⌜ SymbolsKnown (now src) (now t1) tokens (now t7) rules (now t8) (now t9) n ⌝ }
-    ensures { λ q. ⌜ verdict q ≡ first (rulesFaults (now (src .entry)) (now (t1 .entry)) tokens (now (t2 .entry)) precedences (now (t7 .entry)) rules (now (t8 .entry)) (now (t9 .entry)) n) ⌝ }
-{
-    let mut fx = [0u16; MANY_SLOTS];
-    guide_precs(src, t1, tokens, t2, precedences, &mut fx);
-    fault_led(src, t1, tokens, t2, precedences, t7, rules, t8, t9, n, &fx)
-}
-
-// Without a `%prec` no name is looked up, and no finder is filled.
-pub fn rules_fault(
-    src: &[u8],
-    t1: &[u32],
-    tokens: u32,
-    t2: &[u32],
-    precedences: u32,
-    t7: &[u32],
-    rules: u32,
-    t8: &[u32],
-    t9: &[u32],
-    n: u32,
-) -> Test
-    requires { ⌜ SymbolsKnown (now src) (now t1) tokens (now t7) rules (now t8) (now t9) n ⌝ }
-    ensures { λ q. ⌜ verdict q ≡ first (rulesFaults (now (src .entry)) (now (t1 .entry)) tokens (now (t2 .entry)) precedences (now (t7 .entry)) rules (now (t8 .entry)) (now (t9 .entry)) n) ⌝ }
-{
-    if !has_precs(t8, n) {
-        let none = [0u16; 0];
-        return fault_led(
-            src,
-            t1,
-            tokens,
-            t2,
-            precedences,
-            t7,
-            rules,
-            t8,
-            t9,
-            n,
-            &none,
-        );
-    }
-    if tokens as u64 + precedences as u64 <= FEW_NAMES {
-        return fault_few_precs(src, t1, tokens, t2, precedences, t7, rules, t8, t9, n);
-    }
-    fault_many_precs(src, t1, tokens, t2, precedences, t7, rules, t8, t9, n)
-}
-
 // The first fault of the `%epp` keys and the expected unused names.
 pub fn names_fault(
     src: &[u8],
@@ -1203,11 +1124,13 @@ pub fn names_fault(
     t5: &[u32],
     t6: &[u32],
     t7: &[u32],
+    fx: &[u16],
 ) -> Validity
+    requires { ⌜ KeyNames (now src) (now t1) (countAt c tokens) (now t4) (countAt c implicit) (now fx) × SymbolNames (now src) (now t1) (countAt c tokens) (now t7) (countAt c rules) (now fx) ⌝ }
     ensures { λ q. ⌜ q ≡ first (eppsFaults (now (src .entry)) (now (t1 .entry)) (countAt c tokens) (now (t4 .entry)) (countAt c implicit) (now (t5 .entry)) (countAt c epps) ++ kindsFaults (now (src .entry)) (width unused) (now (t6 .entry)) (now (t1 .entry)) (countAt c tokens) (now (t7 .entry)) (countAt c rules) 0 (countAt c unused)) ⌝ }
 {
     let mut none = [0u32; 1];
-    match note_epps_unused(src, c, t1, t4, t5, t6, t7, 0, &mut none) {
+    match note_named(src, c, t1, t4, t5, t6, t7, fx, 0, &mut none) {
         Walk::NextRow(_) => Validity::Valid,
         Walk::Unwritten(f) => Validity::Invalid(f),
     }
@@ -1224,8 +1147,9 @@ pub fn start_rules_fault(
     t8: &[u32],
     t9: &[u32],
     i7: &[u32],
+    fx: &[u16],
 ) -> Test
-    requires { ⌜ Walkable (now src) c (now t1) (now t7) (now t8) (now t9) (now i7) ⌝ }
+    requires { ⌜ Walkable (now src) c (now t1) (now t7) (now t8) (now t9) (now i7) × PrecNames (now src) (now t1) (countAt c tokens) (now t2) (countAt c precedences) (now fx) ⌝ }
     ensures { λ q. ⌜ verdict q ≡ first (startFaults (now (src .entry)) start (now (t7 .entry)) (countAt c rules) ++ rulesFaults (now (src .entry)) (now (t1 .entry)) (countAt c tokens) (now (t2 .entry)) (countAt c precedences) (now (t7 .entry)) (countAt c rules) (now (t8 .entry)) (now (t9 .entry)) (countAt c productions)) ⌝ }
 {
     let rules = sound::rows_of(c, tables::RULES);
@@ -1234,13 +1158,123 @@ pub fn start_rules_fault(
             let tokens = sound::rows_of(c, tables::TOKENS);
             let precedences = sound::rows_of(c, tables::PRECEDENCES);
             let n = sound::rows_of(c, tables::PRODUCTIONS);
-            rules_fault(src, t1, tokens, t2, precedences, t7, rules, t8, t9, n)
+            fault_led(src, t1, tokens, t2, precedences, t7, rules, t8, t9, n, fx)
         }
         Test::Failed(f) => Test::Failed(f),
     }
 }
 
+// One finder for every name that is looked up: tokens, precedences, implicit tokens and rules.
+fn guide_all(src: &[u8], c: Counts, t1: &[u32], t2: &[u32], t4: &[u32], t7: &[u32], fx: &mut [u16])
+    ensures { λ u. ⌜ AllNames (now (src .entry)) c (now (t1 .entry)) (now (t2 .entry)) (now (t4 .entry)) (now (t7 .entry)) (now (fx .exit)) ⌝ }
+{
+    let tokens = sound::rows_of(c, tables::TOKENS);
+    let precedences = sound::rows_of(c, tables::PRECEDENCES);
+    let implicit = sound::rows_of(c, tables::IMPLICIT);
+    let rules = sound::rows_of(c, tables::RULES);
+    finder::enter_rows(src, t1, tables::TOKEN_WIDTH, tables::NAME, tokens, fx);
+    finder::enter_rows(
+        src,
+        t2,
+        tables::PRECEDENCE_WIDTH,
+        tables::NAME,
+        precedences,
+        fx,
+    );
+    finder::enter_rows(src, t4, tables::NAME_WIDTH, tables::NAME, implicit, fx);
+    finder::enter_rows(src, t7, tables::RULE_WIDTH, tables::NAME, rules, fx);
+}
+
 // The first fault, part by part; the parts behind it are not tested.
+pub fn find_led(
+    src: &[u8],
+    c: Counts,
+    g: Singles,
+    t1: &[u32],
+    t2: &[u32],
+    t4: &[u32],
+    t5: &[u32],
+    t6: &[u32],
+    t7: &[u32],
+    t8: &[u32],
+    t9: &[u32],
+    i7: &[u32],
+    fx: &[u16],
+) -> Validity
+    requires { ⌜ Walkable (now src) c (now t1) (now t7) (now t8) (now t9) (now i7) × AllNames (now src) c (now t1) (now t2) (now t4) (now t7) (now fx) ⌝ }
+    ensures { λ q. ⌜ q ≡ first (faults (now (src .entry)) c g (now (t1 .entry)) (now (t2 .entry)) (now (t4 .entry)) (now (t5 .entry)) (now (t6 .entry)) (now (t7 .entry)) (now (t8 .entry)) (now (t9 .entry))) ⌝ }
+{
+    let start = g.start;
+    match start_rules_fault(src, c, start, t1, t2, t7, t8, t9, i7, fx) {
+        Test::Met => names_fault(src, c, t1, t4, t5, t6, t7, fx),
+        Test::Failed(f) => Validity::Invalid(f),
+    }
+}
+
+// With a finder for few names, which is soon cleared.
+pub fn find_few(
+    src: &[u8],
+    c: Counts,
+    g: Singles,
+    t1: &[u32],
+    t2: &[u32],
+    t4: &[u32],
+    t5: &[u32],
+    t6: &[u32],
+    t7: &[u32],
+    t8: &[u32],
+    t9: &[u32],
+    i7: &[u32],
+) -> Validity
+    requires { ⌜ Walkable (now src) c (now t1) (now t7) (now t8) (now t9) (now i7) ⌝ }
+    ensures { λ q. ⌜ q ≡ first (faults (now (src .entry)) c g (now (t1 .entry)) (now (t2 .entry)) (now (t4 .entry)) (now (t5 .entry)) (now (t6 .entry)) (now (t7 .entry)) (now (t8 .entry)) (now (t9 .entry))) ⌝ }
+{
+    let mut fx = [0u16; FEW_SLOTS];
+    guide_all(src, c, t1, t2, t4, t7, &mut fx);
+    find_led(src, c, g, t1, t2, t4, t5, t6, t7, t8, t9, i7, &fx)
+}
+
+// And for as many as a source can have.
+pub fn find_many(
+    src: &[u8],
+    c: Counts,
+    g: Singles,
+    t1: &[u32],
+    t2: &[u32],
+    t4: &[u32],
+    t5: &[u32],
+    t6: &[u32],
+    t7: &[u32],
+    t8: &[u32],
+    t9: &[u32],
+    i7: &[u32],
+) -> Validity
+    requires { ⌜ Walkable (now src) c (now t1) (now t7) (now t8) (now t9) (now i7) ⌝ }
+    ensures { λ q. ⌜ q ≡ first (faults (now (src .entry)) c g (now (t1 .entry)) (now (t2 .entry)) (now (t4 .entry)) (now (t5 .entry)) (now (t6 .entry)) (now (t7 .entry)) (now (t8 .entry)) (now (t9 .entry))) ⌝ }
+{
+    let mut fx = [0u16; MOST_SLOTS];
+    guide_all(src, c, t1, t2, t4, t7, &mut fx);
+    find_led(src, c, g, t1, t2, t4, t5, t6, t7, t8, t9, i7, &fx)
+}
+
+// Whether a name is looked up behind the start: that of a `%prec`, the key of an `%epp`, or an expected unused one.
+fn looks_up(c: Counts, t8: &[u32]) -> bool
+    ensures { λ r. ⌜ r ≡ looksUp c (now (t8 .entry)) ⌝ }
+{
+    let asked = (sound::rows_of(c, tables::EPPS) != 0) | (sound::rows_of(c, tables::UNUSED) != 0);
+    asked | has_precs(t8, sound::rows_of(c, tables::PRODUCTIONS))
+}
+
+// How many names a finder of them all has.
+fn name_count(c: Counts) -> u64
+    ensures { λ r. ⌜ r ≡ countAt c tokens + countAt c precedences + (countAt c implicit + countAt c rules) ⌝ }
+{
+    let first = sound::rows_of(c, tables::TOKENS) as u64
+        + sound::rows_of(c, tables::PRECEDENCES) as u64;
+    first + (sound::rows_of(c, tables::IMPLICIT) as u64 + sound::rows_of(c, tables::RULES) as u64)
+}
+
+// The first fault. Where no name is looked up no finder is filled.
 pub fn find_fault(
     src: &[u8],
     c: Counts,
@@ -1259,11 +1293,14 @@ pub fn find_fault(
     requires { ⌜ Walkable (now src) c (now t1) (now t7) (now t8) (now t9) (now i7) ⌝ }
     ensures { λ q. ⌜ q ≡ first (faults (now (src .entry)) c g (now (t1 .entry)) (now (t2 .entry)) (now (t4 .entry)) (now (t5 .entry)) (now (t6 .entry)) (now (t7 .entry)) (now (t8 .entry)) (now (t9 .entry))) ⌝ }
 {
-    let start = g.start;
-    match start_rules_fault(src, c, start, t1, t2, t7, t8, t9, i7) {
-        Test::Met => names_fault(src, c, t1, t4, t5, t6, t7),
-        Test::Failed(f) => Validity::Invalid(f),
+    if !looks_up(c, t8) {
+        let none = [0u16; 0];
+        return find_led(src, c, g, t1, t2, t4, t5, t6, t7, t8, t9, i7, &none);
     }
+    if name_count(c) <= FEW_NAMES {
+        return find_few(src, c, g, t1, t2, t4, t5, t6, t7, t8, t9, i7);
+    }
+    find_many(src, c, g, t1, t2, t4, t5, t6, t7, t8, t9, i7)
 }
 
 // Validation changes nothing lent; 44 comes first.

@@ -1,19 +1,23 @@
--- `validation::find_fault` meets its contract: the names are tested where start and rules have no fault. Assumes nothing.
+-- `validation::find_fault` meets its contract: a finder without slots leads every name to the search. Assumes nothing.
+use mathlib.Core.Path.{refl}
 use denote.Ref.{now}
 use borrow.Author.Needs.{needs}
-use Rattle.validation.proofs.Foremost.{faults-behind, faults-before}
+use Rattle.tables.specs.Layout.{tokens, precedences, implicit, rules, width}
+use Rattle.finder.proofs.Laws.{led-empty}
 use Rattle.validation.proofs.find_fault.Statement.{statement}
 use Rattle.validation.proofs.find_fault.Tie as tie
 
-returns : tie.Need-returns
-returns c =
-    let a = c .before .before .before .before .before .before .before .before .before .before .before .before .before .before .before .args in
-    faults-behind (now (a .src)) (a .c) (a .g) (now (a .t1)) (now (a .t2)) (now (a .t4)) (now (a .t5)) (now (a .t6)) (now (a .t7)) (now (a .t8)) (now (a .t9)) _ (c .before .before .before .start-rules-fault .ensures) (c .before .enum-told .given .1) _ (c .names-fault .ensures)
-
-returns-2 : tie.Need-returns-2
-returns-2 c =
-    let a = c .before .before .before .before .before .before .before .before .before .before .before .before .before .before .before .args in
-    faults-before (now (a .src)) (a .c) (a .g) (now (a .t1)) (now (a .t2)) (now (a .t4)) (now (a .t5)) (now (a .t6)) (now (a .t7)) (now (a .t8)) (now (a .t9)) _ (c .before .before .before .start-rules-fault .ensures) _ (c .before .f .given .1)
+find-led-requires : tie.Need-find-led-requires
+find-led-requires c κs =
+    let s = c .before .before .before .before .before .before .before .before .before .before .before .before .before .before in (
+      s .pre,
+      record {
+        tokens = led-empty _ (width tokens) 0 (now (s .args .t1)) _ _ refl;
+        precedences = led-empty _ (width precedences) 0 (now (s .args .t2)) _ _ refl;
+        implicit = led-empty _ (width implicit) 0 (now (s .args .t4)) _ _ refl;
+        rules = led-empty _ (width rules) 0 (now (s .args .t7)) _ _ refl;
+      },
+    )
 
 pub find-fault-spec : {M : Type 1} → statement M
 find-fault-spec =
@@ -21,7 +25,10 @@ find-fault-spec =
     (tie.spec
     (λ c κs. search needs)
     (λ c. search needs)
+    find-led-requires
+    (λ c. search needs)
+    (λ c κs. search needs)
     (λ c κs. search needs)
     (λ c. search needs)
-    returns
-    returns-2)
+    (λ c κs. search needs)
+    (λ c. search needs))

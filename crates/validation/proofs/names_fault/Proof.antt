@@ -6,10 +6,10 @@ use Rattle.validation.proofs.names_fault.Statement.{statement}
 use Rattle.validation.proofs.names_fault.Tie as tie
 
 none : tie.Need-returns
-none c = found-none _ _ _ _ (omega arith) (c .before .before .before .note-epps-unused .ensures) _ (c .enum-told .given .1)
+none c = found-none _ _ _ _ (omega arith) (c .before .before .before .note-named .ensures) _ (c .enum-told .given .1)
 
 one : tie.Need-returns-2
-one c = found-one _ _ _ _ (omega arith) (c .before .before .before .before .note-epps-unused .ensures) _ (c .before .f .given .1)
+one c = found-one _ _ _ _ (omega arith) (c .before .before .before .before .note-named .ensures) _ (c .before .f .given .1)
 
 pub names-fault-spec : {M : Type 1} → statement M
 names-fault-spec =
