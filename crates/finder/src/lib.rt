@@ -24,6 +24,13 @@ pub enum Sought {
 // The mark of every row from 65534 on.
 pub const LAST_MARK: u16 = 65535;
 
+// How many rows a finder of few slots is for, how many slots it has, and how many one for all the names that a source can have in a table.
+pub const FEW_ROWS: u32 = 512;
+
+pub const FEW_SLOTS: usize = 1024;
+
+pub const MANY_SLOTS: usize = 20480;
+
 fn stir(h: u32, b: u8) -> u32
     ensures { λ r. ⌜ r ≡ stirred h b ⌝ }
 {

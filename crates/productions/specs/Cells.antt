@@ -2,9 +2,10 @@
 use Prim.Native.Nat.{ℕ, _+_}
 use mathlib.Core.Path.{_≡_, refl}
 use mathlib.Core.List.{List, [], _∷_}
-use mathlib.Core.Bool.{Bool, true, false}
+use mathlib.Core.Bool.{Bool, true, false, not}
 use lib.ListN.{getD}
 use lib.Dec.{eqb}
+use Rattle.tables.specs.Below.{below}
 use Rattle.tables.specs.Table.{cell}
 use Rattle.tables.specs.Layout.{productions, ruleRow, place, symbolsFrom, symbolsTo, prec, action, width}
 use Rattle.grammar.specs.declared.State.{State}
@@ -55,6 +56,13 @@ productionAt t r =
       prec = precOf (cellOf t r prec) (cellOf t r (prec + 1)) (cellOf t r (prec + 2));
       action = actionOf (cellOf t r action) (cellOf t r (action + 1)) (cellOf t r (action + 2)) (cellOf t r (action + 3)) (cellOf t r (action + 4));
     }
+
+-- row r has no `%prec`; one of the first n rows has one
+abbrev pub precless : List ℕ → ℕ → Bool
+precless t r = not (eqb (cellOf t r prec) 1)
+
+abbrev pub givesPrec : List ℕ → ℕ → Bool
+givesPrec t n = not (below n (precless t))
 
 -- a production joins table 8; 42 is at its place
 unfoldable pub pushProduction : State → Production → List ℕ → Out1

@@ -2,7 +2,7 @@
 use grammar::State;
 use grammar::Step;
 ghost use mathlib.Core.Path.{_≡_};
-ghost use Rattle.productions.specs.Cells.{precCells, actionCells, productionCells, precOf, actionOf, cellOf, productionAt, pushProduction};
+ghost use Rattle.productions.specs.Cells.{precCells, actionCells, productionCells, precOf, actionOf, cellOf, productionAt, givesPrec, pushProduction};
 ghost use Rattle.grammar.specs.State.{Out1};
 
 // The name of a production's `%prec`, by its place.
@@ -129,4 +129,18 @@ pub fn load_production(t: &[u32], r: u32) -> Production
         prec,
         action,
     }
+}
+
+// Whether one of the first `n` productions has a `%prec`.
+pub fn has_precs(t: &[u32], n: u32) -> bool
+    ensures { λ q. ⌜ q ≡ givesPrec (now (t .entry)) n ⌝ }
+{
+    let mut r = 0;
+    while r < n {
+        if cell(t, r, tables::PREC) == 1 {
+            return true;
+        }
+        r += 1;
+    }
+    false
 }

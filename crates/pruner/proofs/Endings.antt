@@ -16,13 +16,13 @@ use Rattle.validation.specs.declared.Validity.the-variants.{Valid, UnsoundTable
 use Rattle.validation.specs.Faults.{validity}
 use Rattle.reach.specs.Reach.{named, tokenSort}
 use Rattle.reach.proofs.Fair.{fair-sound}
+use Rattle.reach.proofs.Laws.{calls-differ}
 use Rattle.pruning.specs.declared.Pruning.the-variants.{AllPruned, PruningUnsound, PruningInvalid, PruningNoWords}
 use Rattle.pruning.specs.Stays.{StayWork}
 use Rattle.pruning.specs.Pruned.{Lent, Prunings}
 use Rattle.pruning.specs.Again.{grammarIn, excusesIn}
 use Rattle.pruning.proofs.Kept.{sound, ready, resolved}
 use Rattle.staying.specs.Marks.{StayMarks}
-use Rattle.staying.proofs.Laws.{calls-differ}
 use Rattle.pruner.specs.Asked.{Changing, Closable, Leaves, tablesWith, indexesOf}
 
 -- what is lent

@@ -175,7 +175,7 @@ fn close_few(
     requires { ⌜ Mentioned (now src) c (now t1) (now t3) (now t5) ⌝ }
     ensures { λ r. ⌜ _≡_ {A = Mentions} (record { avoided = r .avoided; epps = r .epps; t3 = now (t3 .exit); t5 = now (t5 .exit) }) (mentionsLeft (now (src .entry)) c (now (t1 .entry)) (now (t3 .entry)) (now (t5 .entry)) (now (ws .entry))) ⌝ }
 {
-    let mut fx = [0u16; staying::FEW_SLOTS];
+    let mut fx = [0u16; finder::FEW_SLOTS];
     close_by(t3, t5, src, c, t1, &mut fx, ws)
 }
 
@@ -191,7 +191,7 @@ fn close_many(
     requires { ⌜ Mentioned (now src) c (now t1) (now t3) (now t5) ⌝ }
     ensures { λ r. ⌜ _≡_ {A = Mentions} (record { avoided = r .avoided; epps = r .epps; t3 = now (t3 .exit); t5 = now (t5 .exit) }) (mentionsLeft (now (src .entry)) c (now (t1 .entry)) (now (t3 .entry)) (now (t5 .entry)) (now (ws .entry))) ⌝ }
 {
-    let mut fx = [0u16; staying::MANY_SLOTS];
+    let mut fx = [0u16; finder::MANY_SLOTS];
     close_by(t3, t5, src, c, t1, &mut fx, ws)
 }
 
@@ -212,7 +212,7 @@ fn close_mentions(
     if avoided + epps == 0 {
         return close_none(t3, t5, src, c, t1, ws);
     }
-    if sound::rows_of(c, tables::TOKENS) <= staying::FEW_ROWS {
+    if sound::rows_of(c, tables::TOKENS) <= finder::FEW_ROWS {
         return close_few(t3, t5, src, c, t1, ws);
     }
     close_many(t3, t5, src, c, t1, ws)

@@ -12,11 +12,12 @@ use lib.ListN.{length, getD, List·getD-eq-default}
 use lib.Dec.{eqb}
 use Rattle.bits.specs.Bits.{bit, setBit, BitSet}
 use Rattle.bits.proofs.Bits.{bit-cases, set-there, ones-more, set-again, set-only}
-use Rattle.tables.specs.Table.{cell, findName}
+use Rattle.tables.specs.Table.{cell, hasName, findName}
 use Rattle.tables.specs.Layout.{productions, symbols, ruleRow, symbolsFrom, symbolsTo, prec, knownRow, width}
 use Rattle.tables.specs.declared.Found.{Found}
 use Rattle.tables.specs.declared.Found.the-variants.{RowAt, NoRow}
-use Rattle.tables.proofs.Cases.{find-iff, none-iff}
+use Rattle.tables.proofs.Cases.{same-part-iff, find-iff, none-iff}
+use Rattle.finder.specs.Finder.{Led, Held as FinderOf, Apart as Different}
 use Rattle.grammar.specs.declared.Part.{Part}
 use Rattle.grammar.specs.declared.Part.the-variants.{Absent, At}
 use Rattle.reach.specs.declared.Sort.{Sort}
@@ -107,6 +108,22 @@ module _ (src : List ℕ) (d : Named) (a b : ℕ) (f : Found) (e : f ≡ findNam
 
   pub mark-unfound : (ws : List ℕ) → f ≡ NoRow → Added (Called src d a b) ws ws false
   mark-unfound ws h = added-none ws (λ k y. absurd (name-none h (y .row) (y .calls)))
+
+-- names that are each of one row differ, and a finder that leads to all rows finds them
+module _ (src : List ℕ) (d : Named) (one : Apart src d) where
+  pub calls-differ : Different src (d .sort .wide) 0 (d .sort .count) (d .cells)
+  unfolding hasName
+  calls-differ q r l m = go (hasName src (d .sort .wide) 0 (d .cells) (cell (d .sort .wide) (d .cells) r 0) (cell (d .sort .wide) (d .cells) r 1) q) refl
+    where
+      go : (x : Bool) → hasName src (d .sort .wide) 0 (d .cells) (cell (d .sort .wide) (d .cells) r 0) (cell (d .sort .wide) (d .cells) r 1) q ≡ x → x ≡ false
+      go true h =
+          let x = same-part-iff src _ _ _ _ .0 h in
+          let e : q ≡ r = one (cell (d .sort .wide) (d .cells) r 0) (cell (d .sort .wide) (d .cells) r 1) q r (record { inside = omega arith; same = h }) (record { inside = m; same = same-part-iff src _ _ _ _ .1 (x .2, x .3, x .2, x .3, refl) }) in
+          absurd (omega arith)
+      go false h = refl
+
+  pub calls-held : (ix : List ℕ) → Led src (d .sort .wide) 0 (d .sort .count) (d .cells) ix → FinderOf src (d .sort .wide) 0 (d .sort .count) (d .cells) ix
+  calls-held ix led = record { led = led; apart = calls-differ }
 
 -- ---- symbols
 

@@ -10,6 +10,7 @@ ghost use Rattle.bits.specs.Bits.{bit};
 ghost use Rattle.tables.specs.Layout.{tokens, rules, productions, width};
 ghost use Rattle.sound.specs.Test.{countAt};
 ghost use Rattle.index.specs.Index.{Indexed};
+ghost use Rattle.finder.specs.Finder.{Led};
 ghost use Rattle.reach.specs.Reach.{wordsFor, ruleSort, tokenSort, named, net, grammarOf, Begins, Apart, Owned, Fair, Adds, Added, Fits, Called, InRow, Informed, Held, HeldPrec, Swept, Within, Done, Visited, Rushed, Spread, TokenOf, Marks};
 
 // One sort of rows: its code, the width of its rows, their count, and the bit of row 0.
@@ -87,6 +88,25 @@ pub fn mark_name(
     }
 }
 
+// The same, by a finder that leads to all rows.
+pub fn mark_named(
+    w: &mut [u32],
+    src: &[u8],
+    names: &[u32],
+    fx: &[u16],
+    z: Sort,
+    a: u32,
+    b: u32,
+) -> bool
+    requires { ⌜ Fits z (now w) × Apart (now src) (named (now names) z) × Led (now src) (z .wide) 0 (z .count) (now names) (now fx) ⌝ }
+    ensures { λ r. ⌜ Added (Called (now (src .entry)) (named (now (names .entry)) z) a b) (now (w .entry)) (now (w .exit)) r ⌝ }
+{
+    match finder::find(src, names, z.wide, tables::NAME, z.count, fx, a, b) {
+        Found::RowAt(row) => mark(w, z.base + row as usize),
+        Found::NoRow => false,
+    }
+}
+
 // Sets the bit of the row that symbol `s` has, if it is of the sort and has one.
 fn mark_symbol(w: &mut [u32], z: Sort, syms: &[u32], s: u32) -> bool
     requires { ⌜ Fits z (now w) ⌝ }
@@ -147,12 +167,12 @@ fn mark_prec(
     w: &mut [u32],
     src: &[u8],
     names: &[u32],
-    ix: &[u32],
+    fx: &[u16],
     z: Sort,
     prods: &[u32],
     p: u32,
 ) -> bool
-    requires { ⌜ Fits z (now w) × Apart (now src) (named (now names) z) × Indexed (now src) (z .wide) 0 (z .count) (now names) (now ix) ⌝ }
+    requires { ⌜ Fits z (now w) × Apart (now src) (named (now names) z) × Led (now src) (z .wide) 0 (z .count) (now names) (now fx) ⌝ }
     ensures { λ r. ⌜ Added (HeldPrec (now (src .entry)) (now (prods .entry)) (named (now (names .entry)) z) (now (w .entry)) p) (now (w .entry)) (now (w .exit)) r ⌝ }
 {
     let wide = tables::PRODUCTION_WIDTH;
@@ -165,7 +185,7 @@ fn mark_prec(
     }
     let a = tables::cell(prods, wide, p, tables::PREC_FROM);
     let b = tables::cell(prods, wide, p, tables::PREC_TO);
-    mark_name(w, src, names, ix, z, a, b)
+    mark_named(w, src, names, fx, z, a, b)
 }
 
 fn word_of(w: &[u32], i: usize) -> u32
@@ -435,17 +455,17 @@ pub fn spread(w: &mut [u32], src: &[u8], c: Counts, rules: &[u32], prods: &[u32]
     while round(w, &mut done, src, c, rules, prods, syms) {}
 }
 
-// One pass that marks the tokens of productions of marked rules: symbols', and that of the `%prec`.
-pub fn mark_tokens(
+// One pass that marks the tokens of productions of marked rules: symbols', and that of the `%prec`. The finder leads to all tokens.
+fn mark_tokens_led(
     w: &mut [u32],
     src: &[u8],
     c: Counts,
     tokens: &[u32],
-    ix: &[u32],
+    fx: &[u16],
     prods: &[u32],
     syms: &[u32],
 )
-    requires { ⌜ Fits (tokenSort c) (now w) × Apart (now src) (named (now tokens) (tokenSort c)) × Informed (net (now src) c (now prods) (now syms)) (named (now tokens) (tokenSort c)) × Owned (net (now src) c (now prods) (now syms)) (ruleSort c .count) × Indexed (now src) (tokenSort c .wide) 0 (tokenSort c .count) (now tokens) (now ix) ⌝ }
+    requires { ⌜ Fits (tokenSort c) (now w) × Apart (now src) (named (now tokens) (tokenSort c)) × Informed (net (now src) c (now prods) (now syms)) (named (now tokens) (tokenSort c)) × Owned (net (now src) c (now prods) (now syms)) (ruleSort c .count) × Led (now src) (tokenSort c .wide) 0 (tokenSort c .count) (now tokens) (now fx) ⌝ }
     ensures { λ r. ⌜ Adds (TokenOf (net (now (src .entry)) c (now (prods .entry)) (now (syms .entry))) (named (now (tokens .entry)) (tokenSort c)) (now (w .entry))) (now (w .entry)) (now (w .exit)) ⌝ }
 {
     let z = token_sort(c);
@@ -453,9 +473,98 @@ pub fn mark_tokens(
     let mut p = 0;
     while p < n {
         mark_production(w, src, tokens, z, c, prods, syms, p);
-        mark_prec(w, src, tokens, ix, z, prods, p);
+        mark_prec(w, src, tokens, fx, z, prods, p);
         p += 1;
     }
+}
+
+// All tokens are entered first.
+fn mark_tokens_by(
+    w: &mut [u32],
+    src: &[u8],
+    c: Counts,
+    tokens: &[u32],
+    fx: &mut [u16],
+    prods: &[u32],
+    syms: &[u32],
+)
+    requires { ⌜ Fits (tokenSort c) (now w) × Apart (now src) (named (now tokens) (tokenSort c)) × Informed (net (now src) c (now prods) (now syms)) (named (now tokens) (tokenSort c)) × Owned (net (now src) c (now prods) (now syms)) (ruleSort c .count) ⌝ }
+    ensures { λ r. ⌜ Adds (TokenOf (net (now (src .entry)) c (now (prods .entry)) (now (syms .entry))) (named (now (tokens .entry)) (tokenSort c)) (now (w .entry))) (now (w .entry)) (now (w .exit)) ⌝ }
+{
+    let n = sound::rows_of(c, tables::TOKENS);
+    finder::enter_rows(src, tokens, tables::TOKEN_WIDTH, tables::NAME, n, fx);
+    mark_tokens_led(w, src, c, tokens, fx, prods, syms);
+}
+
+// Without slots, where no name is looked up.
+fn mark_tokens_none(
+    w: &mut [u32],
+    src: &[u8],
+    c: Counts,
+    tokens: &[u32],
+    prods: &[u32],
+    syms: &[u32],
+)
+    requires { ⌜ Fits (tokenSort c) (now w) × Apart (now src) (named (now tokens) (tokenSort c)) × Informed (net (now src) c (now prods) (now syms)) (named (now tokens) (tokenSort c)) × Owned (net (now src) c (now prods) (now syms)) (ruleSort c .count) ⌝ }
+    ensures { λ r. ⌜ Adds (TokenOf (net (now (src .entry)) c (now (prods .entry)) (now (syms .entry))) (named (now (tokens .entry)) (tokenSort c)) (now (w .entry))) (now (w .entry)) (now (w .exit)) ⌝ }
+{
+    let fx = [0u16; 0];
+    mark_tokens_led(w, src, c, tokens, &fx, prods, syms);
+}
+
+// With few slots, which are soon cleared.
+fn mark_tokens_few(
+    w: &mut [u32],
+    src: &[u8],
+    c: Counts,
+    tokens: &[u32],
+    prods: &[u32],
+    syms: &[u32],
+)
+    requires { ⌜ Fits (tokenSort c) (now w) × Apart (now src) (named (now tokens) (tokenSort c)) × Informed (net (now src) c (now prods) (now syms)) (named (now tokens) (tokenSort c)) × Owned (net (now src) c (now prods) (now syms)) (ruleSort c .count) ⌝ }
+    ensures { λ r. ⌜ Adds (TokenOf (net (now (src .entry)) c (now (prods .entry)) (now (syms .entry))) (named (now (tokens .entry)) (tokenSort c)) (now (w .entry))) (now (w .entry)) (now (w .exit)) ⌝ }
+{
+    let mut fx = [0u16; finder::FEW_SLOTS];
+    mark_tokens_by(w, src, c, tokens, &mut fx, prods, syms);
+}
+
+// With slots for every grammar that is read.
+fn mark_tokens_many(
+    w: &mut [u32],
+    src: &[u8],
+    c: Counts,
+    tokens: &[u32],
+    prods: &[u32],
+    syms: &[u32],
+)
+    requires { ⌜ Fits (tokenSort c) (now w) × Apart (now src) (named (now tokens) (tokenSort c)) × Informed (net (now src) c (now prods) (now syms)) (named (now tokens) (tokenSort c)) × Owned (net (now src) c (now prods) (now syms)) (ruleSort c .count) ⌝ }
+    ensures { λ r. ⌜ Adds (TokenOf (net (now (src .entry)) c (now (prods .entry)) (now (syms .entry))) (named (now (tokens .entry)) (tokenSort c)) (now (w .entry))) (now (w .entry)) (now (w .exit)) ⌝ }
+{
+    let mut fx = [0u16; finder::MANY_SLOTS];
+    mark_tokens_by(w, src, c, tokens, &mut fx, prods, syms);
+}
+
+// The tokens of productions of marked rules. How many slots the finder has is a matter of time alone.
+pub fn mark_tokens(
+    w: &mut [u32],
+    src: &[u8],
+    c: Counts,
+    tokens: &[u32],
+    prods: &[u32],
+    syms: &[u32],
+)
+    requires { ⌜ Fits (tokenSort c) (now w) × Apart (now src) (named (now tokens) (tokenSort c)) × Informed (net (now src) c (now prods) (now syms)) (named (now tokens) (tokenSort c)) × Owned (net (now src) c (now prods) (now syms)) (ruleSort c .count) ⌝ }
+    ensures { λ r. ⌜ Adds (TokenOf (net (now (src .entry)) c (now (prods .entry)) (now (syms .entry))) (named (now (tokens .entry)) (tokenSort c)) (now (w .entry))) (now (w .entry)) (now (w .exit)) ⌝ }
+{
+    if !productions::has_precs(prods, sound::rows_of(c, tables::PRODUCTIONS)) {
+        mark_tokens_none(w, src, c, tokens, prods, syms);
+        return;
+    }
+    if sound::rows_of(c, tables::TOKENS) <= finder::FEW_ROWS {
+        mark_tokens_few(w, src, c, tokens, prods, syms);
+        return;
+    }
+    mark_tokens_many(w, src, c, tokens, prods, syms);
 }
 
 // The start rule's bit.
@@ -496,6 +605,6 @@ pub fn mark_used(
     }
     mark_start(w, src, c, start, t7, i7);
     spread(w, src, c, t7, t8, t9);
-    mark_tokens(w, src, c, t1, i1, t8, t9);
+    mark_tokens(w, src, c, t1, t8, t9);
     true
 }

@@ -23,6 +23,20 @@ ghost use Rattle.rules.specs.Rules.{Ruled};
 ghost use Rattle.tables.specs.Table.{zeroed};
 ghost use Rattle.reader.specs.Read.{Run, Outcome, Result, Short, sizesFit, admitted, restAll, sectionsAll, attempted, stoppedAt, endedAt, finished, finishedRun, filledOut, readAll};
 
+// Sources that a tiny and a small finder are taken for, and their slots.
+const TINY_SOURCE: usize = 1024;
+
+const TINY_SLOTS: usize = 512;
+
+const SMALL_SOURCE: usize = 8192;
+
+const SMALL_SLOTS: usize = 4096;
+
+// Slots for more names than 65,536 bytes can have: some 17,300 tokens, or as many of tables 2 to 5, and some 13,900 rules.
+const LARGE_SLOTS: usize = 24576;
+
+const RULE_SLOTS: usize = 16384;
+
 // What a read came to.
 pub enum Verdict {
     // The end reached.
@@ -373,7 +387,7 @@ pub fn run(
     q
 }
 
-// A run with finders for a source of at most 1,024 bytes, of at most 8,192, and for any.
+// A run with finders for a tiny source, for a small one, and for any.
 fn run_tiny(
     src: &[u8],
     kind: u32,
@@ -391,9 +405,9 @@ fn run_tiny(
 ) -> Reading
     ensures { λ q. ⌜ _≡_ {A = Outcome} (record { answer = q .answer; counts = q .counts; singles = q .singles; tables = record { t1 = now (t1 .exit); t2 = now (t2 .exit); t3 = now (t3 .exit); t4 = now (t4 .exit); t5 = now (t5 .exit); t6 = now (t6 .exit); t7 = now (t7 .exit); t8 = now (t8 .exit); t9 = now (t9 .exit); t10 = now (t10 .exit) } }) (filledOut (now (src .entry)) (finishedRun (attempted (now (src .entry)) kind sized (record { t1 = now (t1 .entry); t2 = now (t2 .entry); t3 = now (t3 .entry); t4 = now (t4 .entry); t5 = now (t5 .entry); t6 = now (t6 .entry); t7 = now (t7 .entry); t8 = now (t8 .entry); t9 = now (t9 .entry); t10 = now (t10 .entry) })))) ⌝ }
 {
-    let mut f1 = [0u16; 512];
-    let mut f7 = [0u16; 512];
-    let mut fx = [0u16; 512];
+    let mut f1 = [0u16; TINY_SLOTS];
+    let mut f7 = [0u16; TINY_SLOTS];
+    let mut fx = [0u16; TINY_SLOTS];
     run(
         src,
         kind,
@@ -431,9 +445,9 @@ fn run_small(
 ) -> Reading
     ensures { λ q. ⌜ _≡_ {A = Outcome} (record { answer = q .answer; counts = q .counts; singles = q .singles; tables = record { t1 = now (t1 .exit); t2 = now (t2 .exit); t3 = now (t3 .exit); t4 = now (t4 .exit); t5 = now (t5 .exit); t6 = now (t6 .exit); t7 = now (t7 .exit); t8 = now (t8 .exit); t9 = now (t9 .exit); t10 = now (t10 .exit) } }) (filledOut (now (src .entry)) (finishedRun (attempted (now (src .entry)) kind sized (record { t1 = now (t1 .entry); t2 = now (t2 .entry); t3 = now (t3 .entry); t4 = now (t4 .entry); t5 = now (t5 .entry); t6 = now (t6 .entry); t7 = now (t7 .entry); t8 = now (t8 .entry); t9 = now (t9 .entry); t10 = now (t10 .entry) })))) ⌝ }
 {
-    let mut f1 = [0u16; 4096];
-    let mut f7 = [0u16; 4096];
-    let mut fx = [0u16; 4096];
+    let mut f1 = [0u16; SMALL_SLOTS];
+    let mut f7 = [0u16; SMALL_SLOTS];
+    let mut fx = [0u16; SMALL_SLOTS];
     run(
         src,
         kind,
@@ -471,9 +485,9 @@ fn run_large(
 ) -> Reading
     ensures { λ q. ⌜ _≡_ {A = Outcome} (record { answer = q .answer; counts = q .counts; singles = q .singles; tables = record { t1 = now (t1 .exit); t2 = now (t2 .exit); t3 = now (t3 .exit); t4 = now (t4 .exit); t5 = now (t5 .exit); t6 = now (t6 .exit); t7 = now (t7 .exit); t8 = now (t8 .exit); t9 = now (t9 .exit); t10 = now (t10 .exit) } }) (filledOut (now (src .entry)) (finishedRun (attempted (now (src .entry)) kind sized (record { t1 = now (t1 .entry); t2 = now (t2 .entry); t3 = now (t3 .entry); t4 = now (t4 .entry); t5 = now (t5 .entry); t6 = now (t6 .entry); t7 = now (t7 .entry); t8 = now (t8 .entry); t9 = now (t9 .entry); t10 = now (t10 .entry) })))) ⌝ }
 {
-    let mut f1 = [0u16; 32768];
-    let mut f7 = [0u16; 32768];
-    let mut fx = [0u16; 32768];
+    let mut f1 = [0u16; LARGE_SLOTS];
+    let mut f7 = [0u16; RULE_SLOTS];
+    let mut fx = [0u16; LARGE_SLOTS];
     run(
         src,
         kind,
@@ -511,10 +525,10 @@ fn run_sized(
 ) -> Reading
     ensures { λ q. ⌜ _≡_ {A = Outcome} (record { answer = q .answer; counts = q .counts; singles = q .singles; tables = record { t1 = now (t1 .exit); t2 = now (t2 .exit); t3 = now (t3 .exit); t4 = now (t4 .exit); t5 = now (t5 .exit); t6 = now (t6 .exit); t7 = now (t7 .exit); t8 = now (t8 .exit); t9 = now (t9 .exit); t10 = now (t10 .exit) } }) (filledOut (now (src .entry)) (finishedRun (attempted (now (src .entry)) kind sized (record { t1 = now (t1 .entry); t2 = now (t2 .entry); t3 = now (t3 .entry); t4 = now (t4 .entry); t5 = now (t5 .entry); t6 = now (t6 .entry); t7 = now (t7 .entry); t8 = now (t8 .entry); t9 = now (t9 .entry); t10 = now (t10 .entry) })))) ⌝ }
 {
-    if src.len() <= 1024 {
+    if src.len() <= TINY_SOURCE {
         return run_tiny(src, kind, sized, t1, t2, t3, t4, t5, t6, t7, t8, t9, t10);
     }
-    if src.len() <= 8192 {
+    if src.len() <= SMALL_SOURCE {
         return run_small(src, kind, sized, t1, t2, t3, t4, t5, t6, t7, t8, t9, t10);
     }
     run_large(src, kind, sized, t1, t2, t3, t4, t5, t6, t7, t8, t9, t10)

@@ -1,24 +1,21 @@
 -- The rows that declarations excuse, one declaration after the other, and what the bits are in the end. Assumes nothing.
 use Prim.Native.Nat.{ℕ, _+_, _<_, _≤_, _^_}
-use mathlib.Core.Path.{_≡_, refl, sym, ap, _∙_}
+use mathlib.Core.Path.{_≡_, sym, _∙_}
 use mathlib.Core.List.{List}
-use mathlib.Core.Bool.{Bool, true, false}
+use mathlib.Core.Bool.{true}
 use mathlib.Core.Logic.{_⊎_, inl, inr, ⊎-elim}
 use native.Mathlib.Omega.{arith}
 use native.Mathlib.Decide.{decLt}
 use lib.ListN.{length, getD, replicate}
-use Rattle.bits.specs.Bits.{bit, setBit, BitSet}
-use Rattle.bits.proofs.Bits.{bit-zeros, set-there, set-again, set-only}
-use Rattle.tables.specs.Table.{cell, hasName, findName}
-use Rattle.tables.specs.declared.Found.{Found}
-use Rattle.tables.specs.declared.Found.the-variants.{RowAt, NoRow}
+use Rattle.bits.specs.Bits.{bit}
+use Rattle.bits.proofs.Bits.{bit-zeros}
+use Rattle.tables.specs.Table.{cell, hasName}
 use Rattle.tables.specs.Layout.{tokens, implicit, unused, rules, kindName, width}
-use Rattle.tables.proofs.Cases.{same-part-iff, same-part-sym}
-use Rattle.finder.specs.Finder.{Led, Held, Apart as Different}
+use Rattle.tables.proofs.Cases.{same-part-sym}
 use Rattle.grammar.specs.declared.Counts.{Counts}
 use Rattle.sound.specs.Test.{countAt}
-use Rattle.reach.specs.Reach.{wordsFor, ruleSort, tokenSort, Named, Grammar, Calls, Begins, Apart, Uses, symbol, precedence, Adds, Fits, Called, Spread, TokenOf}
-use Rattle.reach.proofs.Laws.{added-none, adds-same, name-calls, mark-unfound}
+use Rattle.reach.specs.Reach.{wordsFor, ruleSort, tokenSort, Named, Grammar, Begins, Uses, symbol, precedence, Adds, Fits, Called, Spread, TokenOf}
+use Rattle.reach.proofs.Laws.{added-none, adds-same}
 use Rattle.reach.proofs.Chains.{begins-in, chain-in}
 use Rattle.usage.specs.Report.{Excuses, Expected, Implicit, Excused, expected, implied}
 use Rattle.pruning.specs.Stays.{Root, startRule, excusedRule, StaysRule, StaysToken, usedToken, excusedToken, Staying, rule, token, StayWork}
@@ -41,45 +38,6 @@ rows-then {P} {Q} R d ws vs us p q r x y = record {
   where
     row : {S : ℕ → ℕ → Type 0} (k i : ℕ) → i < d .sort .count → k ≡ d .sort .base + i → S (cell (d .sort .wide) (d .cells) i 0) (cell (d .sort .wide) (d .cells) i 1) → RowBit d S k
     row k i h e s = record { row = i; inside = h; holds = s; bit-is = e }
-
--- ---- the row of a name
-
--- names that are each of one row differ, and a finder that leads to all rows finds them
-module _ (src : List ℕ) (d : Named) (one : Apart src d) where
-  pub calls-differ : Different src (d .sort .wide) 0 (d .sort .count) (d .cells)
-  unfolding hasName
-  calls-differ q r l m = go (hasName src (d .sort .wide) 0 (d .cells) (cell (d .sort .wide) (d .cells) r 0) (cell (d .sort .wide) (d .cells) r 1) q) refl
-    where
-      go : (x : Bool) → hasName src (d .sort .wide) 0 (d .cells) (cell (d .sort .wide) (d .cells) r 0) (cell (d .sort .wide) (d .cells) r 1) q ≡ x → x ≡ false
-      go true h =
-          let x = same-part-iff src _ _ _ _ .0 h in
-          let e : q ≡ r = one (cell (d .sort .wide) (d .cells) r 0) (cell (d .sort .wide) (d .cells) r 1) q r (record { inside = omega arith; same = h }) (record { inside = m; same = same-part-iff src _ _ _ _ .1 (x .2, x .3, x .2, x .3, refl) }) in
-          absurd (omega arith)
-      go false h = refl
-
-  pub calls-held : (ix : List ℕ) → Led src (d .sort .wide) 0 (d .sort .count) (d .cells) ix → Held src (d .sort .wide) 0 (d .sort .count) (d .cells) ix
-  calls-held ix led = record { led = led; apart = calls-differ }
-
-module _ (src : List ℕ) (d : Named) (a b : ℕ) (f : Found) (e : f ≡ findName src (d .sort .wide) 0 (d .sort .count) (d .cells) a b) (ws : List ℕ) where
-  -- its bit is set,
-  pub named-found : (r : ℕ) (vs : List ℕ) → Apart src d → Fits (d .sort) ws → f ≡ RowAt r → vs ≡ setBit (d .sort .base + r) ws → Adds (Called src d a b) ws vs
-  named-found r vs one fits h s = rw s (new (setBit (d .sort .base + r) ws) (set-there ws (d .sort .base + r) (omega (arith, fits .inside, mine .inside))))
-    where
-      mine : Calls src d a b r
-      mine = name-calls src d a b f e r h
-
-      new : (us : List ℕ) → BitSet (d .sort .base + r) ws us → Adds (Called src d a b) ws us
-      new us x =
-          record {
-            size = x .size;
-            kept = set-again (d .sort .base + r) ws us x;
-            only = λ j o. set-only (d .sort .base + r) ws us x j o (λ q. inr (record { row = r; calls = mine; bit-is = q })) (λ q. inl q);
-            all = λ j z. ap (bit us) (z .bit-is ∙ ap (λ (n : ℕ). d .sort .base + n) (one a b (z .row) r (z .calls) mine)) ∙ x .there;
-          }
-
-  -- or there is no such row
-  pub named-unfound : f ≡ NoRow → Adds (Called src d a b) ws ws
-  named-unfound h = mark-unfound src d a b f e ws h .adds
 
 -- ---- one declaration: the row that has its name is the row whose name it has
 

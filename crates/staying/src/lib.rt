@@ -2,34 +2,13 @@
 use grammar::Counts;
 use grammar::Part;
 use reach::Sort;
-use tables::Found;
 ghost use Rattle.tables.specs.Layout.{tokens, rules, width};
 ghost use Rattle.sound.specs.Test.{countAt};
 ghost use Rattle.index.specs.Index.{Indexed};
 ghost use Rattle.finder.specs.Finder.{Led};
-ghost use Rattle.reach.specs.Reach.{named, grammarOf, Apart, Fair, Adds, Fits, Called};
+ghost use Rattle.reach.specs.Reach.{named, grammarOf, Apart, Fair, Adds, Fits};
 ghost use Rattle.usage.specs.Report.{Expected, Implicit, Excused, excusesOf};
 ghost use Rattle.staying.specs.Marks.{RowBit, EntryBit, StayMarks};
-
-// How many rows a finder of few slots is for, and how many slots a finder has.
-pub const FEW_ROWS: u32 = 512;
-
-pub const FEW_SLOTS: usize = 1024;
-
-pub const MANY_SLOTS: usize = 32768;
-
-// Sets the bit of the row that has the name from `a` to `b`, if there is one. The finder leads to all rows.
-fn mark_named(w: &mut [u32], src: &[u8], names: &[u32], fx: &[u16], z: Sort, a: u32, b: u32)
-    requires { ⌜ Fits z (now w) × Apart (now src) (named (now names) z) × Led (now src) (z .wide) 0 (z .count) (now names) (now fx) ⌝ }
-    ensures { λ r. ⌜ Adds (Called (now (src .entry)) (named (now (names .entry)) z) a b) (now (w .entry)) (now (w .exit)) ⌝ }
-{
-    match finder::find(src, names, z.wide, tables::NAME, z.count, fx, a, b) {
-        Found::RowAt(row) => {
-            bits::set_bit(w, z.base + row as usize);
-        }
-        Found::NoRow => {}
-    }
-}
 
 // Sets the bit of the row that row `e` of table 6 names, if that is of the sort.
 fn mark_entry(w: &mut [u32], src: &[u8], names: &[u32], fx: &[u16], z: Sort, t6: &[u32], e: u32)
@@ -43,7 +22,7 @@ fn mark_entry(w: &mut [u32], src: &[u8], names: &[u32], fx: &[u16], z: Sort, t6:
     let at = tables::KIND_NAME as u32;
     let a = tables::cell(t6, wide, e, at);
     let b = tables::cell(t6, wide, e, at + 1);
-    mark_named(w, src, names, fx, z, a, b);
+    reach::mark_named(w, src, names, fx, z, a, b);
 }
 
 // The same for all of its `n` rows.
@@ -72,7 +51,7 @@ fn mark_implicit(w: &mut [u32], src: &[u8], names: &[u32], fx: &[u16], z: Sort, 
     while e < n {
         let a = tables::cell(t4, wide, e, at);
         let b = tables::cell(t4, wide, e, at + 1);
-        mark_named(w, src, names, fx, z, a, b);
+        reach::mark_named(w, src, names, fx, z, a, b);
         e += 1;
     }
 }
@@ -126,7 +105,7 @@ fn mark_few(w: &mut [u32], src: &[u8], c: Counts, names: &[u32], z: Sort, t4: &[
     requires { ⌜ Fits z (now w) × Apart (now src) (named (now names) z) ⌝ }
     ensures { λ r. ⌜ Adds (RowBit (named (now (names .entry)) z) (Excused (excusesOf (now (src .entry)) c (now (t4 .entry)) (now (t6 .entry))) (z .kind))) (now (w .entry)) (now (w .exit)) ⌝ }
 {
-    let mut fx = [0u16; FEW_SLOTS];
+    let mut fx = [0u16; finder::FEW_SLOTS];
     mark_by(w, src, c, names, &mut fx, z, t4, t6);
 }
 
@@ -135,7 +114,7 @@ fn mark_many(w: &mut [u32], src: &[u8], c: Counts, names: &[u32], z: Sort, t4: &
     requires { ⌜ Fits z (now w) × Apart (now src) (named (now names) z) ⌝ }
     ensures { λ r. ⌜ Adds (RowBit (named (now (names .entry)) z) (Excused (excusesOf (now (src .entry)) c (now (t4 .entry)) (now (t6 .entry))) (z .kind))) (now (w .entry)) (now (w .exit)) ⌝ }
 {
-    let mut fx = [0u16; MANY_SLOTS];
+    let mut fx = [0u16; finder::MANY_SLOTS];
     mark_by(w, src, c, names, &mut fx, z, t4, t6);
 }
 
@@ -157,7 +136,7 @@ fn mark_excused(
     if expecteds + implicits == 0 {
         return;
     }
-    if z.count <= FEW_ROWS {
+    if z.count <= finder::FEW_ROWS {
         mark_few(w, src, c, names, z, t4, t6);
         return;
     }
@@ -192,7 +171,7 @@ pub fn mark_staying(
     // Before the spread: what an excused rule reaches stays too.
     mark_excused(w, src, c, t7, reach::rule_sort(c), t4, t6);
     reach::spread(w, src, c, t7, t8, t9);
-    reach::mark_tokens(w, src, c, t1, i1, t8, t9);
+    reach::mark_tokens(w, src, c, t1, t8, t9);
     mark_excused(w, src, c, t1, reach::token_sort(c), t4, t6);
     true
 }

@@ -18,12 +18,8 @@ ghost use Rattle.sound.specs.Test.{countAt};
 ghost use Rattle.reach.specs.Reach.{named, ruleSort, tokenSort};
 ghost use Rattle.usage.specs.Report.{Says, Expects, Expected, Implicit, Excused, excusesOf, ExpectedLed, ImplicitLed, Guides, Free, Counted, Wrote, Room, Written, ByBits, BitsLeft, MarkedBits, Reported, StandIn};
 
-// Declarations that few slots are enough for, these slots, and those for as many as a source can have.
-const FEW_EXCUSES: usize = 1024;
-
-const FEW_SLOTS: usize = 2048;
-
-const MANY_SLOTS: usize = 20480;
+// Declarations that few slots are enough for.
+const FEW_EXCUSES: usize = 512;
 
 pub enum Listing {
     // How many rows the report has.
@@ -389,7 +385,7 @@ fn count_few(
     requires { ⌜ z .base < 2 ^ 40 ⌝ }
     ensures { λ r. ⌜ Counted (Free (now (w .entry)) (excusesOf (now (src .entry)) c (now (t4 .entry)) (now (t6 .entry))) (named (now (names .entry)) z)) (z .count) r ⌝ }
 {
-    let mut fx = [0u16; FEW_SLOTS];
+    let mut fx = [0u16; finder::FEW_SLOTS];
     count_by(w, src, c, names, z, t4, t6, &mut fx)
 }
 
@@ -405,7 +401,7 @@ fn count_many(
     requires { ⌜ z .base < 2 ^ 40 ⌝ }
     ensures { λ r. ⌜ Counted (Free (now (w .entry)) (excusesOf (now (src .entry)) c (now (t4 .entry)) (now (t6 .entry))) (named (now (names .entry)) z)) (z .count) r ⌝ }
 {
-    let mut fx = [0u16; MANY_SLOTS];
+    let mut fx = [0u16; finder::MANY_SLOTS];
     count_by(w, src, c, names, z, t4, t6, &mut fx)
 }
 
@@ -423,7 +419,7 @@ fn write_few(
     requires { ⌜ (z .base < 2 ^ 40) × Room (Free (now w) (excusesOf (now src) c (now t4) (now t6)) (named (now names) z)) (z .count) at (now out) ⌝ }
     ensures { λ r. ⌜ Written (Free (now (w .entry)) (excusesOf (now (src .entry)) c (now (t4 .entry)) (now (t6 .entry))) (named (now (names .entry)) z)) (z .kind) (z .count) at r (now (out .entry)) (now (out .exit)) ⌝ }
 {
-    let mut fx = [0u16; FEW_SLOTS];
+    let mut fx = [0u16; finder::FEW_SLOTS];
     write_by(out, at, w, src, c, names, z, t4, t6, &mut fx)
 }
 
@@ -441,7 +437,7 @@ fn write_many(
     requires { ⌜ (z .base < 2 ^ 40) × Room (Free (now w) (excusesOf (now src) c (now t4) (now t6)) (named (now names) z)) (z .count) at (now out) ⌝ }
     ensures { λ r. ⌜ Written (Free (now (w .entry)) (excusesOf (now (src .entry)) c (now (t4 .entry)) (now (t6 .entry))) (named (now (names .entry)) z)) (z .kind) (z .count) at r (now (out .entry)) (now (out .exit)) ⌝ }
 {
-    let mut fx = [0u16; MANY_SLOTS];
+    let mut fx = [0u16; finder::MANY_SLOTS];
     write_by(out, at, w, src, c, names, z, t4, t6, &mut fx)
 }
 

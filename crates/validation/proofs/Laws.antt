@@ -1,16 +1,14 @@
 -- What the functions' proofs cite: what is left of a definition behind each test, and the tests put together. Assumes nothing.
 use Prim.Native.Nat.{ℕ, zero, suc, _+_, _-_, _≤_, _<_}
-use mathlib.Core.Path.{_≡_, refl, sym, ap, _∙_}
+use mathlib.Core.Path.{_≡_, refl, sym, _∙_}
 use mathlib.Core.List.{List, [], _∷_, _++_, append-assoc}
 use mathlib.Core.Bool.{Bool, true, false, _||_, not}
 use native.Mathlib.Omega.{arith}
 use borrow.Author.Tests.{eq-eqb, ne-eqb, not-true, not-false}
 use lib.Dec.{eqb}
 use Rattle.tables.specs.Table.{cell, findName, zeroed}
-use Rattle.tables.specs.Layout.{tokens, precedences, implicit, epps, unused, rules, productions, symbols, keyName, kindName, ruleRow, symbolsFrom, symbolsTo, knownRow, noRow, prec, width}
+use Rattle.tables.specs.Layout.{tokens, precedences, implicit, epps, unused, rules, productions, symbols, keyName, kindName, ruleRow, symbolsFrom, symbolsTo, knownRow, noRow, width}
 use Rattle.tables.specs.declared.Found.{Found}
-use Rattle.tables.specs.Below.{below}
-use Rattle.tables.proofs.Below.{below-on, below-not, below-all}
 use Rattle.tables.proofs.Cases.{find-cases}
 use Rattle.tables.proofs.Ends.{chained-inside}
 use Rattle.symbols.specs.Symbols.{rowNumber, lexicon, namedRow, rowFor, Knows}
@@ -27,7 +25,7 @@ use Rattle.productions.specs.declared.Prec.the-variants.{PrecAt}
 use Rattle.sound.specs.Test.{countAt, soundTest}
 use Rattle.sound.proofs.Iff.{sound-iff}
 use Rattle.validation.specs.Faults.{first, upto, unless, isRow, known, startFaults, precGiven, precFaults, nameFaults, kindFaults, kindsFaults, productionFaults, ofRule, rulesFaults, eppFaults, eppsFaults, faults, validity}
-use Rattle.validation.specs.Walk.{lacksPrec, hasPrecs, SymbolsKnown, Walkable, symbolFaults, symbolsFaults, failing, AllFaults, allFaults, faultListing}
+use Rattle.validation.specs.Walk.{SymbolsKnown, Walkable, symbolFaults, symbolsFaults, failing, AllFaults, allFaults, faultListing}
 use Rattle.validation.specs.declared.Test.the-variants.{Failed}
 use Rattle.validation.specs.declared.Flaw.{Flaw}
 use Rattle.validation.specs.declared.Flaw.the-variants.{NoStartRule, InvalidStartRule, UnknownRuleRef, UnknownTokenRef, UnknownEppKey}
@@ -133,17 +131,6 @@ module _ (t8 : List ℕ) (k r : ℕ) (fs : List Flaw) where
   pub of-other : isOfRule t8 k r ≡ false → [] ≡ ofRule (eqb (cellOf t8 r ruleRow) k) fs
   unfolding isOfRule
   of-other h = rw h
-
--- whether a production has a `%prec`, production by production
-module _ (t8 : List ℕ) (r v : ℕ) (e : v ≡ cellOf t8 r prec) where
-  pub prec-here : v ≡ 1 → (n : ℕ) → r < n → true ≡ hasPrecs t8 n
-  prec-here h n l = ap not (below-not (lacksPrec t8) r n false l (rw (← e, eq-eqb v 1 h)) refl)
-
-  pub prec-on : (v ≡ 1 → ⊥) → below r (lacksPrec t8) ≡ true → below (r + 1) (lacksPrec t8) ≡ true
-  prec-on h k = below-on (lacksPrec t8) r true k (rw (← e, ne-eqb v 1 h)) refl
-
-pub prec-none : (t8 : List ℕ) (r n : ℕ) → below r (lacksPrec t8) ≡ true → r ≤ n → n ≤ r → false ≡ hasPrecs t8 n
-prec-none t8 r n h k l = ap not (below-all (lacksPrec t8) r n h k l)
 
 -- the tests in two halves, behind the counts of the tables
 module _ (src : List ℕ) (c : Counts) (n1 n7 : ℕ) (h1 : n1 ≡ countAt c tokens) (h7 : n7 ≡ countAt c rules) where

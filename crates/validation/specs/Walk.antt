@@ -6,12 +6,11 @@ use mathlib.Core.Bool.{Bool, true, false, not, _||_}
 use lib.Dec.{eqb, ltb, leb}
 use lib.ListN.{length, replicate}
 use Rattle.tables.specs.Table.{cell, put, zeroed}
-use Rattle.tables.specs.Layout.{tokens, precedences, implicit, rules, productions, symbols, epps, unused, prec, width, faultWidth, kindName, knownRow, noRow}
-use Rattle.tables.specs.Below.{below}
+use Rattle.tables.specs.Layout.{tokens, precedences, implicit, rules, productions, symbols, epps, unused, width, faultWidth, kindName, knownRow, noRow}
 use Rattle.index.specs.Index.{Indexed}
 use Rattle.finder.specs.Finder.{Led}
 use Rattle.symbols.specs.Symbols.{lexicon, Knows}
-use Rattle.productions.specs.Cells.{cellOf, productionAt}
+use Rattle.productions.specs.Cells.{productionAt, givesPrec}
 use Rattle.grammar.specs.declared.Counts.{Counts}
 use Rattle.grammar.specs.declared.Singles.{Singles}
 use Rattle.grammar.specs.Sound.{Tables, Indexes}
@@ -53,16 +52,9 @@ pub record AllNames (src : List ℕ) (c : Counts) (t1 t2 t4 t7 fx : List ℕ) : 
   pub implicit : Led src (width implicit) 0 (countAt c implicit) t4 fx
   pub rules : Led src (width rules) 0 (countAt c rules) t7 fx
 
--- whether one of the n productions has a `%prec`
-abbrev pub lacksPrec : List ℕ → ℕ → Bool
-lacksPrec t8 r = not (eqb (cellOf t8 r prec) 1)
-
-abbrev pub hasPrecs : List ℕ → ℕ → Bool
-hasPrecs t8 n = not (below n (lacksPrec t8))
-
 -- whether a name is looked up behind the start: an `%epp` key, an expected unused name or a `%prec`
 abbrev pub looksUp : Counts → List ℕ → Bool
-looksUp c t8 = (not (eqb (countAt c epps) 0) || not (eqb (countAt c unused) 0)) || hasPrecs t8 (countAt c productions)
+looksUp c t8 = (not (eqb (countAt c epps) 0) || not (eqb (countAt c unused) 0)) || givesPrec t8 (countAt c productions)
 
 -- document 02, request Five, "The report, validation and the fault list each look a symbol up again": the symbols of the first n productions know their rows
 pub record SymbolsKnown (src t1 : List ℕ) (tokens : ℕ) (t7 : List ℕ) (rules : ℕ) (t8 t9 : List ℕ) (n : ℕ) : Type 0 where

@@ -14,7 +14,7 @@ ghost use Rattle.sound.specs.Test.{countAt};
 ghost use Rattle.grammar.specs.Sound.{Tables};
 ghost use Rattle.validation.specs.Faults.{faultCells, known, first, startFaults, precFaults, nameFaults, kindFaults, kindsFaults, productionFaults, ruleFaults, rulesFaults, eppFaults, eppsFaults, faults, validity};
 ghost use Rattle.links.specs.Links.{Linked};
-ghost use Rattle.validation.specs.Walk.{RuleNames, PrecNames, SymbolNames, KeyNames, AllNames, looksUp, SymbolsKnown, hasPrecs, Walkable, symbolFaults, symbolsFaults, failing, verdict, Walked, noted, AllFaults, faultListing};
+ghost use Rattle.validation.specs.Walk.{RuleNames, PrecNames, SymbolNames, KeyNames, AllNames, looksUp, SymbolsKnown, Walkable, symbolFaults, symbolsFaults, failing, verdict, Walked, noted, AllFaults, faultListing};
 
 // Rules and productions that links are kept for: those of a large dialect, and the most that 65,536 bytes can hold.
 const FEW_RULES: usize = 1024;
@@ -34,7 +34,7 @@ const FEW_NAMES: u64 = 512;
 const FEW_SLOTS: usize = 1024;
 
 // Slots for as many tokens and precedences as a source can have, and for as many tokens, implicit ones and rules.
-const MANY_SLOTS: usize = 40960;
+const MANY_SLOTS: usize = 36864;
 
 const MOST_SLOTS: usize = 49152;
 
@@ -126,20 +126,6 @@ fn guide_names(src: &[u8], c: Counts, t1: &[u32], t4: &[u32], t7: &[u32], fx: &m
     finder::enter_rows(src, t1, tables::TOKEN_WIDTH, tables::NAME, tokens, fx);
     finder::enter_rows(src, t4, tables::NAME_WIDTH, tables::NAME, implicit, fx);
     finder::enter_rows(src, t7, tables::RULE_WIDTH, tables::NAME, rules, fx);
-}
-
-// Whether one of the `n` productions has a `%prec`. Only the time depends on it.
-fn has_precs(t8: &[u32], n: u32) -> bool
-    ensures { λ r. ⌜ r ≡ hasPrecs (now (t8 .entry)) n ⌝ }
-{
-    let mut r = 0;
-    while r < n {
-        if tables::cell(t8, tables::PRODUCTION_WIDTH, r, tables::PREC) == 1 {
-            return true;
-        }
-        r += 1;
-    }
-    false
 }
 
 pub fn start_fault(src: &[u8], start: Part, t7: &[u32], rules: u32, i7: &[u32]) -> Test
@@ -792,7 +778,7 @@ pub fn note_rules(
     requires { ⌜ SymbolsKnown (now src) (now t1) tokens (now t7) rules (now t8) (now t9) n ⌝ }
     ensures { λ q. ⌜ _≡_ {A = Walked} (record { answer = q; cells = now (t14 .exit) }) (noted (rulesFaults (now (src .entry)) (now (t1 .entry)) tokens (now (t2 .entry)) precedences (now (t7 .entry)) rules (now (t8 .entry)) (now (t9 .entry)) n) at (now (t14 .entry))) ⌝ }
 {
-    if !has_precs(t8, n) {
+    if !productions::has_precs(t8, n) {
         let none = [0u16; 0];
         return note_led(
             src,
@@ -1262,7 +1248,7 @@ fn looks_up(c: Counts, t8: &[u32]) -> bool
     ensures { λ r. ⌜ r ≡ looksUp c (now (t8 .entry)) ⌝ }
 {
     let asked = (sound::rows_of(c, tables::EPPS) != 0) | (sound::rows_of(c, tables::UNUSED) != 0);
-    asked | has_precs(t8, sound::rows_of(c, tables::PRODUCTIONS))
+    asked | productions::has_precs(t8, sound::rows_of(c, tables::PRODUCTIONS))
 }
 
 // How many names a finder of them all has.

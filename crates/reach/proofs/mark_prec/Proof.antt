@@ -20,7 +20,7 @@ unmarked c =
 marked : tie.Need-returns-3
 marked c =
     let a = c .before .before .before .before .before .before .before .before .before .before .before .before .before .before .before .before .before .args in
-    prec-named (now (a .src)) (now (a .prods)) (named (now (a .names)) (a .z)) (a .p) _ _ _ _ (now (a .w)) _ (c .before .before .before .before .before .before .before .test-bit .result) _ (c .before .before .before .before .before .before .before .before .before .before .before .cell .ensures) (c .before .before .before .before .before .before .before .before .before .before .if1 .left) (c .before .before .before .before .before .before .before .before .before .cell2 .ensures) (c .before .before .before .before .before .before .before .test-bit .ensures) (not-false _ (c .before .before .before .before .before .before .if2 .left)) (c .before .before .before .before .before .cell3 .ensures) (c .before .before .before .before .cell4 .ensures) (c .before .before .mark-name .ensures)
+    prec-named (now (a .src)) (now (a .prods)) (named (now (a .names)) (a .z)) (a .p) _ _ _ _ (now (a .w)) _ (c .before .before .before .before .before .before .before .test-bit .result) _ (c .before .before .before .before .before .before .before .before .before .before .before .cell .ensures) (c .before .before .before .before .before .before .before .before .before .before .if1 .left) (c .before .before .before .before .before .before .before .before .before .cell2 .ensures) (c .before .before .before .before .before .before .before .test-bit .ensures) (not-false _ (c .before .before .before .before .before .before .if2 .left)) (c .before .before .before .before .before .cell3 .ensures) (c .before .before .before .before .cell4 .ensures) (c .before .before .mark-named .ensures)
 
 pub mark-prec-spec : {M : Type 1} → statement M
 mark-prec-spec =

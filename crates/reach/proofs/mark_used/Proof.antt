@@ -13,7 +13,7 @@ use Rattle.reach.proofs.mark_used.Tie as tie
 tokens-ready : tie.Need-mark-tokens-requires
 tokens-ready c κs =
     let given = c .before .before .before .before .before .before .before .before .before .before .before .before .before .before .before .before .before .before .before .before .before .before .before .before .before .before .pre in
-    (search needs, given .0 .tokens-apart, given .0 .tokens-told, given .0 .owned, given .1)
+    (search needs, given .0 .tokens-apart, given .0 .tokens-told, given .0 .owned)
 
 used : tie.Need-returns-2
 used c =

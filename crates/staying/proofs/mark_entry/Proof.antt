@@ -14,7 +14,7 @@ other c =
 marked : tie.Need-returns-2
 marked c =
     let a = c .before .before .before .before .before .before .before .before .before .before .before .before .before .before .args in
-    entry-named (now (a .src)) (named (now (a .names)) (a .z)) (now (a .t6)) (a .e) _ _ _ (now (a .w)) _ (c .before .before .before .before .before .before .before .before .cell .ensures) (c .before .before .before .before .before .before .if1 .left) (c .before .before .before .before .before .cell2 .ensures) (c .before .before .before .before .cell3 .ensures) (c .before .before .mark-named .ensures)
+    entry-named (now (a .src)) (named (now (a .names)) (a .z)) (now (a .t6)) (a .e) _ _ _ (now (a .w)) _ (c .before .before .before .before .before .before .before .before .cell .ensures) (c .before .before .before .before .before .before .if1 .left) (c .before .before .before .before .before .cell2 .ensures) (c .before .before .before .before .cell3 .ensures) (c .before .before .mark-named .ensures .adds)
 
 pub mark-entry-spec : {M : Type 1} → statement M
 mark-entry-spec =

@@ -33,7 +33,7 @@ again : tie.Need-loop-again Inv-loop μ-loop
 again c =
     let a = c .before .before .before .before .before .before .before .before .before .before .before .before .before .before .before .args in
     let l = c .before .before .before .before .before .before .before .loop in
-    (omega arith, implicit-more (now (a .src)) (named (now (a .names)) (a .z)) (now (a .t4)) (l .e) _ _ (now (a .w)) (l .w) _ (c .before .before .before .before .before .before .before .before .if1 .left) (c .before .before .before .before .before .cell .ensures) (c .before .before .before .before .cell2 .ensures) (l .inv .1) (c .before .before .mark-named .ensures))
+    (omega arith, implicit-more (now (a .src)) (named (now (a .names)) (a .z)) (now (a .t4)) (l .e) _ _ (now (a .w)) (l .w) _ (c .before .before .before .before .before .before .before .before .if1 .left) (c .before .before .before .before .before .cell .ensures) (c .before .before .before .before .cell2 .ensures) (l .inv .1) (c .before .before .mark-named .ensures .adds))
 
 all : tie.Need-returns-2 Inv-loop μ-loop
 all c =

@@ -39,7 +39,7 @@ tokens-ready : tie.Need-mark-tokens-requires
 tokens-ready c κs =
     let given = c .before .before .before .before .before .before .before .before .before .before .before .before .before .before .before .before .before .before .before .before .before .before .before .before .before .before .before .before .before .before .before .before .before .pre in
     let size = c .before .before .before .spread .ensures .size ∙ c .before .before .before .before .before .before .before .mark-excused .ensures .size ∙ c .before .before .before .before .before .before .before .before .before .before .before .before .mark-start .ensures .size ∙ same (c .before .before .before .before .before .before .before .before .before .before .before .before .before .before) in
-    (fits-tokens (c .before .before .before .before .before .before .before .before .before .before .before .before .before .before .before .before .before .before .before .before .before .before .before .before .before .before .before .before .before .before .before .before .before .args .c) _ (rw size (room (c .before .before .before .before .before .before .before .before .before .before .before .before .before .before))) (low (c .before .before .before .before .before .before .before .before .before .before .before .before .before .before)), given .0 .tokens-apart, given .0 .tokens-told, given .0 .owned, given .1)
+    (fits-tokens (c .before .before .before .before .before .before .before .before .before .before .before .before .before .before .before .before .before .before .before .before .before .before .before .before .before .before .before .before .before .before .before .before .before .args .c) _ (rw size (room (c .before .before .before .before .before .before .before .before .before .before .before .before .before .before))) (low (c .before .before .before .before .before .before .before .before .before .before .before .before .before .before)), given .0 .tokens-apart, given .0 .tokens-told, given .0 .owned)
 
 excused-ready : tie.Need-mark-excused-requires-2
 excused-ready c κs =

@@ -1,4 +1,4 @@
--- `reach::mark_tokens` meets its contract: production by production. Assumes nothing.
+-- `reach::mark_tokens_led` meets its contract: production by production. Assumes nothing.
 use Prim.Native.Nat.{_-_, _≤_}
 use mathlib.Core.Path.{_∙_}
 use native.Mathlib.Omega.{arith}
@@ -7,14 +7,14 @@ use denote.Ref.{now}
 use Rattle.reach.specs.Reach.{named, net, ruleSort, tokenSort}
 use Rattle.reach.proofs.Laws.{fits-on}
 use Rattle.reach.proofs.Works.{TokensTo, tokens-none, tokens-more, tokens-done}
-use Rattle.reach.proofs.mark_tokens.Statement.{statement}
-use Rattle.reach.proofs.mark_tokens.Tie as tie
+use Rattle.reach.proofs.mark_tokens_led.Statement.{statement}
+use Rattle.reach.proofs.mark_tokens_led.Tie as tie
 
 abbrev Inv-loop : tie.InvT-loop
-Inv-loop w₀ src c tokens ix prods syms z n p₀ w p = (p ≤ n) × TokensTo (net src c prods syms) (named tokens (tokenSort c)) p w₀ w
+Inv-loop w₀ src c tokens fx prods syms z n p₀ w p = (p ≤ n) × TokensTo (net src c prods syms) (named tokens (tokenSort c)) p w₀ w
 
 abbrev μ-loop : tie.MeasureT-loop
-μ-loop w₀ src c tokens ix prods syms z n p₀ w p = n - p
+μ-loop w₀ src c tokens fx prods syms z n p₀ w p = n - p
 
 begin : tie.Need-loop-holds Inv-loop μ-loop
 begin c = (omega arith, tokens-none _ _ _)
@@ -43,8 +43,8 @@ all c =
     let l = c .before .loop in
     tokens-done _ _ (l .p) _ _ (rw (c .before .before .rows-of .ensures) at (c .loop-test .left)) (l .inv .1)
 
-pub mark-tokens-spec : {M : Type 1} → statement M
-mark-tokens-spec =
+pub mark-tokens-led-spec : {M : Type 1} → statement M
+mark-tokens-led-spec =
     tie.close
     (tie.spec
     Inv-loop
