@@ -33,10 +33,10 @@ const FEW_NAMES: u64 = 512;
 
 const FEW_SLOTS: usize = 1024;
 
-// Slots for as many tokens and precedences as a source can have, and for as many tokens, implicit ones and rules.
-const MANY_SLOTS: usize = 36864;
+// Slots for as many tokens and precedences as a source can have, and for as many names as all four tables can.
+const MANY_SLOTS: usize = 40960;
 
-const MOST_SLOTS: usize = 49152;
+const MOST_SLOTS: usize = 45056;
 
 // What a reading lacks, by the place of the name.
 pub enum Flaw {
