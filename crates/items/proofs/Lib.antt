@@ -4,3 +4,4 @@ pub mod Marks
 pub mod Turns
 pub mod Far
 pub mod Spares
+pub mod Runs

@@ -9,6 +9,7 @@ use grammar::Step;
 use productions::Act;
 use productions::Prec;
 use productions::Production;
+use tables::Entered;
 use tables::Found;
 use texts::Action;
 use words::Token;
@@ -16,9 +17,12 @@ ghost use mathlib.Core.Path.{_≡_};
 ghost use Prim.Native.Nat.{_≤_};
 ghost use lib.ListN.{length};
 ghost use Rattle.grammar.specs.State.{Out1, Out2, Here, Passed, Moves, Onward, Tokens};
-ghost use Rattle.tables.specs.Layout.{tokens, width};
+ghost use Rattle.tables.specs.Layout.{tokens, symbols, width};
+ghost use Rattle.tables.specs.Table.{room};
 ghost use Rattle.finder.specs.Finder.{Held};
 ghost use Rattle.items.specs.Items.{Inside, sortAt, Spots, begun, withPrec, withAction, tokenSymbol, quotedRows, quotedItem, precName, precItem, mayEnd, afterAction, actionItem, mayFollow, emptyItem, symbolKind, bareItem, endProduction, barItem, endItem, Made0, Made1, Made2, Made3, itemStep, itemList, Itemed};
+ghost use Rattle.items.specs.declared.Sort.the-variants.{QuotedSort, BareSort};
+ghost use Rattle.items.specs.Quick.{ranState, Quickly, tokensNow, Ran};
 
 // What stands at a place in a production.
 pub enum Sort {
@@ -42,6 +46,20 @@ pub struct Drafted {
     pub answer: Answer,
     pub state: State,
     pub draft: Production,
+}
+
+// A symbol that was read: where the next item stands, how many tokens there are, and where its word ends; or it was left as it stood.
+pub enum Quick {
+    Read(usize, u32, u32),
+    Unread,
+}
+
+// Where a run of symbols ends, how many tokens and symbols there are then, and where the last symbol's word ends.
+pub struct Run {
+    pub at: usize,
+    pub tokens: u32,
+    pub symbols: u32,
+    pub to: u32,
 }
 
 pub fn spot(sort: Sort, end: usize) -> Spotted
@@ -522,6 +540,163 @@ pub fn item(
     }
 }
 
+// Whether table 9, of `n` symbols, has room for one more.
+fn symbol_room(t9: &[u32], n: u32) -> bool
+    ensures { λ r. ⌜ r ≡ room (width symbols) n (now (t9 .entry)) ⌝ }
+{
+    if n == 4294967295 {
+        return false;
+    }
+    (n as usize) < t9.len() / (tables::SYMBOL_WIDTH as usize)
+}
+
+// A bare symbol, with the spacing behind it, where there are `m` tokens and `n` symbols. Nothing changes where it is refused, or finds no room.
+fn quick_bare(
+    src: &[u8],
+    at: usize,
+    m: u32,
+    n: u32,
+    t1: &[u32],
+    t9: &mut [u32],
+    i1: &[u16],
+) -> Quick
+    requires { ⌜ Here (now src) at × Held (now src) (width tokens) 0 m (now t1) (now i1) × (sortAt (now src) at .sort ≡ BareSort) ⌝ }
+    ensures is { λ r. ⌜ Quickly (now (src .entry)) at m n (now (t1 .entry)) (now (t9 .entry)) (now (t1 .entry)) (now (t9 .exit)) r ⌝ }
+    ensures indexed { λ r. ⌜ Held (now (src .entry)) (width tokens) 0 (tokensNow m r) (now (t1 .entry)) (now (i1 .entry)) ⌝ }
+{
+    match words::parse_token(src, at) {
+        Token::Found(p, end, _) => match grammar::pass_gap(src, end, true) {
+            Gap::GapTo(j, _) => {
+                let from = p.from as u32;
+                let to = p.to as u32;
+                let kind = symbol_kind(src, m, t1, i1, from, to);
+                let row = [kind, from, to, 0];
+                if tables::add_row(t9, n, &row) {
+                    Quick::Read(j, m, end as u32)
+                } else {
+                    Quick::Unread
+                }
+            }
+            Gap::GapRefused(_) => Quick::Unread,
+        },
+        Token::NoToken(_) => Quick::Unread,
+    }
+}
+
+// A quoted symbol in the same way; it joins table 1 only where table 9 has room.
+fn quick_quoted(
+    src: &[u8],
+    at: usize,
+    m: u32,
+    n: u32,
+    t1: &mut [u32],
+    t9: &mut [u32],
+    i1: &mut [u16],
+) -> Quick
+    requires { ⌜ Here (now src) at × Held (now src) (width tokens) 0 m (now t1) (now i1) × (sortAt (now src) at .sort ≡ QuotedSort) ⌝ }
+    ensures is { λ r. ⌜ Quickly (now (src .entry)) at m n (now (t1 .entry)) (now (t9 .entry)) (now (t1 .exit)) (now (t9 .exit)) r ⌝ }
+    ensures indexed { λ r. ⌜ Held (now (src .entry)) (width tokens) 0 (tokensNow m r) (now (t1 .exit)) (now (i1 .exit)) ⌝ }
+{
+    if !symbol_room(t9, n) {
+        return Quick::Unread;
+    }
+    match words::parse_token(src, at) {
+        Token::Found(p, end, _) => match grammar::pass_gap(src, end, true) {
+            Gap::GapTo(j, _) => {
+                let from = p.from as u32;
+                let to = p.to as u32;
+                match finder::enter_token(src, t1, m, i1, from, to, false) {
+                    Entered::Rows(k) => {
+                        let row = [2, from, to, 0];
+                        tables::add_row(t9, n, &row);
+                        Quick::Read(j, k, end as u32)
+                    }
+                    Entered::Full => Quick::Unread,
+                }
+            }
+            Gap::GapRefused(_) => Quick::Unread,
+        },
+        Token::NoToken(_) => Quick::Unread,
+    }
+}
+
+// The symbol that begins here, if one does: told by its first byte, which is a quote, or is that of no mark.
+fn quick_symbol(
+    src: &[u8],
+    at: usize,
+    m: u32,
+    n: u32,
+    t1: &mut [u32],
+    t9: &mut [u32],
+    i1: &mut [u16],
+) -> Quick
+    requires { ⌜ Here (now src) at × Held (now src) (width tokens) 0 m (now t1) (now i1) ⌝ }
+    ensures is { λ r. ⌜ Quickly (now (src .entry)) at m n (now (t1 .entry)) (now (t9 .entry)) (now (t1 .exit)) (now (t9 .exit)) r ⌝ }
+    ensures indexed { λ r. ⌜ Held (now (src .entry)) (width tokens) 0 (tokensNow m r) (now (t1 .exit)) (now (i1 .exit)) ⌝ }
+{
+    if src.len() <= at {
+        return Quick::Unread;
+    }
+    let c = src[at];
+    match c {
+        b'"' | b'\'' => quick_quoted(src, at, m, n, t1, t9, i1),
+        b'|' | b';' | b'%' | b'{' => Quick::Unread,
+        _ => quick_bare(src, at, m, n, t1, t9, i1),
+    }
+}
+
+// The symbols from `at` on, up to the first item that is none, or is not read in this way; the draft ends at `to` so far.
+pub fn symbol_run(
+    src: &[u8],
+    at: usize,
+    m: u32,
+    n: u32,
+    to: u32,
+    t1: &mut [u32],
+    t9: &mut [u32],
+    i1: &mut [u16],
+) -> Run
+    requires { ⌜ Here (now src) at × Held (now src) (width tokens) 0 m (now t1) (now i1) ⌝ }
+    ensures is { λ r. ⌜ Ran (now (src .entry)) at m n to (now (t1 .entry)) (now (t9 .entry)) (r .at) (r .tokens) (r .symbols) (r .to) (now (t1 .exit)) (now (t9 .exit)) ⌝ }
+    ensures moved { λ r. ⌜ Passed (now (src .entry)) at (r .at) ⌝ }
+    ensures indexed { λ r. ⌜ Held (now (src .entry)) (width tokens) 0 (r .tokens) (now (t1 .exit)) (now (i1 .exit)) ⌝ }
+{
+    let mut run = Run {
+        at,
+        tokens: m,
+        symbols: n,
+        to,
+    };
+    loop {
+        match quick_symbol(src, run.at, run.tokens, run.symbols, t1, t9, i1) {
+            Quick::Read(j, k, end) => {
+                run = Run {
+                    at: j,
+                    tokens: k,
+                    symbols: run.symbols + 1,
+                    to: end,
+                };
+            }
+            Quick::Unread => {
+                return run;
+            }
+        }
+    }
+}
+
+// The state behind a run.
+pub fn after_run(s: State, r: Run) -> State
+    ensures { λ q. ⌜ q ≡ ranState s (r .at) (r .tokens) (r .symbols) ⌝ }
+{
+    let mut c = s.counts;
+    c.n[tables::TOKENS as usize] = r.tokens;
+    c.n[tables::SYMBOLS as usize] = r.symbols;
+    let mut next = s;
+    next.at = r.at;
+    next.counts = c;
+    next
+}
+
 // The items up to the rule's `;`, or to the first refusal; 4 at the source's end.
 pub fn items(
     src: &[u8],
@@ -540,6 +715,11 @@ pub fn items(
     let mut st = s;
     let mut draft = d;
     loop {
+        let tokens = grammar::count_of(st, tables::TOKENS);
+        let symbols = grammar::count_of(st, tables::SYMBOLS);
+        let run = symbol_run(src, st.at, tokens, symbols, draft.to, t1, t9, i1);
+        st = after_run(st, run);
+        draft.to = run.to;
         let at = st.at;
         if src.len() <= at {
             return Step {
