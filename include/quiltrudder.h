@@ -3,7 +3,7 @@
  *
  * A slice is a pointer and a length, the length counted in elements. A pointer is never null, also where the length is 0, and no memory that a
  * function writes overlaps any other that it is lent. That is all a caller owes: every function takes any bytes, numbers and lengths, and ends. It
- * keeps nothing, allocates nothing, and touches nothing but what it is lent and the stack, of which it takes less than half a megabyte.
+ * keeps nothing, allocates nothing, and touches nothing but what it is lent and the stack, of which it takes less than 256 kilobytes.
  *
  * Tables and indexes may be larger than a reading needs, and that costs: load clears all that it is lent, and every function that is lent tables looks whether the cells behind their rows are zero, so time is linear in what is lent, too. By
  * count, which no contract says, a source of n bytes has at most n rows in table 8 and n / 2 + 1 in each other one; most grammars have a tenth of that. After a 42 the number of the table is in the answer: lend that one twice as much and load again.
