@@ -32,7 +32,7 @@ const SMALL_SOURCE: usize = 8192;
 
 const SMALL_SLOTS: usize = 4096;
 
-// Slots for more names than 65,536 bytes can have: some 17,300 tokens, or as many of tables 2 to 5, and some 13,900 rules.
+// Slots for more names than 65,536 bytes can have: some 19,700 tokens, or as many of tables 2 to 5, and some 13,900 rules.
 const LARGE_SLOTS: usize = 24576;
 
 const RULE_SLOTS: usize = 16384;
