@@ -49,7 +49,7 @@ module _ (k : ℕ) (first : tokens ≡ k → ⊥) (src : List ℕ) where
 
   pub tokens-spare : (s : State) (t : List ℕ) → Spares k (s .counts) (listDecl src s true t .state .counts)
   unfolding listDecl percentList
-  tokens-spare s t = go (gapAt false src (s .at))
+  tokens-spare s t = go (gapAt (s .kind) false src (s .at))
     where
       go : (g : Gap) → Spares k (s .counts) (listFrom g src s true t .state .counts)
       go (GapTo i n) = turns-keep (SinceOne (s .counts)) (listTurn src true) (tokens-turn (s .counts)) (suc (length src)) _ (spares-none k (s .counts))
@@ -102,4 +102,4 @@ module _ (k : ℕ) (first : tokens ≡ k → ⊥) (src : List ℕ) where
 
         by : (b : Bool) → leb (length src) (s .at) ≡ b → Spares k (s .counts) (avoidDecl src s j what t1 t t10 .state .counts)
         by true e = rw (e, avoidDecl) (spares-none k (s .counts))
-        by false e = rw (e, avoidDecl) (go (gapAt false src (s .at)))
+        by false e = rw (e, avoidDecl) (go (gapAt (s .kind) false src (s .at)))

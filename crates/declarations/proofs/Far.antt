@@ -53,23 +53,23 @@ module _ {src : List ℕ} {done : ℕ} {s : State} {D : Declared} (T : Tables) (
   by-keyword NonassocWord j h k b = let r = f .risen in let x = b (λ z. let y : _≡_ {A = ℕ} 0 1 = cc in omega arith) in prec-far 3 (omega arith) (omega arith) (omega arith) (far-at f j h k)
   by-keyword NoKeyword j h k b = f
 
-  pub step-far : (kind : ℕ) → FarAll src done T (declStep src kind s D)
+  pub step-far : FarAll src done T (declStep src s D)
   unfolding declStep
-  step-far kind = let x = sees kind src (s .at) (f .here) in by-keyword (seenAt kind src (s .at) .word) (seenAt kind src (s .at) .end) (x .onward) (x .inside) (x .beyond)
+  step-far = let x = sees (s .kind) src (s .at) (f .here) in by-keyword (seenAt (s .kind) src (s .at) .word) (seenAt (s .kind) src (s .at) .end) (x .onward) (x .inside) (x .beyond)
 
-turn-far : (src : List ℕ) (done : ℕ) (T : Tables) (kind : ℕ) (o : Out) → FarAll src done T o → Either (FarAll src done T) (FarAll src done T) (declTurn src kind o)
+turn-far : (src : List ℕ) (done : ℕ) (T : Tables) (o : Out) → FarAll src done T o → Either (FarAll src done T) (FarAll src done T) (declTurn src o)
 unfolding declTurn
-turn-far src done T kind o f = go (leb (length src) (o .state .at))
+turn-far src done T o f = go (leb (length src) (o .state .at))
   where
-    go : (b : Bool) → Either (FarAll src done T) (FarAll src done T) (afterEnd b o (declStep src kind (o .state) (o .tables)))
+    go : (b : Bool) → Either (FarAll src done T) (FarAll src done T) (afterEnd b o (declStep src (o .state) (o .tables)))
     go true = f
-    go false = onward-keep (FarAll src done T) (declStep src kind (o .state) (o .tables) .answer) (declStep src kind (o .state) (o .tables)) (step-far T f kind)
+    go false = onward-keep (FarAll src done T) (declStep src (o .state) (o .tables) .answer) (declStep src (o .state) (o .tables)) (step-far T f)
 
 -- The declarations section keeps soundness so far, whatever its answer.
-pub declarations-far : (src : List ℕ) (done kind : ℕ) (s : State) (D : Declared) (T : Tables) → Far src done s (all D T) → FarAll src done T (declAll src kind s D)
+pub declarations-far : (src : List ℕ) (done : ℕ) (s : State) (D : Declared) (T : Tables) → Far src done s (all D T) → FarAll src done T (declAll src s D)
 unfolding declAll declRun
-declarations-far src done kind s D T f = go (gapAt true src (s .at)) (gapped true src (s .at) (f .here))
+declarations-far src done s D T f = go (gapAt (s .kind) true src (s .at)) (gapped (s .kind) true src (s .at) (f .here))
   where
-    go : (g : Gap) → Gapped src (s .at) g → FarAll src done T (allFrom g src kind s D)
-    go (GapTo i n) x = let a = x .0 in turns-keep (FarAll src done T) (declTurn src kind) (turn-far src done T kind) (suc (length src)) _ (far-at f i (omega arith) (x .1))
+    go : (g : Gap) → Gapped src (s .at) g → FarAll src done T (allFrom g src s D)
+    go (GapTo i n) x = let a = x .0 in turns-keep (FarAll src done T) (declTurn src) (turn-far src done T) (suc (length src)) _ (far-at f i (omega arith) (x .1))
     go (GapRefused e) x = f

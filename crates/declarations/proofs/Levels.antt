@@ -33,66 +33,66 @@ use Rattle.declarations.specs.Declarations.{Declared, Out, in2-10, byKey
 use Rattle.declarations.proofs.Far.{all, step-far}
 
 -- at a precedence keyword, the step is its line's
-prec-step : (src : List ℕ) (kind : ℕ) (s : State) (D : Declared) (a : ℕ) → Precedence (keyword kind src (s .at)) a → declStep src kind s D ≡ in2-10 D (precDecl src (withAt s (behind kind src (s .at))) a (D .t2) (D .t10))
+prec-step : (src : List ℕ) (s : State) (D : Declared) (a : ℕ) → Precedence (keyword (s .kind) src (s .at)) a → declStep src s D ≡ in2-10 D (precDecl src (withAt s (behind (s .kind) src (s .at))) a (D .t2) (D .t10))
 unfolding declStep
-prec-step src kind s D a p = go (keyword kind src (s .at)) a p
+prec-step src s D a p = go (keyword (s .kind) src (s .at)) a p
   where
-    go : (w : Keyword) (a : ℕ) → Precedence w a → byKeyword w src s (withAt s (behind kind src (s .at))) D ≡ in2-10 D (precDecl src (withAt s (behind kind src (s .at))) a (D .t2) (D .t10))
+    go : (w : Keyword) (a : ℕ) → Precedence w a → byKeyword w src s (withAt s (behind (s .kind) src (s .at))) D ≡ in2-10 D (precDecl src (withAt s (behind (s .kind) src (s .at))) a (D .t2) (D .t10))
     go w a left = refl
     go w a right = refl
     go w a nonassoc = refl
 
 -- In a reading, a step at a precedence keyword that goes on, and the step at the position that it answers, where a precedence keyword stands again.
-module _ {src : List ℕ} {done : ℕ} {s : State} {D : Declared} (T : Tables) (f : Far src done s (all D T)) (kind a b : ℕ) (p : Precedence (keyword kind src (s .at)) a) (g : declStep src kind s D .answer ≡ Going) where
+module _ {src : List ℕ} {done : ℕ} {s : State} {D : Declared} (T : Tables) (f : Far src done s (all D T)) (a b : ℕ) (p : Precedence (keyword (s .kind) src (s .at)) a) (g : declStep src s D .answer ≡ Going) where
   abbrev one : Out
-  one = declStep src kind s D
+  one = declStep src s D
 
   abbrev two : Out
-  two = declStep src kind (one .state) (one .tables)
+  two = declStep src (one .state) (one .tables)
 
-  module _ (q : Precedence (keyword kind src (one .state .at)) b) where
+  module _ (q : Precedence (keyword (one .state .kind) src (one .state .at)) b) where
     -- Their lists never share a level, and what stands behind a line end that is counted is not in the first.
-    pub lists-differ : TwoLists src (behind kind src (s .at)) a (behind kind src (one .state .at)) b s (one .state) (two .state) (two .tables .t2)
+    pub lists-differ : TwoLists src (behind (s .kind) src (s .at)) a (behind (one .state .kind) src (one .state .at)) b s (one .state) (two .state) (two .tables .t2)
     lists-differ =
-        told (λ (x : Out). TwoLists src (behind kind src (s .at)) a (behind kind src (one .state .at)) b s (one .state) (x .state) (x .tables .t2)) (sym (prec-step src kind (one .state) (one .tables) b q))
-        (told (λ (x : Out). TwoLists src (behind kind src (s .at)) a (behind kind src (one .state .at)) b s (x .state) (second x .state) (second x .a)) (sym step) (from (left-lists-differ src n a (D .t2) (D .t10) inside (f .ten) low (told (λ (x : Out). x .answer ≡ Going) step g) (behind kind src (one .state .at)) further b)))
+        told (λ (x : Out). TwoLists src (behind (s .kind) src (s .at)) a (behind (one .state .kind) src (one .state .at)) b s (one .state) (x .state) (x .tables .t2)) (sym (prec-step src (one .state) (one .tables) b q))
+        (told (λ (x : Out). TwoLists src (behind (s .kind) src (s .at)) a (behind (one .state .kind) src (one .state .at)) b s (x .state) (second x .state) (second x .a)) (sym step) (from (left-lists-differ src n a (D .t2) (D .t10) inside (f .ten) low (told (λ (x : Out). x .answer ≡ Going) step g) (behind (one .state .kind) src (one .state .at)) further b)))
       where
         n : State
-        n = withAt s (behind kind src (s .at))
+        n = withAt s (behind (s .kind) src (s .at))
 
         step : one ≡ in2-10 D (precDecl src n a (D .t2) (D .t10))
-        step = prec-step src kind s D a p
+        step = prec-step src s D a p
 
         second : Out → Out2
-        second x = precDecl src (withAt (x .state) (behind kind src (one .state .at))) b (x .tables .t2) (x .tables .t10)
+        second x = precDecl src (withAt (x .state) (behind (one .state .kind) src (one .state .at))) b (x .tables .t2) (x .tables .t10)
 
-        inside : behind kind src (s .at) ≤ length src
-        inside = sees kind src (s .at) (f .here) .inside
+        inside : behind (s .kind) src (s .at) ≤ length src
+        inside = sees (s .kind) src (s .at) (f .here) .inside
 
-        further : behind kind src (one .state .at) ≤ length src
-        further = sees kind src (one .state .at) (step-far T f kind .here) .inside
+        further : behind (one .state .kind) src (one .state .at) ≤ length src
+        further = sees (one .state .kind) src (one .state .at) (step-far T f .here) .inside
 
         low : s .level < 4294967295
         low = let h = f .risen in let k = f .here in let l = f .short in omega arith
 
-        from : {s₁ s₂ : State} {t : List ℕ} → TwoLists src (behind kind src (s .at)) a (behind kind src (one .state .at)) b n s₁ s₂ t → TwoLists src (behind kind src (s .at)) a (behind kind src (one .state .at)) b s s₁ s₂ t
+        from : {s₁ s₂ : State} {t : List ℕ} → TwoLists src (behind (s .kind) src (s .at)) a (behind (one .state .kind) src (one .state .at)) b n s₁ s₂ t → TwoLists src (behind (s .kind) src (s .at)) a (behind (one .state .kind) src (one .state .at)) b s s₁ s₂ t
         from x = record { line = x .line; stops = x .stops; first = x .first; behind = x .behind; second = x .second; levels = x .levels }
 
     -- A `//` comment that ends with a line end, at the index e, stands behind a word of the first list, with blanks between them or none: that line end is
     -- counted, and the list ends with the spacing that it is part of.
-    pub comment-ends : (w : LineWord) → In w (lists-differ .line .words) → (c e : ℕ) → w .end ≤ c → ((k : ℕ) → w .end ≤ k → k < c → isBlank (getD src k 0) ≡ true) → startsAt (47 ∷ 47 ∷ []) src c ≡ true → Runs (inClass LineByte) src c e → e < length src → (n : ℕ) × (0 < n) × (spacesAt true src (w .end) ≡ To (one .state .at) n)
-    comment-ends w x c e h blank starts run low = let y = comment-last src (w .end) c e h blank starts run low (lists-differ .line .line) w x refl in (lists-differ .line .counted, y .0, y .1)
+    pub comment-ends : (w : LineWord) → In w (lists-differ .line .words) → (c e : ℕ) → w .end ≤ c → ((k : ℕ) → w .end ≤ k → k < c → isBlank (getD src k 0) ≡ true) → startsAt (47 ∷ 47 ∷ []) src c ≡ true → Runs (inClass LineByte) src c e → e < length src → (n : ℕ) × (0 < n) × (spacesAt (s .kind) true src (w .end) ≡ To (one .state .at) n)
+    comment-ends w x c e h blank starts run low = let y = comment-last (s .kind) src (w .end) c e h blank starts run low (lists-differ .line .line) w x refl in (lists-differ .line .counted, y .0, y .1)
 
     -- `%left 'a' // x`, a line end, and `%left` again: the first list is its one word, and the rows of the two have different levels.
-    pub comment-lists-differ : (i m : ℕ) → spacesAt false src (behind kind src (s .at)) ≡ To i m → (w : Place) (end : ℕ) (quoted : Bool) → tokenAt src i ≡ Found w end quoted
+    pub comment-lists-differ : (i m : ℕ) → spacesAt (s .kind) false src (behind (s .kind) src (s .at)) ≡ To i m → (w : Place) (end : ℕ) (quoted : Bool) → tokenAt src i ≡ Found w end quoted
         → (c e : ℕ) → end ≤ c → ((k : ℕ) → end ≤ k → k < c → isBlank (getD src k 0) ≡ true) → startsAt (47 ∷ 47 ∷ []) src c ≡ true → Runs (inClass LineByte) src c e → e < length src
         → (lists-differ .line .words ≡ record { place = w; end = end } ∷ [])
         × ((r : ℕ) → count s precedences ≤ r → r < count (one .state) precedences → rowAt (width precedences) (two .tables .t2) r ≡ precRow (s .level) a w)
-        × ((r : ℕ) → count (one .state) precedences ≤ r → r < count (two .state) precedences → RowFrom src (s .level + 1) b (behind kind src (one .state .at)) (rowAt (width precedences) (two .tables .t2) r))
+        × ((r : ℕ) → count (one .state) precedences ≤ r → r < count (two .state) precedences → RowFrom src (s .level + 1) b (behind (one .state .kind) src (one .state .at)) (rowAt (width precedences) (two .tables .t2) r))
     comment-lists-differ i m at w end quoted token c e h blank starts run low = (only, λ r x y. row (lists-differ .first r x y), lists-differ .second)
       where
         only : lists-differ .line .words ≡ record { place = w; end = end } ∷ []
-        only = comment-only src end c e h blank starts run low (lists-differ .line .line) w quoted (told (λ (j : ℕ). tokenAt src j ≡ Found w end quoted) (let x = lists-differ .line .gap in cc) token)
+        only = comment-only (s .kind) src end c e h blank starts run low (lists-differ .line .line) w quoted (told (λ (j : ℕ). tokenAt src j ≡ Found w end quoted) (let x = lists-differ .line .gap in cc) token)
 
         is : (v : LineWord) → In v (record { place = w; end = end } ∷ []) → v .place ≡ w
         is v (inl e) = ap (λ (z : LineWord). z .place) e

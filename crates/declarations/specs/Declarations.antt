@@ -96,24 +96,24 @@ byKeyword NoKeyword src s n D = in0 D (record { answer = Refused (Fault UnknownD
 abbrev pub bySeen : Seen → List ℕ → State → Declared → Out
 bySeen r src s D = byKeyword (r .word) src s (withAt s (r .end)) D
 
-unfoldable pub declStep : List ℕ → ℕ → State → Declared → Out
-declStep src kind s D = bySeen (seenAt kind src (s .at)) src s D
+unfoldable pub declStep : List ℕ → State → Declared → Out
+declStep src s D = bySeen (seenAt (s .kind) src (s .at)) src s D
 
 -- "10 PrematureEnd" at the source's end
 abbrev pub afterEnd : Bool → Out → Out → Turn Out
 afterEnd true o p = stop (record { answer = Refused (Fault PrematureEnd (o .state .at)); state = o .state; tables = o .tables })
 afterEnd false o p = onward (p .answer) p
 
-unfoldable pub declTurn : List ℕ → ℕ → Out → Turn Out
-declTurn src kind o = afterEnd (leb (length src) (o .state .at)) o (declStep src kind (o .state) (o .tables))
+unfoldable pub declTurn : List ℕ → Out → Turn Out
+declTurn src o = afterEnd (leb (length src) (o .state .at)) o (declStep src (o .state) (o .tables))
 
-unfoldable pub declRun : List ℕ → ℕ → State → Declared → Out
-declRun src kind s D = turns (suc (length src)) (declTurn src kind) (record { answer = Going; state = s; tables = D })
+unfoldable pub declRun : List ℕ → State → Declared → Out
+declRun src s D = turns (suc (length src)) (declTurn src) (record { answer = Going; state = s; tables = D })
 
-abbrev pub allFrom : Gap → List ℕ → ℕ → State → Declared → Out
-allFrom (GapTo i n) src kind s D = declRun src kind (withAt s i) D
-allFrom (GapRefused f) src kind s D = in0 D (record { answer = Refused f; state = s })
+abbrev pub allFrom : Gap → List ℕ → State → Declared → Out
+allFrom (GapTo i n) src s D = declRun src (withAt s i) D
+allFrom (GapRefused f) src s D = in0 D (record { answer = Refused f; state = s })
 
 -- spacing, then the declarations
-unfoldable pub declAll : List ℕ → ℕ → State → Declared → Out
-declAll src kind s D = allFrom (gapAt true src (s .at)) src kind s D
+unfoldable pub declAll : List ℕ → State → Declared → Out
+declAll src s D = allFrom (gapAt (s .kind) true src (s .at)) src s D

@@ -14,7 +14,6 @@ ghost use Rattle.declarations.specs.Declarations.{Declared, Givens, Out,
 // One declaration; done at `%%`, where the state stays.
 pub fn declaration(
     src: &[u8],
-    kind: u32,
     s: State,
     t1: &mut [u32],
     t2: &mut [u32],
@@ -27,12 +26,12 @@ pub fn declaration(
     fx: &mut [u16],
 ) -> Step
     requires { ⌜ Here (now src) (s .at) × Tokens (now src) (s .counts) (now t1) (now i1) × Givens (now src) (s .counts) (now t2) (now t3) (now t4) (now t5) (now fx) ⌝ }
-    ensures is { λ r. ⌜ _≡_ {A = Out} (record { answer = r .answer; state = r .state; tables = record { t1 = now (t1 .exit); t2 = now (t2 .exit); t3 = now (t3 .exit); t4 = now (t4 .exit); t5 = now (t5 .exit); t6 = now (t6 .exit); t10 = now (t10 .exit) } }) (declStep (now (src .entry)) kind s (record { t1 = now (t1 .entry); t2 = now (t2 .entry); t3 = now (t3 .entry); t4 = now (t4 .entry); t5 = now (t5 .entry); t6 = now (t6 .entry); t10 = now (t10 .entry) })) ⌝ }
+    ensures is { λ r. ⌜ _≡_ {A = Out} (record { answer = r .answer; state = r .state; tables = record { t1 = now (t1 .exit); t2 = now (t2 .exit); t3 = now (t3 .exit); t4 = now (t4 .exit); t5 = now (t5 .exit); t6 = now (t6 .exit); t10 = now (t10 .exit) } }) (declStep (now (src .entry)) s (record { t1 = now (t1 .entry); t2 = now (t2 .entry); t3 = now (t3 .entry); t4 = now (t4 .entry); t5 = now (t5 .entry); t6 = now (t6 .entry); t10 = now (t10 .entry) })) ⌝ }
     ensures moved { λ r. ⌜ Moves (now (src .entry)) (s .at) (r .answer) (r .state .at) ⌝ }
     ensures indexed { λ r. ⌜ Tokens (now (src .entry)) (r .state .counts) (now (t1 .exit)) (now (i1 .exit)) × Givens (now (src .entry)) (r .state .counts) (now (t2 .exit)) (now (t3 .exit)) (now (t4 .exit)) (now (t5 .exit)) (now (fx .exit)) ⌝ }
 {
     let at = s.at;
-    let seen = keywords::look(src, at, kind);
+    let seen = keywords::look(src, at, s.kind);
     let k = seen.word;
     let mut n = s;
     n.at = seen.end;
@@ -89,7 +88,6 @@ pub fn declaration(
 // Declarations to the `%%`, or to the first refusal; 10 at the source's end.
 pub fn declaration_run(
     src: &[u8],
-    kind: u32,
     s: State,
     t1: &mut [u32],
     t2: &mut [u32],
@@ -102,7 +100,7 @@ pub fn declaration_run(
     fx: &mut [u16],
 ) -> Step
     requires { ⌜ Here (now src) (s .at) × Tokens (now src) (s .counts) (now t1) (now i1) × Givens (now src) (s .counts) (now t2) (now t3) (now t4) (now t5) (now fx) ⌝ }
-    ensures is { λ r. ⌜ _≡_ {A = Out} (record { answer = r .answer; state = r .state; tables = record { t1 = now (t1 .exit); t2 = now (t2 .exit); t3 = now (t3 .exit); t4 = now (t4 .exit); t5 = now (t5 .exit); t6 = now (t6 .exit); t10 = now (t10 .exit) } }) (declRun (now (src .entry)) kind s (record { t1 = now (t1 .entry); t2 = now (t2 .entry); t3 = now (t3 .entry); t4 = now (t4 .entry); t5 = now (t5 .entry); t6 = now (t6 .entry); t10 = now (t10 .entry) })) ⌝ }
+    ensures is { λ r. ⌜ _≡_ {A = Out} (record { answer = r .answer; state = r .state; tables = record { t1 = now (t1 .exit); t2 = now (t2 .exit); t3 = now (t3 .exit); t4 = now (t4 .exit); t5 = now (t5 .exit); t6 = now (t6 .exit); t10 = now (t10 .exit) } }) (declRun (now (src .entry)) s (record { t1 = now (t1 .entry); t2 = now (t2 .entry); t3 = now (t3 .entry); t4 = now (t4 .entry); t5 = now (t5 .entry); t6 = now (t6 .entry); t10 = now (t10 .entry) })) ⌝ }
     ensures moved { λ r. ⌜ Passed (now (src .entry)) (s .at) (r .state .at) ⌝ }
     ensures indexed { λ r. ⌜ Tokens (now (src .entry)) (r .state .counts) (now (t1 .exit)) (now (i1 .exit)) × Givens (now (src .entry)) (r .state .counts) (now (t2 .exit)) (now (t3 .exit)) (now (t4 .exit)) (now (t5 .exit)) (now (fx .exit)) ⌝ }
 {
@@ -115,7 +113,7 @@ pub fn declaration_run(
                 state: st,
             };
         }
-        let r = declaration(src, kind, st, t1, t2, t3, t4, t5, t6, t10, i1, fx);
+        let r = declaration(src, st, t1, t2, t3, t4, t5, t6, t10, i1, fx);
         let a = r.answer;
         match a {
             Answer::Going => {
@@ -135,7 +133,6 @@ pub fn declaration_run(
 // The section from where the state stands, which is the source's begin.
 pub fn declarations(
     src: &[u8],
-    kind: u32,
     s: State,
     t1: &mut [u32],
     t2: &mut [u32],
@@ -148,16 +145,16 @@ pub fn declarations(
     fx: &mut [u16],
 ) -> Step
     requires { ⌜ Here (now src) (s .at) × Tokens (now src) (s .counts) (now t1) (now i1) × Givens (now src) (s .counts) (now t2) (now t3) (now t4) (now t5) (now fx) ⌝ }
-    ensures is { λ r. ⌜ _≡_ {A = Out} (record { answer = r .answer; state = r .state; tables = record { t1 = now (t1 .exit); t2 = now (t2 .exit); t3 = now (t3 .exit); t4 = now (t4 .exit); t5 = now (t5 .exit); t6 = now (t6 .exit); t10 = now (t10 .exit) } }) (declAll (now (src .entry)) kind s (record { t1 = now (t1 .entry); t2 = now (t2 .entry); t3 = now (t3 .entry); t4 = now (t4 .entry); t5 = now (t5 .entry); t6 = now (t6 .entry); t10 = now (t10 .entry) })) ⌝ }
+    ensures is { λ r. ⌜ _≡_ {A = Out} (record { answer = r .answer; state = r .state; tables = record { t1 = now (t1 .exit); t2 = now (t2 .exit); t3 = now (t3 .exit); t4 = now (t4 .exit); t5 = now (t5 .exit); t6 = now (t6 .exit); t10 = now (t10 .exit) } }) (declAll (now (src .entry)) s (record { t1 = now (t1 .entry); t2 = now (t2 .entry); t3 = now (t3 .entry); t4 = now (t4 .entry); t5 = now (t5 .entry); t6 = now (t6 .entry); t10 = now (t10 .entry) })) ⌝ }
     ensures moved { λ r. ⌜ Passed (now (src .entry)) (s .at) (r .state .at) ⌝ }
     ensures indexed { λ r. ⌜ Tokens (now (src .entry)) (r .state .counts) (now (t1 .exit)) (now (i1 .exit)) × Givens (now (src .entry)) (r .state .counts) (now (t2 .exit)) (now (t3 .exit)) (now (t4 .exit)) (now (t5 .exit)) (now (fx .exit)) ⌝ }
 {
     let at = s.at;
-    match grammar::pass_gap(src, at, true) {
+    match grammar::pass_gap(src, s.kind, at, true) {
         Gap::GapTo(i, _) => {
             let mut n = s;
             n.at = i;
-            declaration_run(src, kind, n, t1, t2, t3, t4, t5, t6, t10, i1, fx)
+            declaration_run(src, n, t1, t2, t3, t4, t5, t6, t10, i1, fx)
         }
         Gap::GapRefused(f) => Step {
             answer: Answer::Refused(f),

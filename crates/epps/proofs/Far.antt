@@ -49,7 +49,7 @@ module _ {src : List ℕ} {done : ℕ} {s : State} {T : Tables} (f : Far src don
 
   pub epp-far : Far2 src done T epps repeats (eppDecl src s (T .t5) (T .t10))
   unfolding eppDecl eppValue
-  epp-far = go (gapAt false src (s .at)) (gapped false src (s .at) (f .here))
+  epp-far = go (gapAt (s .kind) false src (s .at)) (gapped (s .kind) false src (s .at) (f .here))
     where
       value : (i j from to : ℕ) → Passed src i j → Passed src from to → s .at ≤ j → (g : Gap) → Gapped src j g → Far2 src done T epps repeats (eppGap g src s i j from to (T .t5) (T .t10))
       value i j from to p q h (GapTo v n) x = let a = x .0 in text-far i j from to v p q (omega arith)
@@ -61,7 +61,7 @@ module _ {src : List ℕ} {done : ℕ} {s : State} {T : Tables} (f : Far src don
           let b = x .1 in
           let c = x .2 in
           let d = x .3 in
-          value i end (p .from) (p .to) (record { onward = omega arith; inside = d }) (record { onward = omega arith; inside = omega arith }) (omega arith) (gapAt false src end) (gapped false src end d)
+          value i end (p .from) (p .to) (record { onward = omega arith; inside = d }) (record { onward = omega arith; inside = omega arith }) (omega arith) (gapAt (s .kind) false src end) (gapped (s .kind) false src end d)
       key i h (NoToken k) x = f
 
       go : (g : Gap) → Gapped src (s .at) g → Far2 src done T epps repeats (eppFrom g src s (T .t5) (T .t10))

@@ -42,7 +42,7 @@ module _ (src : List ℕ) (s : State) (i j from to v : ℕ) (t5 t10 : List ℕ) 
   text-not-closed k g = rw (← q, g)
 
 -- the spacing behind the key
-module _ (src : List ℕ) (s : State) (i j from to : ℕ) (t5 t10 : List ℕ) (r : Gap) (q : r ≡ gapAt false src j) where
+module _ (src : List ℕ) (s : State) (i j from to : ℕ) (t5 t10 : List ℕ) (r : Gap) (q : r ≡ gapAt (s .kind) false src j) where
   pub value-at : (v n : ℕ) (o : Out2) → r ≡ GapTo v n → o ≡ eppText src s i j from to v t5 t10 → o ≡ eppValue src s i j from to t5 t10
   unfolding eppValue
   value-at v n o g h = rw (← q, g) h
@@ -52,7 +52,7 @@ module _ (src : List ℕ) (s : State) (i j from to : ℕ) (t5 t10 : List ℕ) (r
   value-refused f g = rw (← q, g)
 
 -- from behind the keyword on
-module _ (src : List ℕ) (s : State) (t5 t10 : List ℕ) (r : Gap) (q : r ≡ gapAt false src (s .at)) where
+module _ (src : List ℕ) (s : State) (t5 t10 : List ℕ) (r : Gap) (q : r ≡ gapAt (s .kind) false src (s .at)) where
   pub decl-refused : (f : Refusal) → r ≡ GapRefused f → tied2 (refused f s) t5 t10 ≡ eppDecl src s t5 t10
   unfolding eppDecl
   decl-refused f g = rw (← q, g)

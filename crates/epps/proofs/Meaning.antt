@@ -1,6 +1,6 @@
 -- What `%epp` does, by the key and the text that stand there. Assumes nothing.
 use Prim.Native.Nat.{ℕ}
-use mathlib.Core.Path.{_≡_, refl, ap}
+use mathlib.Core.Path.{_≡_, refl, sym, ap, _∙_}
 use mathlib.Core.List.{List}
 use mathlib.Core.Bool.{Bool, true, false}
 use mathlib.Core.Logic.{_⊎_, inl, inr}
@@ -25,6 +25,7 @@ use Rattle.grammar.specs.declared.Gap.the-variants.{GapTo, GapRefused}
 use Rattle.grammar.specs.declared.Repeat.the-variants.{RepeatedEpp}
 use Rattle.grammar.specs.Cells.{eppCells, repeatCells}
 use Rattle.grammar.specs.State.{Out0, Out2, count, gapAt, listRepeat, onceFound, onceStep}
+use Rattle.grammar.proofs.SameKind.{once-kind}
 use Rattle.grammar.proofs.Touch.{refused-going, push-apart, push-more, pass-counts, pass-going, push-goes, pass-to}
 use Rattle.epps.specs.Epps.{eppGiven, eppString, eppText, eppGap, eppValue, eppKey, eppFrom, eppDecl}
 use Rattle.epps.specs.Given.{Keyed, New, Again, Given}
@@ -78,10 +79,11 @@ module _ (src : List ℕ) (s : State) (t5 t10 : List ℕ) (ten : length (s .coun
     moved o a u c (inl x) = inl (record { none = x .none; rows = rw c (x .rows); repeats = x .repeats; others = λ k d. rw c (x .others k d) })
     moved o a u c (inr x) = inr (record { row = x .row; first = x .first; stays = x .stays; rows = rw c (x .rows); others = λ k d. rw c (x .others k d) })
 
-    given : Keyed src (s .at) key name value → eppGiven src s (key .from) (key .to) (name .from) (name .to) (value .from) (value .to) t5 t10 .answer ≡ Going
+    given : Keyed (s .kind) src (s .at) key name value → eppGiven src s (key .from) (key .to) (name .from) (name .to) (value .from) (value .to) t5 t10 .answer ≡ Going
         → Given src s t5 t10 (eppGiven src s (key .from) (key .to) (name .from) (name .to) (value .from) (value .to) t5 t10)
     unfolding eppGiven
     given k g =
+        let same = once-kind s src epps (width epps) keyName RepeatedEpp row t5 t10 in
         let y = pass-going src false (value .to) (once .answer) (once .state) g in
         record {
           key = key;
@@ -90,7 +92,7 @@ module _ (src : List ℕ) (s : State) (t5 t10 : List ℕ) (ten : length (s .coun
           lines = y .lines;
           stand = k;
           entry = moved once _ _ (pass-counts src false (value .to) (once .answer) (once .state)) (once-entry (y .went));
-          behind = rw (y .at) (y .gap);
+          behind = rw (y .at) (ap (λ (q : ℕ). gapAt q true src (value .to)) (sym same) ∙ y .gap);
         }
 
   abbrev Good : Out2 → Type 0
@@ -100,9 +102,9 @@ module _ (src : List ℕ) (s : State) (t5 t10 : List ℕ) (ten : length (s .coun
   -- exactly a repeat more. No other row and no other count changes.
   pub epp-given : eppDecl src s t5 t10 .answer ≡ Going → Given src s t5 t10 (eppDecl src s t5 t10)
   unfolding eppDecl eppValue eppText
-  epp-given = from (gapAt false src (s .at)) refl
+  epp-given = from (gapAt (s .kind) false src (s .at)) refl
     where
-      text : (i n j m v : ℕ) (p : Place) (b : Bool) → gapAt false src (s .at) ≡ GapTo i n → tokenAt src i ≡ Found p j b → gapAt false src j ≡ GapTo v m
+      text : (i n j m v : ℕ) (p : Place) (b : Bool) → gapAt (s .kind) false src (s .at) ≡ GapTo i n → tokenAt src i ≡ Found p j b → gapAt (s .kind) false src j ≡ GapTo v m
           → (w : Quote) → stringAt src v ≡ w → Good (eppString w src s i j (p .from) (p .to) v t5 t10)
       text i n j m v p b f h k (Closed e) q =
           given (record { from = i; to = j }) p (record { from = v; to = e }) (record { quoted = b; lines = n; more = m; behind-keyword = f; spelled = h; behind-key = k; text = q })
@@ -111,23 +113,24 @@ module _ (src : List ℕ) (s : State) (t5 t10 : List ℕ) (ten : length (s .coun
       text i n j m v p b f h k (BadEscape e) q = λ g. absurd (refused-going _ g)
       text i n j m v p b f h k (NotClosed e) q = λ g. absurd (refused-going _ g)
 
-      value : (i n j : ℕ) (p : Place) (b : Bool) → gapAt false src (s .at) ≡ GapTo i n → tokenAt src i ≡ Found p j b
-          → (w : Gap) → gapAt false src j ≡ w → Good (eppGap w src s i j (p .from) (p .to) t5 t10)
+      value : (i n j : ℕ) (p : Place) (b : Bool) → gapAt (s .kind) false src (s .at) ≡ GapTo i n → tokenAt src i ≡ Found p j b
+          → (w : Gap) → gapAt (s .kind) false src j ≡ w → Good (eppGap w src s i j (p .from) (p .to) t5 t10)
       value i n j p b f h (GapTo v m) k = text i n j m v p b f h k (stringAt src v) refl
       value i n j p b f h (GapRefused e) k = λ g. absurd (refused-going _ g)
 
-      key : (i n : ℕ) → gapAt false src (s .at) ≡ GapTo i n → (w : Token) → tokenAt src i ≡ w → Good (eppKey w i src s t5 t10)
-      key i n f (Found p j b) h = value i n j p b f h (gapAt false src j) refl
+      key : (i n : ℕ) → gapAt (s .kind) false src (s .at) ≡ GapTo i n → (w : Token) → tokenAt src i ≡ w → Good (eppKey w i src s t5 t10)
+      key i n f (Found p j b) h = value i n j p b f h (gapAt (s .kind) false src j) refl
       key i n f (NoToken k) h = λ g. absurd (refused-going _ g)
 
-      from : (w : Gap) → gapAt false src (s .at) ≡ w → Good (eppFrom w src s t5 t10)
+      from : (w : Gap) → gapAt (s .kind) false src (s .at) ≡ w → Good (eppFrom w src s t5 t10)
       from (GapTo i n) f = key i n f (tokenAt src i) refl
       from (GapRefused e) f = λ g. absurd (refused-going _ g)
 
   -- And it goes on where a key, a string and spacing stand behind it and tables 5 and 10 have a whole free row.
-  pub epp-goes : (key name value : Place) (to lines : ℕ) → Keyed src (s .at) key name value → gapAt true src (value .to) ≡ GapTo to lines
+  pub epp-goes : (key name value : Place) (to lines : ℕ) → Keyed (s .kind) src (s .at) key name value → gapAt (s .kind) true src (value .to) ≡ GapTo to lines
       → room (width epps) (count s epps) t5 ≡ true → room (width repeats) (count s repeats) t10 ≡ true → (eppDecl src s t5 t10 .answer ≡ Going) × (eppDecl src s t5 t10 .state .at ≡ to)
   unfolding eppDecl eppValue eppText eppGiven
   epp-goes key name value to lines k g r q =
-      let e = pass-to src (value .to) (once key name value .answer) (once key name value .state) to lines g (once-goes key name value r q) in
+      let same = once-kind s src epps (width epps) keyName RepeatedEpp (row key name value) t5 t10 in
+      let e = pass-to src (value .to) (once key name value .answer) (once key name value .state) to lines (ap (λ (q : ℕ). gapAt q true src (value .to)) same ∙ g) (once-goes key name value r q) in
       rw (k .behind-keyword, k .spelled, k .behind-key, k .text) (ap (λ (x : Out0). x .answer) e, ap (λ (x : Out0). x .state .at) e)

@@ -40,7 +40,7 @@ module _ (k : ℕ) (other : epps ≡ k → ⊥) (tenth : repeats ≡ k → ⊥) 
 
   value : (i j from to : ℕ) → Spares k (s .counts) (eppValue src s i j from to t5 t10 .state .counts)
   unfolding eppValue
-  value i j from to = go (gapAt false src j)
+  value i j from to = go (gapAt (s .kind) false src j)
     where
       go : (g : Gap) → Spares k (s .counts) (eppGap g src s i j from to t5 t10 .state .counts)
       go (GapTo v n) = text i j from to v
@@ -48,7 +48,7 @@ module _ (k : ℕ) (other : epps ≡ k → ⊥) (tenth : repeats ≡ k → ⊥) 
 
   pub epp-spares : Spares k (s .counts) (eppDecl src s t5 t10 .state .counts)
   unfolding eppDecl
-  epp-spares = go (gapAt false src (s .at))
+  epp-spares = go (gapAt (s .kind) false src (s .at))
     where
       key : (i : ℕ) (x : Token) → Spares k (s .counts) (eppKey x i src s t5 t10 .state .counts)
       key i (Found p end q) = value i end (p .from) (p .to)

@@ -40,7 +40,7 @@ eppGap (GapTo v n) src s i j from to t5 t10 = eppText src s i j from to v t5 t10
 eppGap (GapRefused f) src s i j from to t5 t10 = tied2 (refused f s) t5 t10
 
 unfoldable pub eppValue : List ℕ → State → ℕ → ℕ → ℕ → ℕ → List ℕ → List ℕ → Out2
-eppValue src s i j from to t5 t10 = eppGap (gapAt false src j) src s i j from to t5 t10
+eppValue src s i j from to t5 t10 = eppGap (gapAt (s .kind) false src j) src s i j from to t5 t10
 
 abbrev pub eppKey : Token → ℕ → List ℕ → State → List ℕ → List ℕ → Out2
 eppKey (Found p end q) i src s t5 t10 = eppValue src s i end (p .from) (p .to) t5 t10
@@ -52,4 +52,4 @@ eppFrom (GapRefused f) src s t5 t10 = tied2 (refused f s) t5 t10
 
 -- from behind the keyword on, which is where the state stands
 unfoldable pub eppDecl : List ℕ → State → List ℕ → List ℕ → Out2
-eppDecl src s t5 t10 = eppFrom (gapAt false src (s .at)) src s t5 t10
+eppDecl src s t5 t10 = eppFrom (gapAt (s .kind) false src (s .at)) src s t5 t10

@@ -19,13 +19,13 @@ use Rattle.grammar.specs.State.{Out2, count, gapAt}
 
 -- "5 `%epp` (key place as spelled, key name, value with its quotes)": from `at` on, behind the keyword, stand a token and a string. "Line ends are not allowed directly behind a
 -- declaration keyword, an `%epp` key [..]".
-pub record Keyed (src : List ℕ) (at : ℕ) (key name value : Place) : Type 0 where
+pub record Keyed (kind : ℕ) (src : List ℕ) (at : ℕ) (key name value : Place) : Type 0 where
   pub quoted : Bool
   pub lines : ℕ
   pub more : ℕ
-  pub behind-keyword : gapAt false src at ≡ GapTo (key .from) lines
+  pub behind-keyword : gapAt kind false src at ≡ GapTo (key .from) lines
   pub spelled : tokenAt src (key .from) ≡ Found name (key .to) quoted
-  pub behind-key : gapAt false src (key .to) ≡ GapTo (value .from) more
+  pub behind-key : gapAt kind false src (key .to) ≡ GapTo (value .from) more
   pub text : stringAt src (value .from) ≡ Closed (value .to)
 
 -- "5 `%epp` (key place as spelled, key name, value with its quotes)": no row has the name; table 5 has this row more, and no other row or count changes
@@ -50,6 +50,6 @@ pub record Given (src : List ℕ) (s : State) (t5 t10 : List ℕ) (o : Out2) : T
   pub name : Place
   pub value : Place
   pub lines : ℕ
-  pub stand : Keyed src (s .at) key name value
+  pub stand : Keyed (s .kind) src (s .at) key name value
   pub entry : New src s t5 t10 key name value o ⊎ Again src s t5 t10 key name o
-  pub behind : gapAt true src (value .to) ≡ GapTo (o .state .at) lines
+  pub behind : gapAt (s .kind) true src (value .to) ≡ GapTo (o .state .at) lines

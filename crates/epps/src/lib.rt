@@ -104,7 +104,7 @@ pub fn epp_value(
     ensures moved { λ r. ⌜ Onward (now (src .entry)) j (s .at) (r .answer) (r .state .at) ⌝ }
     ensures indexed { λ r. ⌜ Follows (now (src .entry)) epps (width epps) 2 (r .state .counts) (now (t5 .exit)) (now (fx .entry)) (now (fx .exit)) ⌝ }
 {
-    match grammar::pass_gap(src, j, false) {
+    match grammar::pass_gap(src, s.kind, j, false) {
         Gap::GapTo(v, _) => epp_text(src, s, i, j as u32, from, to, v, t5, t10, fx),
         Gap::GapRefused(f) => Step {
             answer: Answer::Refused(f),
@@ -120,7 +120,7 @@ pub fn epp_decl(src: &[u8], s: State, t5: &mut [u32], t10: &mut [u32], fx: &mut 
     ensures indexed { λ r. ⌜ Follows (now (src .entry)) epps (width epps) 2 (r .state .counts) (now (t5 .exit)) (now (fx .entry)) (now (fx .exit)) ⌝ }
 {
     let at = s.at;
-    match grammar::pass_gap(src, at, false) {
+    match grammar::pass_gap(src, s.kind, at, false) {
         Gap::GapTo(i, _) => match words::parse_token(src, i) {
             Token::Found(p, end, _) => {
                 epp_value(

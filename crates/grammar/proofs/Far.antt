@@ -146,9 +146,9 @@ module _ {src : List ℕ} {done : ℕ} {s : State} {T : Tables} (f : Far src don
       (rows-add (width productions) (count s productions) row (tab T productions) wide room small (f .tables productions) p (λ r l. tt))
 
 -- A reading begins sound so far, on tables of zeros;
-pub fresh-far : (src : List ℕ) (T : Tables) → length src ≤ 65536 → Far src 0 fresh (zeroAll T)
+pub fresh-far : (src : List ℕ) (kind : ℕ) (T : Tables) → length src ≤ 65536 → Far src 0 (fresh kind) (zeroAll T)
 unfolding endBefore
-fresh-far src T h =
+fresh-far src kind T h =
     record {
       here = omega arith;
       short = h;
@@ -161,7 +161,7 @@ fresh-far src T h =
       actiontype = tt;
     }
   where
-    none : (k : ℕ) → Table src (view fresh) k (count fresh k) (tab (zeroAll T) k)
+    none : (k : ℕ) → Table src (view (fresh kind)) k (count (fresh kind) k) (tab (zeroAll T) k)
     none zero = rows-zeroed _ (T .t1)
     none (suc zero) = rows-zeroed _ (T .t2)
     none (suc (suc zero)) = rows-zeroed _ (T .t3)

@@ -30,9 +30,9 @@ use Rattle.grammar.proofs.Repeats.{repeat-least, repeat-most}
 use Rattle.grammar.proofs.Far.{set-tab, tab-other, far-at, far-add, far-table}
 
 -- where spacing leads
-pub gapped : (ok : Bool) (src : List ℕ) (at : ℕ) → at ≤ length src → Gapped src at (gapAt ok src at)
+pub gapped : (kind : ℕ) (ok : Bool) (src : List ℕ) (at : ℕ) → at ≤ length src → Gapped src at (gapAt kind ok src at)
 unfolding gapAt gapOf
-gapped ok src at h = go (spacesAt ok src at) (spaces ok src at h)
+gapped kind ok src at h = go (spacesAt kind ok src at) (spaces kind ok src at h)
   where
     go : (r : Spaced) → Spaces src at r → Gapped src at (gapOf r)
     go (To i n) x = x
@@ -138,7 +138,7 @@ module _ {src : List ℕ} {done : ℕ} {s : State} {T : Tables} (f : Far src don
   -- spacing passed.
   pub past-far : (line : Bool) (j : ℕ) → s .at ≤ j → j ≤ length src → Far src done (pastGap src line j s .state) T
   unfolding pastGap
-  past-far line j h k = go (gapAt true src j) (gapped true src j k)
+  past-far line j h k = go (gapAt (s .kind) true src j) (gapped (s .kind) true src j k)
     where
       go : (g : Gap) → Gapped src j g → Far src done (past line g s .state) T
       go (GapTo i n) x = let a = x .0 in far-at f i (omega arith) (x .1)
@@ -165,7 +165,7 @@ behind2-far line j o h m x = let e = x .stays in pass-far (x .far) line j (o .an
 -- spacing keeps the level
 pub pass-level : (src : List ℕ) (line : Bool) (j : ℕ) (a : Answer) (s : State) → passOn src line j a s .state .level ≡ s .level
 unfolding pastGap
-pass-level src line j Going s = go (gapAt true src j)
+pass-level src line j Going s = go (gapAt (s .kind) true src j)
   where
     go : (g : Gap) → past line g s .state .level ≡ s .level
     go (GapTo i n) = refl

@@ -5,3 +5,4 @@ pub mod Kept
 pub mod Touch
 pub mod Spares
 pub mod Filled
+pub mod SameKind

@@ -41,16 +41,16 @@ module _ (s : State) (k : ℕ) (ten : length (s .counts .n) ≡ 10) (h : 10 ≤ 
   pub with-past : (n : ℕ) → s ≡ withCount s k n
   with-past n = rw (set-out (s .counts .n) k n (omega arith))
 
-module _ (ok : Bool) (src : List ℕ) (at : ℕ) (r : Spaced) (q : r ≡ spacesAt ok src at) where
-  pub gap-to : (i n : ℕ) → r ≡ To i n → GapTo i n ≡ gapAt ok src at
+module _ (kind : ℕ) (ok : Bool) (src : List ℕ) (at : ℕ) (r : Spaced) (q : r ≡ spacesAt kind ok src at) where
+  pub gap-to : (i n : ℕ) → r ≡ To i n → GapTo i n ≡ gapAt kind ok src at
   unfolding gapAt gapOf
   gap-to i n e = rw (← q, e)
 
-  pub gap-line : (i : ℕ) → r ≡ LineEnd i → GapRefused (Fault ReachedEol i) ≡ gapAt ok src at
+  pub gap-line : (i : ℕ) → r ≡ LineEnd i → GapRefused (Fault ReachedEol i) ≡ gapAt kind ok src at
   unfolding gapAt gapOf
   gap-line i e = rw (← q, e)
 
-  pub gap-comment : (i : ℕ) → r ≡ OpenComment i → GapRefused (Fault IncompleteComment i) ≡ gapAt ok src at
+  pub gap-comment : (i : ℕ) → r ≡ OpenComment i → GapRefused (Fault IncompleteComment i) ≡ gapAt kind ok src at
   unfolding gapAt gapOf
   gap-comment i e = rw (← q, e)
 
@@ -122,7 +122,7 @@ unfolding nextLevel
 level-last n h = rw (le-ltb _ _ h, nextLevel)
 
 -- spacing behind a step
-module _ (src : List ℕ) (line : Bool) (j : ℕ) (s : State) (g : Gap) (q : g ≡ gapAt true src j) where
+module _ (src : List ℕ) (line : Bool) (j : ℕ) (s : State) (g : Gap) (q : g ≡ gapAt (s .kind) true src j) where
   pub past-done : (i n : ℕ) → g ≡ GapTo i n → (line && not (eqb n 0)) ≡ true → record { answer = Done; state = withAt s i } ≡ pastGap src line j s
   unfolding pastGap
   past-done i n e t = rw (← q, e, t)

@@ -66,7 +66,7 @@ module _ (s : State) (k : ℕ) (row : List ℕ) (t : List ℕ) where
 module _ (src : List ℕ) (line : Bool) (j : ℕ) where
   pub pass-counts : (a : Answer) (s : State) → passOn src line j a s .state .counts ≡ s .counts
   unfolding pastGap
-  pass-counts Going s = go (gapAt true src j)
+  pass-counts Going s = go (gapAt (s .kind) true src j)
     where
       go : (g : Gap) → past line g s .state .counts ≡ s .counts
       go (GapTo i n) = refl
@@ -79,19 +79,19 @@ module _ (src : List ℕ) (line : Bool) (j : ℕ) where
     pub to : ℕ
     pub lines : ℕ
     pub went : a ≡ Going
-    pub gap : gapAt true src j ≡ GapTo to lines
+    pub gap : gapAt (s .kind) true src j ≡ GapTo to lines
     pub at : passOn src line j a s .state .at ≡ to
 
   pub pass-going : (a : Answer) (s : State) → passOn src line j a s .answer ≡ Going → Passes a s
   unfolding pastGap
-  pass-going Going s h = go (gapAt true src j) refl h
+  pass-going Going s h = go (gapAt (s .kind) true src j) refl h
     where
-      go : (g : Gap) → gapAt true src j ≡ g → past line g s .answer ≡ Going → Passes Going s
+      go : (g : Gap) → gapAt (s .kind) true src j ≡ g → past line g s .answer ≡ Going → Passes Going s
       go (GapTo i n) e x = record { to = i; lines = n; went = refl; gap = e; at = ap (λ (y : Gap). past line y s .state .at) e }
       go (GapRefused f) e x = absurd (refused-going f x)
   pass-going Done s h = absurd (done-going h)
   pass-going (Refused f) s h = absurd (refused-going f h)
 
 -- and it goes on to where the spacing ends
-pub pass-to : (src : List ℕ) (j : ℕ) (a : Answer) (s : State) (to lines : ℕ) → gapAt true src j ≡ GapTo to lines → a ≡ Going → passOn src false j a s ≡ record { answer = Going; state = withAt s to }
+pub pass-to : (src : List ℕ) (j : ℕ) (a : Answer) (s : State) (to lines : ℕ) → gapAt (s .kind) true src j ≡ GapTo to lines → a ≡ Going → passOn src false j a s ≡ record { answer = Going; state = withAt s to }
 pass-to src j a s to lines g h = sym (on-going src false j a s _ h (past-going src false j s (GapTo to lines) (sym g) to lines refl refl))

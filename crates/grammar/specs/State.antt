@@ -60,19 +60,19 @@ pub record Out3 : Type 0 where
 
 -- the state with one part changed
 abbrev pub withAt : State → ℕ → State
-withAt s i = record { at = i; level = s .level; counts = s .counts; singles = s .singles; actiontype = s .actiontype }
+withAt s i = record { kind = s .kind; at = i; level = s .level; counts = s .counts; singles = s .singles; actiontype = s .actiontype }
 
 abbrev pub withLevel : State → ℕ → State
-withLevel s n = record { at = s .at; level = n; counts = s .counts; singles = s .singles; actiontype = s .actiontype }
+withLevel s n = record { kind = s .kind; at = s .at; level = n; counts = s .counts; singles = s .singles; actiontype = s .actiontype }
 
 abbrev pub withCounts : State → Counts → State
-withCounts s c = record { at = s .at; level = s .level; counts = c; singles = s .singles; actiontype = s .actiontype }
+withCounts s c = record { kind = s .kind; at = s .at; level = s .level; counts = c; singles = s .singles; actiontype = s .actiontype }
 
 abbrev pub withSingles : State → Singles → State
-withSingles s g = record { at = s .at; level = s .level; counts = s .counts; singles = g; actiontype = s .actiontype }
+withSingles s g = record { kind = s .kind; at = s .at; level = s .level; counts = s .counts; singles = g; actiontype = s .actiontype }
 
 abbrev pub withActiontype : State → Part → State
-withActiontype s p = record { at = s .at; level = s .level; counts = s .counts; singles = s .singles; actiontype = p }
+withActiontype s p = record { kind = s .kind; at = s .at; level = s .level; counts = s .counts; singles = s .singles; actiontype = p }
 
 -- the count of table k + 1, and the state with another
 abbrev pub count : State → ℕ → ℕ
@@ -124,8 +124,8 @@ gapOf (To i n) = GapTo i n
 gapOf (LineEnd i) = GapRefused (Fault ReachedEol i)
 gapOf (OpenComment i) = GapRefused (Fault IncompleteComment i)
 
-unfoldable pub gapAt : Bool → List ℕ → ℕ → Gap
-gapAt ok src at = gapOf (spacesAt ok src at)
+unfoldable pub gapAt : ℕ → Bool → List ℕ → ℕ → Gap
+gapAt kind ok src at = gapOf (spacesAt kind ok src at)
 
 abbrev pub Gapped : List ℕ → ℕ → Gap → Type 0
 Gapped src from (GapTo i n) = (from + n ≤ i) × (i ≤ length src) × Edge src from i
@@ -160,24 +160,24 @@ enterStep src s a b d t =
 unfoldable pub nextLevel : ℕ → ℕ
 nextLevel n = elim (ltb n 4294967295) [ true ↦ n + 1 | false ↦ n ]
 
--- where a reading begins: nothing counted, the singles absent
+-- where a reading of a kind begins: nothing counted, the singles absent
 abbrev pub noSingles : Singles
 noSingles = record { start = Absent; expect = NotExpected; «expect_rr» = NotExpected; param = NoParam; generics = Absent; programs = Absent }
 
 abbrev pub noCounts : Counts
 noCounts = record { n = replicate 10 0 }
 
-abbrev pub fresh : State
-fresh = record { at = 0; level = 0; counts = noCounts; singles = noSingles; actiontype = Absent }
+abbrev pub fresh : ℕ → State
+fresh kind = record { kind = kind; at = 0; level = 0; counts = noCounts; singles = noSingles; actiontype = Absent }
 
 -- what spacing makes of a state; a list that ends with its line is done "until a line end was counted"
 abbrev pub past : Bool → Gap → State → Out0
 past line (GapTo i n) s = record { answer = elim (line && not (eqb n 0)) [ true ↦ Done | false ↦ Going ]; state = withAt s i }
 past line (GapRefused f) s = record { answer = Refused f; state = s }
 
--- spacing from index j on, where line ends are allowed
+-- spacing of the state's kind from index j on, where line ends are allowed
 unfoldable pub pastGap : List ℕ → Bool → ℕ → State → Out0
-pastGap src line j s = past line (gapAt true src j) s
+pastGap src line j s = past line (gapAt (s .kind) true src j) s
 
 -- the same behind a step, if it goes on
 abbrev pub passOn : List ℕ → Bool → ℕ → Answer → State → Out0

@@ -44,8 +44,9 @@ pub struct Singles {
     pub programs: Part,
 }
 
-// A reading under way: where it stands, the next precedence level, what was read so far, and kind 1's action type.
+// A reading under way: its kind, where it stands, the next precedence level, what was read so far, and kind 1's action type.
 pub struct State {
+    pub kind: u32,
     pub at: usize,
     pub level: u32,
     pub counts: Counts,
@@ -242,13 +243,13 @@ pub fn part_cells(p: Part) -> [u32; 3]
     }
 }
 
-// Spacing from `at` on.
-pub fn pass_gap(src: &[u8], at: usize, ends_allowed: bool) -> Gap
+// Spacing of a kind from `at` on.
+pub fn pass_gap(src: &[u8], kind: u32, at: usize, ends_allowed: bool) -> Gap
     requires { ⌜ Here (now src) at ⌝ }
-    ensures is { λ r. ⌜ r ≡ gapAt «ends_allowed» (now (src .entry)) at ⌝ }
+    ensures is { λ r. ⌜ r ≡ gapAt kind «ends_allowed» (now (src .entry)) at ⌝ }
     ensures moved { λ r. ⌜ Gapped (now (src .entry)) at r ⌝ }
 {
-    match spacing::parse_ws(src, at, ends_allowed) {
+    match spacing::parse_ws(src, kind, at, ends_allowed) {
         Spaced::To(i, n) => Gap::GapTo(i, n),
         Spaced::LineEnd(i) => Gap::GapRefused(Refusal::Fault(Cause::ReachedEol, i as u32)),
         Spaced::OpenComment(i) => Gap::GapRefused(Refusal::Fault(
@@ -396,7 +397,7 @@ pub fn past_gap(src: &[u8], s: State, j: usize, line: bool) -> Step
     ensures is { λ q. ⌜ _≡_ {A = Out0} (record { answer = q .answer; state = q .state }) (pastGap (now (src .entry)) line j s) ⌝ }
     ensures moved { λ q. ⌜ Onward (now (src .entry)) j (s .at) (q .answer) (q .state .at) ⌝ }
 {
-    match pass_gap(src, j, true) {
+    match pass_gap(src, s.kind, j, true) {
         Gap::GapTo(i, n) => {
             let mut next = s;
             next.at = i;

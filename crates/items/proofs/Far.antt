@@ -116,7 +116,7 @@ quiet-enter src s a b d t = go (enterToken src (count s tokens) a b d t .entered
 module _ (src : List ℕ) (j : ℕ) (s : State) where
   pub pass-onward : (a : Answer) → j ≤ length src → Onward src j (s .at) (passOn src false j a s .answer) (passOn src false j a s .state .at)
   unfolding pastGap
-  pass-onward Going h = go (gapAt true src j) (gapped true src j h)
+  pass-onward Going h = go (gapAt (s .kind) true src j) (gapped (s .kind) true src j h)
     where
       go : (g : Gap) → Gapped src j g → Onward src j (s .at) (past false g s .answer) (past false g s .state .at)
       go (GapTo i n) x = gap-onward src j (s .at) i n Going (GapTo i n) x refl
@@ -131,7 +131,7 @@ module _ (src : List ℕ) (j : ℕ) (s : State) where
 
   pass-undone : (a : Answer) → (a ≡ Done → ⊥) → passOn src false j a s .answer ≡ Done → ⊥
   unfolding pastGap
-  pass-undone Going h = go (gapAt true src j)
+  pass-undone Going h = go (gapAt (s .kind) true src j)
     where
       go : (g : Gap) → past false g s .answer ≡ Done → ⊥
       go (GapTo i n) = going-undone
@@ -207,7 +207,7 @@ module _ {src : List ℕ} {done : ℕ} {s : State} {T : Tables} {d : Production}
   -- a quoted symbol,
   pub quoted-rows-far : (from to end : ℕ) → Passed src from to → s .at ≤ end → end ≤ length src → Item2 src done T end (quotedRows src s d from to end (T .t1) (T .t9))
   unfolding quotedRows
-  quoted-rows-far from to end p h k = go (gapAt true src end) (gapped true src end k)
+  quoted-rows-far from to end p h k = go (gapAt (s .kind) true src end) (gapped (s .kind) true src end k)
     where
       go : (g : Gap) → Gapped src end g → Item2 src done T end (quotedGap g src s d from to end (T .t1) (T .t9))
       go (GapTo i n) y =
@@ -248,7 +248,7 @@ module _ {src : List ℕ} {done : ℕ} {s : State} {T : Tables} {d : Production}
   -- behind an action,
   pub after-action-far : (end : ℕ) → s .at ≤ end → end ≤ length src → Item0 src done T end (afterAction src s d end)
   unfolding afterAction
-  after-action-far end h k = go (gapAt true src end) (gapped true src end k)
+  after-action-far end h k = go (gapAt (s .kind) true src end) (gapped (s .kind) true src end k)
     where
       go : (g : Gap) → Gapped src end g → Item0 src done T end (actionGap g src s d)
       go (GapTo i n) y =
@@ -263,7 +263,7 @@ module _ {src : List ℕ} {done : ℕ} {s : State} {T : Tables} {d : Production}
   -- `%empty`,
   pub empty-far : (first : ℕ) → Item0 src done T (s .at) (emptyItem src s d first)
   unfolding emptyItem
-  empty-far first = go (gapAt true src (s .at)) (gapped true src (s .at) (f .here))
+  empty-far first = go (gapAt (s .kind) true src (s .at)) (gapped (s .kind) true src (s .at) (f .here))
     where
       go : (g : Gap) → Gapped src (s .at) g → Item0 src done T (s .at) (emptyGap g src s d first)
       go (GapTo k n) y =
@@ -296,7 +296,7 @@ module _ {src : List ℕ} {done : ℕ} {s : State} {T : Tables} {d : Production}
   -- `%prec`, behind its keyword
   pub prec-far : Item1 src done T tokens (s .at) (precItem src s d (T .t1))
   unfolding precItem
-  prec-far = go (gapAt true src (s .at)) (gapped true src (s .at) (f .here))
+  prec-far = go (gapAt (s .kind) true src (s .at)) (gapped (s .kind) true src (s .at) (f .here))
     where
       go : (g : Gap) → Gapped src (s .at) g → Item1 src done T tokens (s .at) (precGap g src s d (T .t1))
       go (GapTo i n) y =

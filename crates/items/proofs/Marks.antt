@@ -90,7 +90,7 @@ module _ (src : List ℕ) (k : ℕ) where
   may-follow-is x y z p q r = rw (← p, ← q, ← r)
 
 -- behind an action
-module _ (src : List ℕ) (s : State) (d : Production) (end : ℕ) (g : Gap) (q : g ≡ gapAt true src end) where
+module _ (src : List ℕ) (s : State) (d : Production) (end : ℕ) (g : Gap) (q : g ≡ gapAt (s .kind) true src end) where
   module _ (i n : ℕ) (e : g ≡ GapTo i n) (b : Bool) (p : b ≡ mayEnd src i) where
     pub action-ends : b ≡ true → record { answer = Going; state = withAt s i; draft = d } ≡ afterAction src s d end
     unfolding afterAction
@@ -115,7 +115,7 @@ module _ (src : List ℕ) (s : State) (d : Production) (r : Action) (q : r ≡ a
   action-open i e = rw (← q, e)
 
 -- `%empty`
-module _ (src : List ℕ) (s : State) (d : Production) (first : ℕ) (g : Gap) (q : g ≡ gapAt true src (s .at)) where
+module _ (src : List ℕ) (s : State) (d : Production) (first : ℕ) (g : Gap) (q : g ≡ gapAt (s .kind) true src (s .at)) where
   module _ (k n : ℕ) (e : g ≡ GapTo k n) (m : ℕ) (c : m ≡ count s symbols) (b : Bool) (p : b ≡ mayFollow src k) where
     pub empty-stands : (eqb m (d .first) && b) ≡ true → record { answer = Going; state = withAt s k; draft = withTo d (s .at) } ≡ emptyItem src s d first
     unfolding emptyItem

@@ -87,8 +87,8 @@ unentered src n a b t o u e h =
     (λ none full x. ap (λ (v : Inserted). v .cells) x) e
 
 -- the numbers of a state as they are
-pub ran-none : (s : State) (at m n : ℕ) → NumbersOf s at m n → ranState s at m n ≡ s
-ran-none s at m n x = rw (← x .stands, ← x .first, ← x .ninth, set-getD (s .counts .n) tokens 0, set-getD (s .counts .n) symbols 0)
+pub ran-none : (s : State) (kind at m n : ℕ) → NumbersOf s kind at m n → ranState s at m n ≡ s
+ran-none s kind at m n x = rw (← x .stands, ← x .first, ← x .ninth, set-getD (s .counts .n) tokens 0, set-getD (s .counts .n) symbols 0)
 
 -- changed twice
 pub ran-on : (s : State) (at m n j k l : ℕ) → ranState (ranState s at m n) j k l ≡ ranState s j k l
@@ -101,9 +101,10 @@ module _ (s : State) (at m n : ℕ) (ten : length (s .counts .n) ≡ 10) where
   pub ran-ten : length (ranState s at m n .counts .n) ≡ 10
   ran-ten = rw (length-set (set (s .counts .n) tokens m) symbols n, length-set (s .counts .n) tokens m) ten
 
-  pub ran-told : NumbersOf (ranState s at m n) at m n
+  pub ran-told : NumbersOf (ranState s at m n) (s .kind) at m n
   ran-told =
       record {
+        same = refl;
         stands = refl;
         first = getD-set-other (set (s .counts .n) tokens m) symbols tokens n 0 (λ e. omega arith) ∙ getD-set-same (s .counts .n) tokens m 0 (rw ten (omega arith));
         ninth = getD-set-same (set (s .counts .n) tokens m) symbols n 0 (rw (length-set (s .counts .n) tokens m, ten) (omega arith));
@@ -114,7 +115,7 @@ module _ (s : State) (at m n : ℕ) (ten : length (s .counts .n) ≡ 10) where
   ran-tokens src t ix H = record { ten = ran-ten; held = rw (ran-told .first) H }
 
 -- a symbol whose word was found, and the spacing behind it passed
-module _ (src : List ℕ) (at m n : ℕ) (t1 t9 : List ℕ) (r : Token) (q : r ≡ tokenAt src at) (p : Place) (end : ℕ) (b : Bool) (e : r ≡ Found p end b) (g : Gap) (h : g ≡ gapAt true src end) (j lines : ℕ) (f : g ≡ GapTo j lines) (in-word : Tokened src at r) (in-gap : Gapped src end g) where
+module _ (kind : ℕ) (src : List ℕ) (at m n : ℕ) (t1 t9 : List ℕ) (r : Token) (q : r ≡ tokenAt src at) (p : Place) (end : ℕ) (b : Bool) (e : r ≡ Found p end b) (g : Gap) (h : g ≡ gapAt kind true src end) (j lines : ℕ) (f : g ≡ GapTo j lines) (in-word : Tokened src at r) (in-gap : Gapped src end g) where
   -- where it leads
   symbol-moves : (at < j) × (j ≤ length src)
   symbol-moves =
@@ -123,22 +124,22 @@ module _ (src : List ℕ) (at m n : ℕ) (t1 t9 : List ℕ) (r : Token) (q : r �
       (omega (arith, u .0, u .1, u .2, v .0), v .1)
 
   -- bare,
-  module _ (sort : sortAt src at .sort ≡ BareSort) (kind : ℕ) (k : kind ≡ symbolKind src m t1 (p .from) (p .to)) (ok : Bool) (u9 : List ℕ) (a : record { ok = ok; cells = u9 } ≡ addRow n (symbolCells kind (p .from) (p .to)) t9) (y : ok ≡ true) where
-    bare-step : (s : State) (d : Production) (t8 : List ℕ) → NumbersOf s at m n → going (ranState s j m (n + 1)) (withTo d end) t1 t8 u9 ≡ itemStep src s d t1 t8 t9
+  module _ (sort : sortAt src at .sort ≡ BareSort) (which : ℕ) (k : which ≡ symbolKind src m t1 (p .from) (p .to)) (ok : Bool) (u9 : List ℕ) (a : record { ok = ok; cells = u9 } ≡ addRow n (symbolCells which (p .from) (p .to)) t9) (y : ok ≡ true) where
+    bare-step : (s : State) (d : Production) (t8 : List ℕ) → NumbersOf s kind at m n → going (ranState s j m (n + 1)) (withTo d end) t1 t8 u9 ≡ itemStep src s d t1 t8 t9
     bare-step s d t8 x =
         let next = withCount s symbols (n + 1) in
-        let w = push-ok s symbols n (symbolCells kind (p .from) (p .to)) t9 u9 ok (sym (x .ninth)) a next y refl in
-        let z = past-going src false end next g h j lines f refl in
-        let v = bare-found src s d t1 t9 r (rw (x .stands) q) p end b m kind (record { answer = Going; state = next; a = u9 }) (record { answer = Going; state = withAt next j }) e (sym (x .first)) k w z in
+        let w = push-ok s symbols n (symbolCells which (p .from) (p .to)) t9 u9 ok (sym (x .ninth)) a next y refl in
+        let z = past-going src false end next g (h ∙ ap (λ (q : ℕ). gapAt q true src end) (sym (x .same))) j lines f refl in
+        let v = bare-found src s d t1 t9 r (rw (x .stands) q) p end b m which (record { answer = Going; state = next; a = u9 }) (record { answer = Going; state = withAt next j }) e (sym (x .first)) k w z in
         let c : set (s .counts .n) tokens m ≡ s .counts .n = rw (← x .first) (set-getD (s .counts .n) tokens 0) in
         arm src s d t1 t8 t9 (sortAt src (s .at)) refl BareSort (going (ranState s j m (n + 1)) (withTo d end) t1 t8 u9) (rw (x .stands) sort) (rw c (ap (on-9 t1 t8) v))
 
-    pub bare-reads : Reads src at m n t1 t9 j m end t1 u9
+    pub bare-reads : Reads kind src at m n t1 t9 j m end t1 u9
     bare-reads = record { further = symbol-moves .0; inside = symbol-moves .1; counted = added-counts _ _ _ _ _ a y; step = bare-step }
 
   -- and quoted
   module _ (sort : sortAt src at .sort ≡ QuotedSort) (o : Entered) (u1 : List ℕ) (i : record { entered = o; cells = u1 } ≡ enterToken src m (p .from) (p .to) false t1) (k : ℕ) (l : o ≡ Rows k) (ok : Bool) (u9 : List ℕ) (a : record { ok = ok; cells = u9 } ≡ addRow n (symbolCells 2 (p .from) (p .to)) t9) (y : ok ≡ true) where
-    quoted-step : (s : State) (d : Production) (t8 : List ℕ) → NumbersOf s at m n → going (ranState s j k (n + 1)) (withTo d end) u1 t8 u9 ≡ itemStep src s d t1 t8 t9
+    quoted-step : (s : State) (d : Production) (t8 : List ℕ) → NumbersOf s kind at m n → going (ranState s j k (n + 1)) (withTo d end) u1 t8 u9 ≡ itemStep src s d t1 t8 t9
     quoted-step s d t8 x =
         let c = withAt s j in
         let c1 = withCount c tokens k in
@@ -147,35 +148,36 @@ module _ (src : List ℕ) (at m n : ℕ) (t1 t9 : List ℕ) (r : Token) (q : r �
         let nine : n ≡ count c1 symbols = sym (getD-set-other (s .counts .n) tokens symbols k 0 (λ z. omega arith) ∙ x .ninth) in
         let w = push-ok c1 symbols n (symbolCells 2 (p .from) (p .to)) t9 u9 ok nine a c2 y refl in
         let z = symbol-entered src c (p .from) (p .to) t1 t9 (record { answer = Going; state = c1; a = u1 }) v (record { answer = Going; state = c2; a = u9 }) refl w in
-        let rows = quoted-spaced src s d (p .from) (p .to) end t1 t9 g h j lines (record { answer = Going; state = c2; a = u1; b = u9 }) f z in
+        let rows = quoted-spaced src s d (p .from) (p .to) end t1 t9 g (h ∙ ap (λ (q : ℕ). gapAt q true src end) (sym (x .same))) j lines (record { answer = Going; state = c2; a = u1; b = u9 }) f z in
         let all = quoted-found src s d t1 t9 r (rw (x .stands) q) p end b (record { answer = Going; state = c2; draft = withTo d end; a = u1; b = u9 }) e rows in
         arm src s d t1 t8 t9 (sortAt src (s .at)) refl QuotedSort (going (ranState s j k (n + 1)) (withTo d end) u1 t8 u9) (rw (x .stands) sort) (ap (on-1-9 t8) all)
 
-    pub quoted-reads : Reads src at m n t1 t9 j k end u1 u9
+    pub quoted-reads : Reads kind src at m n t1 t9 j k end u1 u9
     quoted-reads = record { further = symbol-moves .0; inside = symbol-moves .1; counted = added-counts _ _ _ _ _ a y; step = quoted-step }
 
 -- a run begins with no symbol,
-pub run-start : (src : List ℕ) (at m n to : ℕ) (t1 t9 : List ℕ) → Ran src at m n to t1 t9 at m n to t1 t9
-run-start src at m n to t1 t9 s d t8 o most ten x e l = rw (ran-none s at m n x, ← e) l
+pub run-start : (kind : ℕ) (src : List ℕ) (at m n to : ℕ) (t1 t9 : List ℕ) → Ran kind src at m n to t1 t9 at m n to t1 t9
+run-start kind src at m n to t1 t9 s d t8 o most ten x e l = rw (ran-none s kind at m n x, ← e) l
 
 -- and goes on with each that is read
-pub run-more : (src : List ℕ) (at m n to : ℕ) (t1 t9 : List ℕ) (i h g f : ℕ) (u1 u9 : List ℕ) → Ran src at m n to t1 t9 i h g f u1 u9 → (j k end : ℕ) (v1 v9 : List ℕ) → Reads src i h g u1 u9 j k end v1 v9 → Ran src at m n to t1 t9 j k (g + 1) end v1 v9
-run-more src at m n to t1 t9 i h g f u1 u9 R j k end v1 v9 y s d t8 o most ten x e l =
+pub run-more : (kind : ℕ) (src : List ℕ) (at m n to : ℕ) (t1 t9 : List ℕ) (i h g f : ℕ) (u1 u9 : List ℕ) → Ran kind src at m n to t1 t9 i h g f u1 u9 → (j k end : ℕ) (v1 v9 : List ℕ) → Reads kind src i h g u1 u9 j k end v1 v9 → Ran kind src at m n to t1 t9 j k (g + 1) end v1 v9
+run-more kind src at m n to t1 t9 i h g f u1 u9 R j k end v1 v9 y s d t8 o most ten x e l =
     let u = ranState s i h g in
     let before = R s d t8 o most ten x e l in
     let a = y .further in
     let b = y .inside in
-    let step = y .step u (withTo d f) t8 (ran-told s i h g ten) in
+    let told = ran-told s i h g ten in
+    let step = y .step u (withTo d f) t8 (record { same = x .same; stands = told .stands; first = told .first; ninth = told .ninth }) in
     let turn = turn-more src u (withTo d f) u1 t8 u9 (omega arith) Going (ranState u j k (g + 1)) (withTo d end) v1 t8 v9 step refl in
     rw (← ran-on s i h g j k (g + 1)) (left-more (itemTurn src) _ before (length src - j) turn (omega arith))
 
 -- where it ends, the tables are as they stood
-pub run-stop : (src : List ℕ) (at m n to : ℕ) (t1 t9 : List ℕ) (i h g f : ℕ) (u1 u9 : List ℕ) → Ran src at m n to t1 t9 i h g f u1 u9 → (v1 v9 : List ℕ) → (v1 ≡ u1) × (v9 ≡ u9) → Ran src at m n to t1 t9 i h g f v1 v9
-run-stop src at m n to t1 t9 i h g f u1 u9 R v1 v9 e = rw (e .0, e .1) R
+pub run-stop : (kind : ℕ) (src : List ℕ) (at m n to : ℕ) (t1 t9 : List ℕ) (i h g f : ℕ) (u1 u9 : List ℕ) → Ran kind src at m n to t1 t9 i h g f u1 u9 → (v1 v9 : List ℕ) → (v1 ≡ u1) × (v9 ≡ u9) → Ran kind src at m n to t1 t9 i h g f v1 v9
+run-stop kind src at m n to t1 t9 i h g f u1 u9 R v1 v9 e = rw (e .0, e .1) R
 
 -- what was told of a symbol, of one that was read and of one that was not
-module _ (src : List ℕ) (at m n : ℕ) (t1 t9 u1 u9 : List ℕ) (r : Quick) (x : Quickly src at m n t1 t9 u1 u9 r) where
-  pub read-is : (j k end : ℕ) → r ≡ Read j k end → Reads src at m n t1 t9 j k end u1 u9
+module _ (kind : ℕ) (src : List ℕ) (at m n : ℕ) (t1 t9 u1 u9 : List ℕ) (r : Quick) (x : Quickly kind src at m n t1 t9 u1 u9 r) where
+  pub read-is : (j k end : ℕ) → r ≡ Read j k end → Reads kind src at m n t1 t9 j k end u1 u9
   read-is j k end e = rw e at x
 
   pub unread-is : r ≡ Unread → (u1 ≡ t1) × (u9 ≡ t9)
@@ -204,7 +206,7 @@ pub record Stands (src : List ℕ) (o : Made3) (most first : ℕ) (s : State) (d
 
 -- behind a run too
 pub stands-run : (src : List ℕ) (o : Made3) (most first : ℕ) (s : State) (d : Production) (t1 t8 t9 ix : List ℕ) → Stands src o most first s d t1 t8 t9 ix → (m n j k l end : ℕ) (u1 u9 jx : List ℕ) → m ≡ count s tokens → n ≡ count s symbols
-    → Ran src (s .at) m n (d .to) t1 t9 j k l end u1 u9 → Passed src (s .at) j → Held src (width tokens) 0 k u1 jx
+    → Ran (s .kind) src (s .at) m n (d .to) t1 t9 j k l end u1 u9 → Passed src (s .at) j → Held src (width tokens) 0 k u1 jx
     → (u : State) → u ≡ ranState s j k l → Stands src o most first u (withTo d end) u1 t8 u9 jx
 stands-run src o most first s d t1 t8 t9 ix x m n j k l end u1 u9 jx em en R p H u e =
     let ten = x .tokens .ten in
@@ -215,5 +217,5 @@ stands-run src o most first s d t1 t8 t9 ix x m n j k l end u1 u9 jx em en R p H
       tokens = ran-tokens s j k l ten src u1 jx H;
       onward = omega arith;
       inside = p .inside;
-      left = R s d t8 o most ten (record { stands = refl; first = sym em; ninth = sym en }) refl (x .left);
+      left = R s d t8 o most ten (record { same = refl; stands = refl; first = sym em; ninth = sym en }) refl (x .left);
     })

@@ -35,7 +35,7 @@ use Rattle.items.specs.Items.{Made0, Made1, Made3, withLast, sortAt, sym
 module _ (k : ℕ) (src : List ℕ) (s : State) where
   after : (d : Production) (end : ℕ) → Spares k (s .counts) (afterAction src s d end .state .counts)
   unfolding afterAction
-  after d end = go (gapAt true src end)
+  after d end = go (gapAt (s .kind) true src end)
     where
       by : (i : ℕ) (b : Bool) → mayEnd src i ≡ b → Spares k (s .counts) (actionGap (GapTo i 0) src s d .state .counts)
       by i true e = rw (e, actionGap) (spares-none k (s .counts))
@@ -55,7 +55,7 @@ module _ (k : ℕ) (src : List ℕ) (s : State) where
 
   pub empty-spares : (d : Production) (first : ℕ) → Spares k (s .counts) (emptyItem src s d first .state .counts)
   unfolding emptyItem
-  empty-spares d first = go (gapAt true src (s .at))
+  empty-spares d first = go (gapAt (s .kind) true src (s .at))
     where
       by : (i : ℕ) (b : Bool) → (eqb (count s symbols) (d .first) && mayFollow src i) ≡ b → Spares k (s .counts) (emptyGap (GapTo i 0) src s d first .state .counts)
       by i true e = rw (e, emptyGap) (spares-none k (s .counts))
@@ -106,7 +106,7 @@ module _ (k : ℕ) (ninth : symbols ≡ k → ⊥) (src : List ℕ) where
 
     rows : (s : State) (d : Production) (from to end : ℕ) (t1 t9 : List ℕ) → Spares k (s .counts) (quotedRows src s d from to end t1 t9 .state .counts)
     unfolding quotedRows
-    rows s d from to end t1 t9 = go (gapAt true src end)
+    rows s d from to end t1 t9 = go (gapAt (s .kind) true src end)
       where
         go : (g : Gap) → Spares k (s .counts) (quotedGap g src s d from to end t1 t9 .state .counts)
         go (GapTo i n) = token (withAt s i) from to t1 t9
@@ -132,7 +132,7 @@ module _ (k : ℕ) (ninth : symbols ≡ k → ⊥) (src : List ℕ) where
 
     prec-spares : (s : State) (d : Production) (t1 : List ℕ) → Spares k (s .counts) (precItem src s d t1 .state .counts)
     unfolding precItem
-    prec-spares s d t1 = go (gapAt true src (s .at))
+    prec-spares s d t1 = go (gapAt (s .kind) true src (s .at))
       where
         go : (g : Gap) → Spares k (s .counts) (precGap g src s d t1 .state .counts)
         go (GapTo i n) = name (withAt s i) d t1

@@ -80,7 +80,7 @@ module _ (src : List ℕ) (s : State) (from to : ℕ) (t1 t9 : List ℕ) (o : Ou
   symbol-refused f g = rw (← q, g)
 
 -- a quoted symbol behind its spacing
-module _ (src : List ℕ) (s : State) (d : Production) (from to end : ℕ) (t1 t9 : List ℕ) (r : Gap) (q : r ≡ gapAt true src end) where
+module _ (src : List ℕ) (s : State) (d : Production) (from to end : ℕ) (t1 t9 : List ℕ) (r : Gap) (q : r ≡ gapAt (s .kind) true src end) where
   pub quoted-spaced : (i n : ℕ) (o : Out2) → r ≡ GapTo i n → o ≡ tokenSymbol src (withAt s i) from to t1 t9 → made2 o (withTo d end) ≡ quotedRows src s d from to end t1 t9
   unfolding quotedRows
   quoted-spaced i n o e h = rw (← q, e, h)
@@ -111,7 +111,7 @@ module _ (src : List ℕ) (s : State) (d : Production) (t1 : List ℕ) (r : Toke
   prec-none k e = rw (← q, e)
 
 -- `%prec`
-module _ (src : List ℕ) (s : State) (d : Production) (t1 : List ℕ) (r : Gap) (q : r ≡ gapAt true src (s .at)) where
+module _ (src : List ℕ) (s : State) (d : Production) (t1 : List ℕ) (r : Gap) (q : r ≡ gapAt (s .kind) true src (s .at)) where
   pub prec-spaced : (i n : ℕ) (o : Made1) → r ≡ GapTo i n → o ≡ precName src (withAt s i) d t1 → o ≡ precItem src s d t1
   unfolding precItem
   prec-spaced i n o e h = rw (← q, e) h

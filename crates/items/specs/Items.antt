@@ -174,7 +174,7 @@ quotedGap (GapTo i n) src s d from to end t1 t9 = made2 (tokenSymbol src (withAt
 quotedGap (GapRefused f) src s d from to end t1 t9 = refused2 f s d t1 t9
 
 unfoldable pub quotedRows : List ℕ → State → Production → ℕ → ℕ → ℕ → List ℕ → List ℕ → Made2
-quotedRows src s d from to end t1 t9 = quotedGap (gapAt true src end) src s d from to end t1 t9
+quotedRows src s d from to end t1 t9 = quotedGap (gapAt (s .kind) true src end) src s d from to end t1 t9
 
 abbrev pub quotedFound : Token → List ℕ → State → Production → List ℕ → List ℕ → Made2
 quotedFound (Found p end q) src s d t1 t9 = quotedRows src s d (p .from) (p .to) end t1 t9
@@ -200,7 +200,7 @@ precGap (GapRefused f) src s d t1 = refused1 f s d t1
 
 -- from behind the keyword on, which is where the state stands
 unfoldable pub precItem : List ℕ → State → Production → List ℕ → Made1
-precItem src s d t1 = precGap (gapAt true src (s .at)) src s d t1
+precItem src s d t1 = precGap (gapAt (s .kind) true src (s .at)) src s d t1
 
 -- "After an action only `|` or `;` may stand, else 11."
 unfoldable pub mayEnd : List ℕ → ℕ → Bool
@@ -215,7 +215,7 @@ actionGap (GapTo i n) src s d =
 actionGap (GapRefused f) src s d = refused0 f s d
 
 unfoldable pub afterAction : List ℕ → State → Production → ℕ → Made0
-afterAction src s d end = actionGap (gapAt true src end) src s d
+afterAction src s d end = actionGap (gapAt (s .kind) true src end) src s d
 
 -- "its action is [..] the place of its trimmed text beside the crate's span"; the production runs "to the `{`"; "6 IncompleteAction"
 abbrev pub actionFound : Action → List ℕ → State → Production → Made0
@@ -239,7 +239,7 @@ emptyGap (GapRefused f) src s d first = refused0 f s d
 
 -- from behind the keyword on, which begins at `first`
 unfoldable pub emptyItem : List ℕ → State → Production → ℕ → Made0
-emptyItem src s d first = emptyGap (gapAt true src (s .at)) src s d first
+emptyItem src s d first = emptyGap (gapAt (s .kind) true src (s .at)) src s d first
 
 -- "A bare symbol is a token only if `%token` declared it, else a rule."
 abbrev pub kindFound : Row → List ℕ → ℕ

@@ -208,7 +208,7 @@ pub fn quoted_rows(
     ensures moved { λ r. ⌜ Onward (now (src .entry)) end (s .at) (r .answer) (r .state .at) ⌝ }
     ensures indexed { λ r. ⌜ Tokens (now (src .entry)) (r .state .counts) (now (t1 .exit)) (now (i1 .exit)) ⌝ }
 {
-    match grammar::pass_gap(src, end, true) {
+    match grammar::pass_gap(src, s.kind, end, true) {
         Gap::GapTo(i, _) => {
             let mut n = s;
             n.at = i;
@@ -285,7 +285,7 @@ pub fn prec_item(src: &[u8], s: State, d: Production, t1: &mut [u32], i1: &mut [
     ensures indexed { λ r. ⌜ Tokens (now (src .entry)) (r .state .counts) (now (t1 .exit)) (now (i1 .exit)) ⌝ }
 {
     let at = s.at;
-    match grammar::pass_gap(src, at, true) {
+    match grammar::pass_gap(src, s.kind, at, true) {
         Gap::GapTo(i, _) => {
             let mut n = s;
             n.at = i;
@@ -312,7 +312,7 @@ pub fn after_action(src: &[u8], s: State, d: Production, end: usize) -> Drafted
     ensures is { λ r. ⌜ _≡_ {A = Made0} (record { answer = r .answer; state = r .state; draft = r .draft }) (afterAction (now (src .entry)) s d end) ⌝ }
     ensures moved { λ r. ⌜ Onward (now (src .entry)) end (s .at) (r .answer) (r .state .at) ⌝ }
 {
-    match grammar::pass_gap(src, end, true) {
+    match grammar::pass_gap(src, s.kind, end, true) {
         Gap::GapTo(i, _) => {
             let mut n = s;
             n.at = i;
@@ -378,7 +378,7 @@ pub fn empty_item(src: &[u8], s: State, d: Production, first: u32) -> Drafted
     ensures moved { λ r. ⌜ Passed (now (src .entry)) (s .at) (r .state .at) ⌝ }
 {
     let at = s.at;
-    match grammar::pass_gap(src, at, true) {
+    match grammar::pass_gap(src, s.kind, at, true) {
         Gap::GapTo(k, _) => {
             let no_symbol = grammar::count_of(s, tables::SYMBOLS) == d.first;
             if no_symbol & may_follow(src, k) {
@@ -550,9 +550,10 @@ fn symbol_room(t9: &[u32], n: u32) -> bool
     (n as usize) < t9.len() / (tables::SYMBOL_WIDTH as usize)
 }
 
-// A bare symbol, with the spacing behind it, where there are `m` tokens and `n` symbols. Nothing changes where it is refused, or finds no room.
+// A bare symbol, with the spacing of the kind behind it, where there are `m` tokens and `n` symbols. Nothing changes where it is refused, or finds no room.
 fn quick_bare(
     src: &[u8],
+    kind: u32,
     at: usize,
     m: u32,
     n: u32,
@@ -561,16 +562,16 @@ fn quick_bare(
     i1: &[u16],
 ) -> Quick
     requires { ⌜ Here (now src) at × Held (now src) (width tokens) 0 m (now t1) (now i1) × (sortAt (now src) at .sort ≡ BareSort) ⌝ }
-    ensures is { λ r. ⌜ Quickly (now (src .entry)) at m n (now (t1 .entry)) (now (t9 .entry)) (now (t1 .entry)) (now (t9 .exit)) r ⌝ }
+    ensures is { λ r. ⌜ Quickly kind (now (src .entry)) at m n (now (t1 .entry)) (now (t9 .entry)) (now (t1 .entry)) (now (t9 .exit)) r ⌝ }
     ensures indexed { λ r. ⌜ Held (now (src .entry)) (width tokens) 0 (tokensNow m r) (now (t1 .entry)) (now (i1 .entry)) ⌝ }
 {
     match words::parse_token(src, at) {
-        Token::Found(p, end, _) => match grammar::pass_gap(src, end, true) {
+        Token::Found(p, end, _) => match grammar::pass_gap(src, kind, end, true) {
             Gap::GapTo(j, _) => {
                 let from = p.from as u32;
                 let to = p.to as u32;
-                let kind = symbol_kind(src, m, t1, i1, from, to);
-                let row = [kind, from, to, 0];
+                let which = symbol_kind(src, m, t1, i1, from, to);
+                let row = [which, from, to, 0];
                 if tables::add_row(t9, n, &row) {
                     Quick::Read(j, m, end as u32)
                 } else {
@@ -586,6 +587,7 @@ fn quick_bare(
 // A quoted symbol in the same way; it joins table 1 only where table 9 has room.
 fn quick_quoted(
     src: &[u8],
+    kind: u32,
     at: usize,
     m: u32,
     n: u32,
@@ -594,14 +596,14 @@ fn quick_quoted(
     i1: &mut [u16],
 ) -> Quick
     requires { ⌜ Here (now src) at × Held (now src) (width tokens) 0 m (now t1) (now i1) × (sortAt (now src) at .sort ≡ QuotedSort) ⌝ }
-    ensures is { λ r. ⌜ Quickly (now (src .entry)) at m n (now (t1 .entry)) (now (t9 .entry)) (now (t1 .exit)) (now (t9 .exit)) r ⌝ }
+    ensures is { λ r. ⌜ Quickly kind (now (src .entry)) at m n (now (t1 .entry)) (now (t9 .entry)) (now (t1 .exit)) (now (t9 .exit)) r ⌝ }
     ensures indexed { λ r. ⌜ Held (now (src .entry)) (width tokens) 0 (tokensNow m r) (now (t1 .exit)) (now (i1 .exit)) ⌝ }
 {
     if !symbol_room(t9, n) {
         return Quick::Unread;
     }
     match words::parse_token(src, at) {
-        Token::Found(p, end, _) => match grammar::pass_gap(src, end, true) {
+        Token::Found(p, end, _) => match grammar::pass_gap(src, kind, end, true) {
             Gap::GapTo(j, _) => {
                 let from = p.from as u32;
                 let to = p.to as u32;
@@ -623,6 +625,7 @@ fn quick_quoted(
 // The symbol that begins here, if one does: told by its first byte, which is a quote, or is that of no mark.
 fn quick_symbol(
     src: &[u8],
+    kind: u32,
     at: usize,
     m: u32,
     n: u32,
@@ -631,7 +634,7 @@ fn quick_symbol(
     i1: &mut [u16],
 ) -> Quick
     requires { ⌜ Here (now src) at × Held (now src) (width tokens) 0 m (now t1) (now i1) ⌝ }
-    ensures is { λ r. ⌜ Quickly (now (src .entry)) at m n (now (t1 .entry)) (now (t9 .entry)) (now (t1 .exit)) (now (t9 .exit)) r ⌝ }
+    ensures is { λ r. ⌜ Quickly kind (now (src .entry)) at m n (now (t1 .entry)) (now (t9 .entry)) (now (t1 .exit)) (now (t9 .exit)) r ⌝ }
     ensures indexed { λ r. ⌜ Held (now (src .entry)) (width tokens) 0 (tokensNow m r) (now (t1 .exit)) (now (i1 .exit)) ⌝ }
 {
     if src.len() <= at {
@@ -639,15 +642,16 @@ fn quick_symbol(
     }
     let c = src[at];
     match c {
-        b'"' | b'\'' => quick_quoted(src, at, m, n, t1, t9, i1),
+        b'"' | b'\'' => quick_quoted(src, kind, at, m, n, t1, t9, i1),
         b'|' | b';' | b'%' | b'{' => Quick::Unread,
-        _ => quick_bare(src, at, m, n, t1, t9, i1),
+        _ => quick_bare(src, kind, at, m, n, t1, t9, i1),
     }
 }
 
 // The symbols from `at` on, up to the first item that is none, or is not read in this way; the draft ends at `to` so far.
 pub fn symbol_run(
     src: &[u8],
+    kind: u32,
     at: usize,
     m: u32,
     n: u32,
@@ -657,7 +661,7 @@ pub fn symbol_run(
     i1: &mut [u16],
 ) -> Run
     requires { ⌜ Here (now src) at × Held (now src) (width tokens) 0 m (now t1) (now i1) ⌝ }
-    ensures is { λ r. ⌜ Ran (now (src .entry)) at m n to (now (t1 .entry)) (now (t9 .entry)) (r .at) (r .tokens) (r .symbols) (r .to) (now (t1 .exit)) (now (t9 .exit)) ⌝ }
+    ensures is { λ r. ⌜ Ran kind (now (src .entry)) at m n to (now (t1 .entry)) (now (t9 .entry)) (r .at) (r .tokens) (r .symbols) (r .to) (now (t1 .exit)) (now (t9 .exit)) ⌝ }
     ensures moved { λ r. ⌜ Passed (now (src .entry)) at (r .at) ⌝ }
     ensures indexed { λ r. ⌜ Held (now (src .entry)) (width tokens) 0 (r .tokens) (now (t1 .exit)) (now (i1 .exit)) ⌝ }
 {
@@ -668,7 +672,7 @@ pub fn symbol_run(
         to,
     };
     loop {
-        match quick_symbol(src, run.at, run.tokens, run.symbols, t1, t9, i1) {
+        match quick_symbol(src, kind, run.at, run.tokens, run.symbols, t1, t9, i1) {
             Quick::Read(j, k, end) => {
                 run = Run {
                     at: j,
@@ -717,7 +721,7 @@ pub fn items(
     loop {
         let tokens = grammar::count_of(st, tables::TOKENS);
         let symbols = grammar::count_of(st, tables::SYMBOLS);
-        let run = symbol_run(src, st.at, tokens, symbols, draft.to, t1, t9, i1);
+        let run = symbol_run(src, st.kind, st.at, tokens, symbols, draft.to, t1, t9, i1);
         st = after_run(st, run);
         draft.to = run.to;
         let at = st.at;

@@ -70,14 +70,14 @@ module _ (src : List ℕ) (s : State) (assoc : ℕ) (t2 t10 : List ℕ) (here : 
   abbrev after : Out2
   after = precDecl src s assoc t2 t10
 
-  l : LineAt src (s .at) (after .state .at)
+  l : LineAt (s .kind) src (s .at) (after .state .at)
   l = line-words src s assoc t2 t10 here ten g
 
   began : Spaces src (s .at) (To (l .start) (l .ends))
-  began = told (Spaces src (s .at)) (l .gap) (spaces false src (s .at) here)
+  began = told (Spaces src (s .at)) (l .gap) (spaces (s .kind) false src (s .at) here)
 
   ended : Passed src (l .start) (after .state .at)
-  ended = line-passed src (began .1) (l .line)
+  ended = line-passed (s .kind) src (began .1) (l .line)
 
   rows : Written src (precRow (s .level) assoc) (width precedences) (l .words) (count s precedences) t2 (count (after .state) precedences) (after .a)
   rows = line-rows src s assoc t2 t10 here ten g l
@@ -85,7 +85,7 @@ module _ (src : List ℕ) (s : State) (assoc : ℕ) (t2 t10 : List ℕ) (here : 
   -- a row before, and one of this line
   mixed : (y : List ℕ) → PastLine src at y → getD y level 0 < s .level → (w : LineWord) → In w (l .words) → LinesApart src y (precRow (s .level) assoc (w .place))
   mixed y p d w k =
-      let a = words-inside src (l .line) w k in
+      let a = words-inside (s .kind) src (l .line) w k in
       let b = began .0 in
       let e = p .ends in
       let u = a .begins in
@@ -103,7 +103,7 @@ module _ (src : List ℕ) (s : State) (assoc : ℕ) (t2 t10 : List ℕ) (here : 
 
   -- two rows of this line
   both : (v w : LineWord) → Earlier v w (l .words) → LinesApart src (precRow (s .level) assoc (v .place)) (precRow (s .level) assoc (w .place))
-  both v w e = record { ordered = words-ordered src (l .line) v w e; rising = omega arith; one = λ q. words-plain src (l .line) v w e; two = λ q. absurd (q refl) }
+  both v w e = record { ordered = words-ordered (s .kind) src (l .line) v w e; rising = omega arith; one = λ q. words-plain (s .kind) src (l .line) v w e; two = λ q. absurd (q refl) }
 
   pairs : (q r : ℕ) → q < r → r < count (after .state) precedences → Dec (r < count s precedences) → Dec (q < count s precedences) → LinesApart src (precedenceRow (after .a) q) (precedenceRow (after .a) r)
   pairs q r a b (yes c) d = rw (rows .rows .old q (omega arith), rows .rows .old r c) (x .pairs q r a c)
@@ -114,8 +114,8 @@ module _ (src : List ℕ) (s : State) (assoc : ℕ) (t2 t10 : List ℕ) (here : 
   past r b (yes c) = rw (rows .rows .old r c) (past-on at (after .state .at) _ (omega (arith, began .0, ended .onward)) (ended .inside) (x .past r c))
   past r b (no c) =
       let k = rows .rows .new r (omega arith) b in
-      let a = words-inside src (l .line) (k .word) (k .listed) in
-      rw (k .is) (record { ends = omega (arith, a .ends, a .before); over = words-over src (l .line) (k .word) (k .listed) })
+      let a = words-inside (s .kind) src (l .line) (k .word) (k .listed) in
+      rw (k .is) (record { ends = omega (arith, a .ends, a .before); over = words-over (s .kind) src (l .line) (k .word) (k .listed) })
 
   pub line-onward : s .at ≤ after .state .at
   line-onward = omega (arith, began .0, ended .onward)

@@ -61,7 +61,7 @@ module _ {src : List ℕ} {done : ℕ} {s : State} {T : Tables} (f : Far src don
 
   pub start-onward : s .at ≤ startDecl src s (T .t10) .state .at
   unfolding startDecl
-  start-onward = go (gapAt false src (s .at)) (gapped false src (s .at) (f .here))
+  start-onward = go (gapAt (s .kind) false src (s .at)) (gapped (s .kind) false src (s .at) (f .here))
     where
       named : (i : ℕ) → s .at ≤ i → (n : Name) → Named src i n → s .at ≤ startName n i src s (T .t10) .state .at
       named i h (NameTo j) x = let a = x .0 in let b = x .1 in held j _ (start-held f i j (record { onward = omega arith; inside = b })) (omega arith) b
@@ -73,7 +73,7 @@ module _ {src : List ℕ} {done : ℕ} {s : State} {T : Tables} (f : Far src don
 
   pub expect-onward : (rr : Bool) → s .at ≤ expectDecl src s rr (T .t10) .state .at
   unfolding expectDecl
-  expect-onward rr = go (gapAt false src (s .at)) (gapped false src (s .at) (f .here))
+  expect-onward rr = go (gapAt (s .kind) false src (s .at)) (gapped (s .kind) false src (s .at) (f .here))
     where
       counted : (i : ℕ) → s .at ≤ i → (n : Int) → Counted src i n → s .at ≤ expectInt n i src s rr (T .t10) .state .at
       counted i h (Value v j) x = let a = x .0 in let b = x .1 in held j _ (expect-held f rr v i j (record { onward = omega arith; inside = b })) (omega arith) b
@@ -86,7 +86,7 @@ module _ {src : List ℕ} {done : ℕ} {s : State} {T : Tables} (f : Far src don
 
   pub actiontype-onward : s .at ≤ actiontypeDecl src s (T .t10) .state .at
   unfolding actiontypeDecl
-  actiontype-onward = go (gapAt false src (s .at)) (gapped false src (s .at) (f .here))
+  actiontype-onward = go (gapAt (s .kind) false src (s .at)) (gapped (s .kind) false src (s .at) (f .here))
     where
       go : (g : Gap) → Gapped src (s .at) g → s .at ≤ actiontypeFrom g src s (T .t10) .state .at
       go (GapTo i n) x =
@@ -102,7 +102,7 @@ module _ {src : List ℕ} {done : ℕ} {s : State} {T : Tables} (f : Far src don
 
   pub generics-onward : s .at ≤ genericsDecl src s .state .at
   unfolding genericsDecl
-  generics-onward = go (gapAt false src (s .at)) (gapped false src (s .at) (f .here))
+  generics-onward = go (gapAt (s .kind) false src (s .at)) (gapped (s .kind) false src (s .at) (f .here))
     where
       go : (g : Gap) → Gapped src (s .at) g → s .at ≤ genericsFrom g src s .state .at
       go (GapTo i n) x = line-passed-on (s .at) i n (omega arith) x _ refl
@@ -110,7 +110,7 @@ module _ {src : List ℕ} {done : ℕ} {s : State} {T : Tables} (f : Far src don
 
   typed-onward : (a b k : ℕ) → s .at ≤ k → k ≤ length src → s .at ≤ paramTyped src s a b k .state .at
   unfolding paramTyped
-  typed-onward a b k h l = go (gapAt false src k) (gapped false src k l)
+  typed-onward a b k h l = go (gapAt (s .kind) false src k) (gapped (s .kind) false src k l)
     where
       go : (g : Gap) → Gapped src k g → s .at ≤ paramGiven g src s a b .state .at
       go (GapTo i n) x = line-passed-on k i n h x _ refl
@@ -118,7 +118,7 @@ module _ {src : List ℕ} {done : ℕ} {s : State} {T : Tables} (f : Far src don
 
   pub param-onward : s .at ≤ paramDecl src s .state .at
   unfolding paramDecl
-  param-onward = go (gapAt false src (s .at)) (gapped false src (s .at) (f .here))
+  param-onward = go (gapAt (s .kind) false src (s .at)) (gapped (s .kind) false src (s .at) (f .here))
     where
       text : (i : ℕ) → s .at ≤ i → (t : ColonText) → ColonTexts src i t → s .at ≤ paramText t src s .state .at
       text i h (Upto j n p) x = let a = x .0 in let b = x .1 in typed-onward (p .from) (p .to) (j + 1) (omega arith) (omega arith)
@@ -129,21 +129,21 @@ module _ {src : List ℕ} {done : ℕ} {s : State} {T : Tables} (f : Far src don
       go (GapRefused e) x = omega arith
 
 -- where spacing led
-gap-to : (ok : Bool) (src : List ℕ) (at i n : ℕ) → at ≤ length src → gapAt ok src at ≡ GapTo i n → Passed src at i
-gap-to ok src at i n h e = let x = told (Gapped src at) e (gapped ok src at h) in record { onward = omega (arith, x .0); inside = x .1 }
+gap-to : (kind : ℕ) (ok : Bool) (src : List ℕ) (at i n : ℕ) → at ≤ length src → gapAt kind ok src at ≡ GapTo i n → Passed src at i
+gap-to kind ok src at i n h e = let x = told (Gapped src at) e (gapped kind ok src at h) in record { onward = omega (arith, x .0); inside = x .1 }
 
 -- words up to the next `%`, where each word goes onward
-module _ {A : Type 0} (Word : ℕ → ℕ → A → Type 0) (src : List ℕ) (goes : (i end : ℕ) (x : A) → Word i end x → Passed src i end) where
-  written-onward : {i j : ℕ} {xs : List A} → Written Word src i j xs → i ≤ j
+module _ (kind : ℕ) {A : Type 0} (Word : ℕ → ℕ → A → Type 0) (src : List ℕ) (goes : (i end : ℕ) (x : A) → Word i end x → Passed src i end) where
+  written-onward : {i j : ℕ} {xs : List A} → Written kind Word src i j xs → i ≤ j
   written-onward (over e) = omega arith
   written-onward (word {i} {end} {k} {n} {j} {x} e w g l) =
       let a = goes i end x w in
-      let b = gap-to true src end k n (a .inside) g in
+      let b = gap-to kind true src end k n (a .inside) g in
       let c = written-onward l in
       omega (arith, a .onward, b .onward)
 
-  listed-onward : (at j : ℕ) (xs : List A) → at ≤ length src → Listed Word src at j xs → at ≤ j
-  listed-onward at j xs h l = let a = gap-to false src at (l .from) (l .lines) h (l .gap) in let b = written-onward (l .words) in omega (arith, a .onward)
+  listed-onward : (at j : ℕ) (xs : List A) → at ≤ length src → Listed kind Word src at j xs → at ≤ j
+  listed-onward at j xs h l = let a = gap-to kind false src at (l .from) (l .lines) h (l .gap) in let b = written-onward (l .words) in omega (arith, a .onward)
 
 token-passed : (src : List ℕ) (i : ℕ) (p : Place) (end : ℕ) (quoted : Bool) → tokenAt src i ≡ Found p end quoted → Passed src i end
 token-passed src i p end quoted e = let x = told (Tokened src i) e (token-placed src i (tokenAt src i) refl .1) in record { onward = omega (arith, x .0, x .1, x .2); inside = x .3 }
@@ -157,8 +157,8 @@ unused-word src i end x (quote n e) = token-passed src i _ end _ e
 
 module _ (src : List ℕ) (s : State) (here : s .at ≤ length src) (ten : length (s .counts .n) ≡ 10) where
   pub list-onward : (which : Bool) (t : List ℕ) → listDecl src s which t .answer ≡ Going → s .at ≤ listDecl src s which t .state .at
-  list-onward true t g = let x = token-words src s t ten g in listed-onward (TokenWord src) src (token-word src) (s .at) _ (x .0) here (x .1)
-  list-onward false t g = let x = unused-words src s t ten g in listed-onward (UnusedWord src) src (unused-word src) (s .at) _ (x .0) here (x .1)
+  list-onward true t g = let x = token-words src s t ten g in listed-onward (s .kind) (TokenWord src) src (token-word src) (s .at) _ (x .0) here (x .1)
+  list-onward false t g = let x = unused-words src s t ten g in listed-onward (s .kind) (UnusedWord src) src (unused-word src) (s .at) _ (x .0) here (x .1)
 
   pub avoid-onward : (k : ℕ) → NameTable k → (what : Repeat) (t1 t t10 : List ℕ) → avoidDecl src s k what t1 t t10 .answer ≡ Going → s .at ≤ avoidDecl src s k what t1 t t10 .state .at
   unfolding avoidDecl
@@ -170,17 +170,17 @@ module _ (src : List ℕ) (s : State) (here : s .at ≤ length src) (ten : lengt
       line : s .at < length src → s .at ≤ avoidDecl src s k what t1 t t10 .state .at
       line h =
           let l = avoid-words src k nt what s t1 t t10 ten h g in
-          let x = told (Spaces src (s .at)) (l .gap) (spaces false src (s .at) here) in
-          let y = line-passed src (x .1) (l .line) in
+          let x = told (Spaces src (s .at)) (l .gap) (spaces (s .kind) false src (s .at) here) in
+          let y = line-passed (s .kind) src (x .1) (l .line) in
           omega (arith, x .0, y .onward)
 
   pub epp-onward : (t5 t10 : List ℕ) → eppDecl src s t5 t10 .answer ≡ Going → s .at ≤ eppDecl src s t5 t10 .state .at
   epp-onward t5 t10 g =
       let x = epp-given src s t5 t10 ten g in
       let k = x .stand in
-      let a = gap-to false src (s .at) _ _ here (k .behind-keyword) in
+      let a = gap-to (s .kind) false src (s .at) _ _ here (k .behind-keyword) in
       let b = token-passed src _ _ _ _ (k .spelled) in
-      let c = gap-to false src _ _ _ (b .inside) (k .behind-key) in
+      let c = gap-to (s .kind) false src _ _ _ (b .inside) (k .behind-key) in
       let d = told (Stringed src (x .value .from)) (k .text) (string-placed src (x .value .from) (stringAt src (x .value .from)) refl .1) in
-      let e = gap-to true src _ _ _ (d .1) (x .behind) in
+      let e = gap-to (s .kind) true src _ _ _ (d .1) (x .behind) in
       omega (arith, a .onward, b .onward, c .onward, d .0, e .onward)

@@ -46,22 +46,22 @@ ended src X d f p s T e =
     (λ q. full tt (count (d .state) precedences) (rw e f) (rw e p))
     (λ q. full tt (count (d .state) precedences) (rw e f) (rw e p))
 
-sections-left : (src : List ℕ) (kind : ℕ) (T : Tables) (X : Indexes) → length src ≤ 65536 → Left src (filledIn src (indexed src X (finishedRun (sectionsAll src kind fresh (zeroAll T)))))
+sections-left : (src : List ℕ) (kind : ℕ) (T : Tables) (X : Indexes) → length src ≤ 65536 → Left src (filledIn src (indexed src X (finishedRun (sectionsAll src (fresh kind) (zeroAll T)))))
 unfolding sectionsAll
 sections-left src kind T X h =
     let U = zeroAll T in
-    let o = declAll src kind fresh (declared U) in
-    let f = fresh-far src T h in
-    go (o .answer) o (declarations-far src 0 kind fresh (declared U) U f) (section-pairs src 0 kind fresh (declared U) U f (laid-none src 0 (U .t2)))
+    let o = declAll src (fresh kind) (declared U) in
+    let f = fresh-far src kind T h in
+    go (o .answer) o (declarations-far src 0 (fresh kind) (declared U) U f) (section-pairs src 0 (fresh kind) (declared U) U f (laid-none src 0 (U .t2)))
   where
     rest : (a : Answer) (d : Out) → FarAll src 0 (zeroAll T) d → ApartIn src d → (s : State) (U : Tables) → U .t2 ≡ d .tables .t2 → Left src (filledIn src (indexed src X (finished a s U)))
     rest Going d f p s U e = ended src X d (far-numbered f) p s U e
     rest Done d f p s U e = ended src X d (far-numbered f) p s U e
     rest (Refused r) d f p s U e = none refl
 
-    go : (a : Answer) (o : Out) → FarAll src 0 (zeroAll T) o → (a ≡ Done → ApartIn src o) → Left src (filledIn src (indexed src X (finishedRun (sectionsFrom a src kind o (zeroAll T)))))
+    go : (a : Answer) (o : Out) → FarAll src 0 (zeroAll T) o → (a ≡ Done → ApartIn src o) → Left src (filledIn src (indexed src X (finishedRun (sectionsFrom a src o (zeroAll T)))))
     go Going o f p = none refl
-    go Done o f p = let r = restAll src kind (o .state) (o .tables .t1) (zeroAll T .t7) (zeroAll T .t8) (zeroAll T .t9) in rest (r .answer) o f (p refl) (r .state) _ refl
+    go Done o f p = let r = restAll src (o .state) (o .tables .t1) (zeroAll T .t7) (zeroAll T .t8) (zeroAll T .t9) in rest (r .answer) o f (p refl) (r .state) _ refl
     go (Refused r) o f p = none refl
 
 -- a source that can be read is not too long

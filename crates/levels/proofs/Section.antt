@@ -114,9 +114,9 @@ module _ {src : List ℕ} {done : ℕ} {s : State} {D : Declared} (T : Tables) (
   arm NonassocWord j h k b = line j (b (λ z. clash (cc))) k 3
   arm NoKeyword j h k b = record { going = λ g. absurd (refused-going _ g); done = λ d. absurd (refused-done _ d) }
 
-  step : (kind : ℕ) → Next src (s .at) (declStep src kind s D)
+  step : Next src (s .at) (declStep src s D)
   unfolding declStep
-  step kind = let y = sees kind src (s .at) (f .here) in arm (seenAt kind src (s .at) .word) (seenAt kind src (s .at) .end) (y .onward) (y .inside) (y .beyond)
+  step = let y = sees (s .kind) src (s .at) (f .here) in arm (seenAt (s .kind) src (s .at) .word) (seenAt (s .kind) src (s .at) .end) (y .onward) (y .inside) (y .beyond)
 
 -- the section under way, and where it stops
 record Both (src : List ℕ) (done : ℕ) (T : Tables) (o : Out) : Type 0 where
@@ -126,27 +126,27 @@ record Both (src : List ℕ) (done : ℕ) (T : Tables) (o : Out) : Type 0 where
 abbrev Ends : List ℕ → Out → Type 0
 Ends src o = o .answer ≡ Done → ApartIn src o
 
-turn : (src : List ℕ) (done : ℕ) (T : Tables) (kind : ℕ) (o : Out) → Both src done T o → Either (λ (p : Out). Both src done T p × (length src - p .state .at < length src - o .state .at)) (Ends src) (declTurn src kind o)
+turn : (src : List ℕ) (done : ℕ) (T : Tables) (o : Out) → Both src done T o → Either (λ (p : Out). Both src done T p × (length src - p .state .at < length src - o .state .at)) (Ends src) (declTurn src o)
 unfolding declTurn
-turn src done T kind o z = go (leb (length src) (o .state .at))
+turn src done T o z = go (leb (length src) (o .state .at))
   where
     next : (a : Answer) (p : Out) → p .answer ≡ a → FarAll src done T p → Next src (o .state .at) p → Either (λ (p : Out). Both src done T p × (length src - p .state .at < length src - o .state .at)) (Ends src) (onward a p)
     next Going p e f x = let k = x .going e in let l = k .0 in let h = f .here in (record { far = f; laid = k .1 }, omega arith)
     next Done p e f x = x .done
     next (Refused r) p e f x = x .done
 
-    go : (b : Bool) → Either (λ (p : Out). Both src done T p × (length src - p .state .at < length src - o .state .at)) (Ends src) (sectionEnd b o (declStep src kind (o .state) (o .tables)))
+    go : (b : Bool) → Either (λ (p : Out). Both src done T p × (length src - p .state .at < length src - o .state .at)) (Ends src) (sectionEnd b o (declStep src (o .state) (o .tables)))
     go true = λ d. absurd (refused-done _ d)
-    go false = let p = declStep src kind (o .state) (o .tables) in next (p .answer) p refl (step-far T (z .far) kind) (step T (z .far) (z .laid) kind)
+    go false = let p = declStep src (o .state) (o .tables) in next (p .answer) p refl (step-far T (z .far)) (step T (z .far) (z .laid))
 
 -- Where the section is done, any two rows of table 2 stand so.
-pub section-pairs : (src : List ℕ) (done kind : ℕ) (s : State) (D : Declared) (T : Tables) → Far src done s (all D T) → Laid src (s .at) (count s precedences) (D .t2) → declAll src kind s D .answer ≡ Done → ApartIn src (declAll src kind s D)
+pub section-pairs : (src : List ℕ) (done : ℕ) (s : State) (D : Declared) (T : Tables) → Far src done s (all D T) → Laid src (s .at) (count s precedences) (D .t2) → declAll src s D .answer ≡ Done → ApartIn src (declAll src s D)
 unfolding declAll declRun
-section-pairs src done kind s D T f x = go (gapAt true src (s .at)) (gapped true src (s .at) (f .here))
+section-pairs src done s D T f x = go (gapAt (s .kind) true src (s .at)) (gapped (s .kind) true src (s .at) (f .here))
   where
-    go : (g : Gap) → Gapped src (s .at) g → Ends src (allFrom g src kind s D)
+    go : (g : Gap) → Gapped src (s .at) g → Ends src (allFrom g src s D)
     go (GapTo i n) y =
         let a = y .0 in
-        turns-end (Both src done T) (Ends src) (λ o. length src - o .state .at) (declTurn src kind) (turn src done T kind) (suc (length src)) _ (omega arith)
+        turns-end (Both src done T) (Ends src) (λ o. length src - o .state .at) (declTurn src) (turn src done T) (suc (length src)) _ (omega arith)
         (record { far = far-at f i (omega arith) (y .1); laid = laid-on (s .at) i (omega arith) (y .1) x })
     go (GapRefused e) y = λ d. absurd (refused-done _ d)

@@ -1,7 +1,7 @@
 -- An avoid or implicit list goes on exactly where a line that a line end ends stands in the source and its rows find room, and its rows are exactly those of the
 -- words that are the first of their name in each table. Assumes nothing.
 use Prim.Native.Nat.{ℕ, zero, suc, _≤_, _<_}
-use mathlib.Core.Path.{_≡_, refl, sym, _∙_}
+use mathlib.Core.Path.{_≡_, refl, sym, ap, _∙_}
 use mathlib.Core.List.{List, [], _∷_, map}
 use mathlib.Core.Bool.{Bool, true, false}
 use mathlib.Core.Logic.{_⊎_, inl, inr, _↔_}
@@ -103,16 +103,16 @@ module _ (src : List ℕ) (k : ℕ) (nt : NameTable k) (what : Repeat) where
               told (λ (x : Out0). Took n p i o (avoidEnd (x .answer) (tied3 x a b c))) (sym (past-counted i n u (omega arith)))
               (over (omega arith) refl room leads)
 
-      second : (end : ℕ) → spacesAt true src end ≡ To i n → Took n p i o (avoidEnd (behindBoth src end a (onceStep src v k (width avoided) 0 what (nameRow p) (o .b) (o .c)) .answer) (behindBoth src end a (onceStep src v k (width avoided) 0 what (nameRow p) (o .b) (o .c))))
+      second : (end : ℕ) → spacesAt (o .state .kind) true src end ≡ To i n → Took n p i o (avoidEnd (behindBoth src end a (onceStep src v k (width avoided) 0 what (nameRow p) (o .b) (o .c)) .answer) (behindBoth src end a (onceStep src v k (width avoided) 0 what (nameRow p) (o .b) (o .c))))
       unfolding pastGap gapAt gapOf
       second end g =
           once-cases src v (still .ten ∙ ten) k (low nt) (begins nt) nameRow (λ q. refl) p (omega arith) what (o .b) (o .c)
           (λ (x : Out2). Took n p i o (avoidEnd (behindBoth src end a x .answer) (behindBoth src end a x)))
-          (λ u b c f given z. rw g (passed u b c f given z))
+          (λ u b c f given z. rw (ap (λ (q : ℕ). spacesAt q true src end) (z .kind ∙ still .kind) ∙ g) (passed u b c f given z))
           (λ r u b c none. full (λ q. let z : _≡_ {A = ℕ} 0 1 = cc in omega arith) (λ f. none (free-for own-count repeat-count (f .once))))
 
   -- a turn; the list ends where a line end was counted behind the word
-  turn : (o : Out3) → length (o .state .counts .n) ≡ 10 → (p : Place) (end : ℕ) (quoted : Bool) (i n : ℕ) → tokenAt src (o .state .at) ≡ Found p end quoted → spacesAt true src end ≡ To i n → Took n p i o (avoidTurn src k what o)
+  turn : (o : Out3) → length (o .state .counts .n) ≡ 10 → (p : Place) (end : ℕ) (quoted : Bool) (i n : ℕ) → tokenAt src (o .state .at) ≡ Found p end quoted → spacesAt (o .state .kind) true src end ≡ To i n → Took n p i o (avoidTurn src k what o)
   unfolding avoidTurn avoidItem avoidNamed
   turn o ten p end quoted i n e g =
       rw e
@@ -139,7 +139,7 @@ module _ (src : List ℕ) (k : ℕ) (nt : NameTable k) (what : Repeat) where
               once = given-then (λ q. refl) (z .once) ps (x .once);
               state = still-then (still-at (z .state) j) (x .state);
             };
-        comes = λ ps i o y z. (z .state .at, z .state .ten);
+        comes = λ ps i o y z. (z .state .at, z .state .ten, z .state .kind);
         turn = turn;
         ends = λ o b h. absurd (omega arith);
       }
@@ -147,19 +147,19 @@ module _ (src : List ℕ) (k : ℕ) (nt : NameTable k) (what : Repeat) where
       first : (p : Place) (ps : List Place) (o : Out3) → FreeRows (width tokens) (count (o .state) tokens) (o .a) (length (firstMet src (placesOf (width tokens) (count (o .state) tokens) (o .a)) (p ∷ ps))) → FreeRows (width tokens) (count (o .state) tokens) (o .a) (length (firstMet src (placesOf (width tokens) (count (o .state) tokens) (o .a)) (p ∷ [])))
       first p ps o f = free-split (rw (met-append src (placesOf (width tokens) (count (o .state) tokens) (o .a)) (p ∷ []) ps, length-append) at f) .0
 
-  list-run : (s : State) (t1 t t10 : List ℕ) → length (s .counts .n) ≡ 10 → {j n : ℕ} {ws : List LineWord} → Line src (s .at) j n ws → 0 < n
+  list-run : (s : State) (t1 t t10 : List ℕ) → length (s .counts .n) ≡ 10 → {j n : ℕ} {ws : List LineWord} → Line (s .kind) src (s .at) j n ws → 0 < n
       → Ran src (λ (o : Out3). o .state) (λ (o : Out3). o .answer) Room Leads j (wordPlaces ws) (record { answer = Going; state = s; a = t1; b = t; c = t10 }) (avoidList src s k what t1 t t10)
   unfolding avoidList
-  list-run s t1 t t10 ten l some = run src _ _ Room Leads (avoidTurn src k what) Some laws l some (suc (length src)) _ (refl, ten, refl) (omega arith)
+  list-run s t1 t t10 ten l some = run src _ _ Room Leads (s .kind) (avoidTurn src k what) Some laws l some (suc (length src)) _ (refl, ten, refl, refl) (omega arith)
 
 -- a line with a line end counted at its end begins before the source's end
-line-word : (src : List ℕ) {i j n : ℕ} {ws : List LineWord} → Line src i j n ws → 0 < n → i < length src
-line-word src (ended h) some = absurd (omega arith)
-line-word src (last {i} {j} {n} {end} {p} {quoted} e g h) some = let a = word-placed src i p end quoted e in omega (arith, a .0, a .1, a .2, a .3)
-line-word src (word {i} {k} {j} {n} {end} {p} {quoted} e g l) some = let a = word-placed src i p end quoted e in omega (arith, a .0, a .1, a .2, a .3)
+line-word : (kind : ℕ) (src : List ℕ) {i j n : ℕ} {ws : List LineWord} → Line kind src i j n ws → 0 < n → i < length src
+line-word kind src (ended h) some = absurd (omega arith)
+line-word kind src (last {i} {j} {n} {end} {p} {quoted} e g h) some = let a = word-placed src i p end quoted e in omega (arith, a .0, a .1, a .2, a .3)
+line-word kind src (word {i} {k} {j} {n} {end} {p} {quoted} e g l) some = let a = word-placed src i p end quoted e in omega (arith, a .0, a .1, a .2, a .3)
 
 -- The list of a keyword, behind it, on any tables.
-module _ (src : List ℕ) (k : ℕ) (nt : NameTable k) (what : Repeat) (s : State) (t1 t t10 : List ℕ) (here : s .at ≤ length src) (ten : length (s .counts .n) ≡ 10) {j : ℕ} (l : LineAt src (s .at) j) (some : 0 < l .counted) where
+module _ (src : List ℕ) (k : ℕ) (nt : NameTable k) (what : Repeat) (s : State) (t1 t t10 : List ℕ) (here : s .at ≤ length src) (ten : length (s .counts .n) ≡ 10) {j : ℕ} (l : LineAt (s .kind) src (s .at) j) (some : 0 < l .counted) where
   abbrev after : Out3
   after = avoidDecl src s k what t1 t t10
 
@@ -169,8 +169,8 @@ module _ (src : List ℕ) (k : ℕ) (nt : NameTable k) (what : Repeat) (s : Stat
   decl-run : Ran src (λ (o : Out3). o .state) (λ (o : Out3). o .answer) (Room src k nt what) (Leads src k nt what) j (wordPlaces (l .words)) begun after
   unfolding avoidDecl gapAt gapOf
   decl-run =
-      let a = line-word src (l .line) some in
-      let b = told (Spaces src (s .at)) (l .gap) (spaces false src (s .at) here) in
+      let a = line-word (s .kind) src (l .line) some in
+      let b = told (Spaces src (s .at)) (l .gap) (spaces (s .kind) false src (s .at) here) in
       rw (lt-leb (length src) (s .at) (omega (arith, b .0)), avoidDecl, l .gap) (list-run src k nt what (begun .state) t1 t t10 ten (l .line) some)
 
   -- Where a line stands that a line end ends, and there is room, the reading goes on behind it, with exactly the rows of its words;
@@ -186,7 +186,7 @@ module _ (src : List ℕ) (k : ℕ) (nt : NameTable k) (what : Repeat) (s : Stat
 
 -- So, unless the keyword is the source's end, it goes on exactly where such a line stands behind the keyword, and there is room.
 pub avoid-goes : (src : List ℕ) (k : ℕ) → NameTable k → (what : Repeat) (s : State) (t1 t t10 : List ℕ) → s .at < length src → length (s .counts .n) ≡ 10
-    → (avoidDecl src s k what t1 t t10 .answer ≡ Going) ↔ ((j : ℕ) × (l : LineAt src (s .at) j) × (0 < l .counted) × AvoidFree src s k t1 t t10 (l .words))
+    → (avoidDecl src s k what t1 t t10 .answer ≡ Going) ↔ ((j : ℕ) × (l : LineAt (s .kind) src (s .at) j) × (0 < l .counted) × AvoidFree src s k t1 t t10 (l .words))
 avoid-goes src k nt what s t1 t t10 here ten = (
   λ g.
       let l = avoid-words src k nt what s t1 t t10 ten here g in

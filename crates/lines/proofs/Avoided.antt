@@ -1,7 +1,7 @@
 -- `%avoid_insert` and `%implicit_tokens`: their tokens are entered undeclared and mark nothing, the rows of table 3 or 4 are those of the words, and the list is a
 -- line that ends with a line end, not with the source. Assumes nothing.
 use Prim.Native.Nat.{ℕ, suc, _+_, _≤_, _<_}
-use mathlib.Core.Path.{_≡_, refl, sym, ap}
+use mathlib.Core.Path.{_≡_, refl, sym, ap, _∙_}
 use mathlib.Core.List.{List, [], _∷_}
 use mathlib.Core.Bool.{Bool, true, false}
 use native.Mathlib.Omega.{arith}
@@ -84,15 +84,15 @@ module _ (src : List ℕ) (k : ℕ) (nt : NameTable k) (s : State) (t1 t : List 
 -- where an item of such a list leads: behind its word, with or without a line end counted, or to a refusal
 module _ (src : List ℕ) (k : ℕ) (nt : NameTable k) (s : State) (what : Repeat) (t1 t t10 : List ℕ) (ten : length (s .counts .n) ≡ 10) where
   item-cases : (C : Out3 → Type 0)
-      → ((p : Place) (end : ℕ) (quoted : Bool) (i : ℕ) (v : Out1) (o : Out2) → tokenAt src (s .at) ≡ Found p end quoted → spacesAt true src end ≡ To i 0 → Entered src s t1 t p v → v .answer ≡ Going → Given src k t p v o → o .answer ≡ Going → C (record { answer = Going; state = withAt (o .state) i; a = v .a; b = o .a; c = o .b }))
-      → ((p : Place) (end : ℕ) (quoted : Bool) (i n : ℕ) (v : Out1) (o : Out2) → tokenAt src (s .at) ≡ Found p end quoted → spacesAt true src end ≡ To i n → 0 < n → Entered src s t1 t p v → v .answer ≡ Going → Given src k t p v o → o .answer ≡ Going → C (record { answer = Done; state = withAt (o .state) i; a = v .a; b = o .a; c = o .b }))
+      → ((p : Place) (end : ℕ) (quoted : Bool) (i : ℕ) (v : Out1) (o : Out2) → tokenAt src (s .at) ≡ Found p end quoted → spacesAt (s .kind) true src end ≡ To i 0 → Entered src s t1 t p v → v .answer ≡ Going → Given src k t p v o → o .answer ≡ Going → C (record { answer = Going; state = withAt (o .state) i; a = v .a; b = o .a; c = o .b }))
+      → ((p : Place) (end : ℕ) (quoted : Bool) (i n : ℕ) (v : Out1) (o : Out2) → tokenAt src (s .at) ≡ Found p end quoted → spacesAt (s .kind) true src end ≡ To i n → 0 < n → Entered src s t1 t p v → v .answer ≡ Going → Given src k t p v o → o .answer ≡ Going → C (record { answer = Done; state = withAt (o .state) i; a = v .a; b = o .a; c = o .b }))
       → ((f : Refusal) (u : State) (a b c : List ℕ) → Kept src k s t1 t u a b → C (record { answer = Refused f; state = u; a = a; b = b; c = c }))
       → C (avoidItem src s k what t1 t t10)
   unfolding avoidItem avoidNamed
   item-cases C f g h = go (tokenAt src (s .at)) refl
     where
       behind : (p : Place) (end : ℕ) (quoted : Bool) → tokenAt src (s .at) ≡ Found p end quoted → (v : Out1) → Entered src s t1 t p v → v .answer ≡ Going → (o : Out2) → Given src k t p v o → (a : Answer) → o .answer ≡ a → C (tied3 (passOn src true end a (o .state)) (v .a) (o .a) (o .b))
-      behind p end quoted e v x q o y Going z = past-cases (λ (w : Out0). C (tied3 w (v .a) (o .a) (o .b))) src end (o .state) (λ i c. f p end quoted i v o e c x q y z) (λ i n c d. g p end quoted i n v o e c d x q y z) (λ r. h r (o .state) (v .a) (o .a) (o .b) (given-kept src k nt s t1 t p v x q o y))
+      behind p end quoted e v x q o y Going z = past-cases (λ (w : Out0). C (tied3 w (v .a) (o .a) (o .b))) src end (o .state) (s .kind) (y .kind ∙ x .kind) (λ i c. f p end quoted i v o e c x q y z) (λ i n c d. g p end quoted i n v o e c d x q y z) (λ r. h r (o .state) (v .a) (o .a) (o .b) (given-kept src k nt s t1 t p v x q o y))
       behind p end quoted e v x q o y Done z = absurd (y .undone z)
       behind p end quoted e v x q o y (Refused r) z = h r (o .state) (v .a) (o .a) (o .b) (given-kept src k nt s t1 t p v x q o y)
 
@@ -127,7 +127,7 @@ module _ (src : List ℕ) (k : ℕ) (nt : NameTable k) (what : Repeat) (s : Stat
 
   pub decl-kept : (t10 : List ℕ) → length (s .counts .n) ≡ 10 → Under (avoidDecl src s k what t1 t t10)
   unfolding avoidDecl avoidList
-  decl-kept t10 ten = on-test Under (leb (length src) (s .at)) _ _ (λ e. kept-none ten) (λ e. go (gapAt false src (s .at)))
+  decl-kept t10 ten = on-test Under (leb (length src) (s .at)) _ _ (λ e. kept-none ten) (λ e. go (gapAt (s .kind) false src (s .at)))
     where
       go : (g : Gap) → Under (avoidFrom g src s k what t1 t t10)
       go (GapTo i n) = turns-keep Under (avoidTurn src k what) turn-kept (suc (length src)) _ (kept-at i (kept-none ten))
@@ -138,7 +138,7 @@ pub record Read (src : List ℕ) (k : ℕ) (o e : Out3) : Type 0 where
   pub words : List LineWord
   pub counted : ℕ
   pub some : 0 < counted
-  pub line : Line src (o .state .at) (e .state .at) counted words
+  pub line : Line (o .state .kind) src (o .state .at) (e .state .at) counted words
   pub entered : Written src tokenRow (width tokens) words (count (o .state) tokens) (o .a) (count (e .state) tokens) (e .a)
   pub named : Written src nameRow (width avoided) words (count (o .state) k) (o .b) (count (e .state) k) (e .b)
 
@@ -175,10 +175,10 @@ module _ (src : List ℕ) (k : ℕ) (nt : NameTable k) (what : Repeat) where
     own-one : count (u .state) k ≤ count (o .state) k + 1
     own-one = rw (← x .others k (not-first nt) (λ e. let l = low nt in omega arith)) (y .one)
 
-    going : spacesAt true src end ≡ To i 0 → At behind × (left behind < left o) × ((z : Out3) → Reads behind z → Reads o z)
+    going : spacesAt (o .state .kind) true src end ≡ To i 0 → At behind × (left behind < left o) × ((z : Out3) → Reads behind z → Reads o z)
     going c =
         let a = word-placed src (o .state .at) p end quoted e in
-        let b = gap-placed src end i 0 (a .3) c in
+        let b = gap-placed (o .state .kind) src end i 0 (a .3) c in
         (record { here = b .1; ten = y .ten }, omega (arith, a .0, a .1, a .2, a .3, b .0, b .1), λ z rest w. onward z (rest w))
       where
         onward : (z : Out3) → Read src k behind z → Read src k o z
@@ -187,12 +187,12 @@ module _ (src : List ℕ) (k : ℕ) (nt : NameTable k) (what : Repeat) where
               words = here ∷ r .words;
               counted = r .counted;
               some = r .some;
-              line = word e c (r .line);
+              line = word e c (told (λ (k : ℕ). Line k src i (z .state .at) (r .counted) (r .words)) (y .kind ∙ x .kind) (r .line));
               entered = written-more here (r .words) first-row first-one first-has (r .entered);
               named = written-more here (r .words) own-row own-one (y .has h) (r .named);
             }
 
-    done : (n : ℕ) → spacesAt true src end ≡ To i n → 0 < n → Read src k o behind
+    done : (n : ℕ) → spacesAt (o .state .kind) true src end ≡ To i n → 0 < n → Read src k o behind
     done n c d = record { words = here ∷ []; counted = n; some = d; line = last e c d; entered = written-more here [] first-row first-one first-has written-none; named = written-more here [] own-row own-one (y .has h) written-none }
 
   turn-reads : (o : Out3) → At o → Nears At left Reads o (avoidTurn src k what o)
@@ -225,31 +225,31 @@ module _ (src : List ℕ) (k : ℕ) (nt : NameTable k) (what : Repeat) (s : Stat
     record Whole (o : Out3) : Type 0 where
       start : ℕ
       ends : ℕ
-      gap : spacesAt false src (s .at) ≡ To start ends
+      gap : spacesAt (s .kind) false src (s .at) ≡ To start ends
       read : Read src k (record { answer = Going; state = withAt s start; a = t1; b = t; c = t10 }) o
 
     whole : Whole after
     unfolding avoidDecl gapAt gapOf
-    whole = on-test (λ (o : Out3). o .answer ≡ Going → Whole o) (leb (length src) (s .at)) _ _ (λ e. absurd (let h = leb-true (length src) (s .at) e in omega arith)) (λ e. go (spacesAt false src (s .at)) refl (spaces false src (s .at) (omega arith))) g
+    whole = on-test (λ (o : Out3). o .answer ≡ Going → Whole o) (leb (length src) (s .at)) _ _ (λ e. absurd (let h = leb-true (length src) (s .at) e in omega arith)) (λ e. go (spacesAt (s .kind) false src (s .at)) refl (spaces (s .kind) false src (s .at) (omega arith))) g
       where
-        go : (r : Spaced) → spacesAt false src (s .at) ≡ r → Spaces src (s .at) r → avoidFrom (gapOf r) src s k what t1 t t10 .answer ≡ Going → Whole (avoidFrom (gapOf r) src s k what t1 t t10)
+        go : (r : Spaced) → spacesAt (s .kind) false src (s .at) ≡ r → Spaces src (s .at) r → avoidFrom (gapOf r) src s k what t1 t t10 .answer ≡ Going → Whole (avoidFrom (gapOf r) src s k what t1 t t10)
         go (To i n) e x v = record { start = i; ends = n; gap = e; read = list-reads src k nt what (withAt s i) t1 t t10 (x .1) ten v }
         go (LineEnd i) e x v = let z : _≡_ {A = ℕ} 0 1 = cc in absurd (omega arith)
         go (OpenComment i) e x v = let z : _≡_ {A = ℕ} 0 1 = cc in absurd (omega arith)
 
     -- the list stands in the source, from behind the keyword to the position that it answers,
-    pub avoid-words : LineAt src (s .at) (after .state .at)
+    pub avoid-words : LineAt (s .kind) src (s .at) (after .state .at)
     avoid-words = let r = whole .read in record { start = whole .start; ends = whole .ends; gap = whole .gap; words = r .words; counted = r .counted; line = r .line }
 
-    module _ {j : ℕ} (l : LineAt src (s .at) j) where
+    module _ {j : ℕ} (l : LineAt (s .kind) src (s .at) j) where
       same-words : whole .read .words ≡ l .words
       unfolding avoid-words
-      same-words = line-at-one src avoid-words l .2
+      same-words = line-at-one (s .kind) src avoid-words l .2
 
       -- and a line end is counted behind its last word: such a list does not end at the source's end.
       pub avoid-counted : 0 < l .counted
       unfolding avoid-words
-      avoid-counted = told (λ (n : ℕ). 0 < n) (line-at-one src avoid-words l .1) (whole .read .some)
+      avoid-counted = told (λ (n : ℕ). 0 < n) (line-at-one (s .kind) src avoid-words l .1) (whole .read .some)
 
       -- Each of its words has a row in table 1, and the new ones are those of words, undeclared;
       pub avoid-entered : Written src tokenRow (width tokens) (l .words) (count s tokens) t1 (count (after .state) tokens) (after .a)

@@ -37,18 +37,18 @@ module _ (src : List ℕ) (s : State) (a : ℕ) (t2 t10 : List ℕ) (here : s .a
     left-lists-differ =
         record {
           line = l;
-          stops = λ w h k n e c. counted-last src (l .line) w h k n e c .0;
+          stops = λ w h k n e c. counted-last (s .kind) src (l .line) w h k n e c .0;
           first = first;
           behind = behind;
           second = second;
           levels = λ q r x y z v. let e = levelOf (first q x y .is) in let f = levelOf (second r z v .is) in rw (e, f) (omega arith);
         }
       where
-        l : LineAt src (s .at) (one .state .at)
+        l : LineAt (s .kind) src (s .at) (one .state .at)
         l = line-words src s a t2 t10 here ten g
 
         rest : Grown (RowFrom src (one .state .level) b i) (width precedences) (count (one .state) precedences) (one .a) (count (two .state) precedences) (two .a)
-        rest = line-kept src (withAt (one .state) i) b (one .a) (one .b) (line-ten src s a t2 t10 here ten g) i (λ k n e. let x = told (Spaces src i) e (spaces false src i inside) in omega (arith, x .0))
+        rest = line-kept src (withAt (one .state) i) b (one .a) (one .b) (line-ten src s a t2 t10 here ten g) i (λ k n e. let x = told (Spaces src i) e (spaces (one .state .kind) false src i inside) in omega (arith, x .0))
 
         first : (r : ℕ) → count s precedences ≤ r → r < count (one .state) precedences → RowOf (precRow (s .level) a) (l .words) (rowAt (width precedences) (two .a) r)
         first r x y = rw (rest .old r y) (line-rows src s a t2 t10 here ten g l .rows .new r x y)
@@ -56,7 +56,7 @@ module _ (src : List ℕ) (s : State) (a : ℕ) (t2 t10 : List ℕ) (here : s .a
         behind : (r : ℕ) → count s precedences ≤ r → r < count (one .state) precedences → (i : ℕ) → one .state .at ≤ i → (p : Place) (end : ℕ) (quoted : Bool) → tokenAt src i ≡ Found p end quoted → getD (rowAt (width precedences) (two .a) r) 0 0 < p .from
         behind r x y i h p end quoted e =
             let w = first r x y in
-            let n = words-inside src (l .line) (w .word) (w .listed) in
+            let n = words-inside (s .kind) src (l .line) (w .word) (w .listed) in
             let m = word-placed src i p end quoted e in
             rw (w .is) (omega (arith, n .some, n .ends, n .before, m .0))
 

@@ -79,9 +79,9 @@ pub prec-far : {src : List ℕ} {done : ℕ} {s : State} {T : Tables} (assoc : �
 unfolding precList
 prec-far {src} {done} {s} {T} assoc a b up f = prec-cases (Far2 src done T precedences repeats) src s assoc (T .t2) (T .t10) line (λ e q. f)
   where
-    line : (i n : ℕ) → gapAt false src (s .at) ≡ GapTo i n → Far2 src done T precedences repeats (precList src (withLevel (withAt s i) (nextLevel (s .level))) (s .level) assoc (T .t2) (T .t10))
+    line : (i n : ℕ) → gapAt (s .kind) false src (s .at) ≡ GapTo i n → Far2 src done T precedences repeats (precList src (withLevel (withAt s i) (nextLevel (s .level))) (s .level) assoc (T .t2) (T .t10))
     line i n q =
-        let x : Gapped src (s .at) (GapTo i n) = rw q at (gapped false src (s .at) (f .here)) in
+        let x : Gapped src (s .at) (GapTo i n) = rw q at (gapped (s .kind) false src (s .at) (f .here)) in
         let c = x .0 in
         let d = f .here in
         let e = f .short in
@@ -147,7 +147,7 @@ pub avoid-far : {src : List ℕ} {done : ℕ} {s : State} {T : Tables} (k : ℕ)
 unfolding avoidDecl avoidList
 avoid-far {src} {done} {s} {T} k n what f =
     on-test (Far3 src done T tokens k repeats) (leb (length src) (s .at)) _ _ (λ e. same k n s f)
-    (λ e. go (gapAt false src (s .at)) (gapped false src (s .at) (f .here)))
+    (λ e. go (gapAt (s .kind) false src (s .at)) (gapped (s .kind) false src (s .at) (f .here)))
   where
     same : (k : ℕ) → NameTable k → (u : State) → Far src done u T → Far src done u (setTab (setTab (setTab T tokens (T .t1)) k (tab T k)) repeats (T .t10))
     same k third u g = g

@@ -186,6 +186,7 @@ module _ {P : ℕ → Type 0} {s u : State} (x : Still P s u) where
   pub still-then : {v : State} → Still P u v → Still P s v
   still-then y =
       record {
+        kind = y .kind ∙ x .kind;
         at = y .at ∙ x .at;
         level = y .level ∙ x .level;
         ten = y .ten ∙ x .ten;
@@ -195,16 +196,16 @@ module _ {P : ℕ → Type 0} {s u : State} (x : Still P s u) where
       }
 
   pub still-map : {Q : ℕ → Type 0} → ((k : ℕ) → P k → Q k) → Still Q s u
-  still-map f = record { at = x .at; level = x .level; ten = x .ten; others = λ k h. x .others k (λ p. h (f k p)); singles = x .singles; actiontype = x .actiontype }
+  still-map f = record { kind = x .kind; at = x .at; level = x .level; ten = x .ten; others = λ k h. x .others k (λ p. h (f k p)); singles = x .singles; actiontype = x .actiontype }
 
   pub still-at : (i : ℕ) → Still P (withAt s i) (withAt u i)
-  still-at i = record { at = refl; level = x .level; ten = x .ten; others = x .others; singles = x .singles; actiontype = x .actiontype }
+  still-at i = record { kind = x .kind; at = refl; level = x .level; ten = x .ten; others = x .others; singles = x .singles; actiontype = x .actiontype }
 
 pub still-none : {P : ℕ → Type 0} {s : State} → Still P s s
-still-none = record { at = refl; level = refl; ten = refl; others = λ k h. refl; singles = refl; actiontype = refl }
+still-none = record { kind = refl; at = refl; level = refl; ten = refl; others = λ k h. refl; singles = refl; actiontype = refl }
 
 pub still-count : {P : ℕ → Type 0} (s : State) (k n : ℕ) → P k → Still P s (withCount s k n)
-still-count s k n p = record { at = refl; level = refl; ten = length-set (s .counts .n) k n; others = λ j h. getD-set-other (s .counts .n) k j n 0 (λ e. h (rw e p)); singles = refl; actiontype = refl }
+still-count s k n p = record { kind = refl; at = refl; level = refl; ten = length-set (s .counts .n) k n; others = λ j h. getD-set-other (s .counts .n) k j n 0 (λ e. h (rw e p)); singles = refl; actiontype = refl }
 
 -- One place: its row is added where it is met first, or else it is listed as a repeat of the first, where there is room.
 module _ (src : List ℕ) (s : State) (ten : length (s .counts .n) ≡ 10) (k : ℕ) (low : k < repeats) (first : rowPlace k ≡ 0) (cells : Place → List ℕ) (own : (p : Place) → placeIn (cells p) ≡ p) (p : Place) (wide : 1 < length (cells p)) (what : Repeat) (t t10 : List ℕ) where

@@ -1,7 +1,7 @@
 -- What an item leaves of a table: the rows that stood before, and new ones of which something is known; the name that was given has a row. And a loop's run to
 -- where it stops. Assumes nothing.
 use Prim.Native.Nat.{ℕ, zero, suc, _+_, _*_, _-_, _≤_, _<_}
-use mathlib.Core.Path.{_≡_, refl, sym, _∙_}
+use mathlib.Core.Path.{_≡_, refl, sym, ap, _∙_}
 use mathlib.Core.List.{List, [], _∷_}
 use mathlib.Core.Bool.{true, false}
 use mathlib.Core.Logic.{inl, inr}
@@ -92,11 +92,12 @@ module _ {src : List ℕ} {cells : Place → List ℕ} {w n : ℕ} {t : List ℕ
 self : (src : List ℕ) (a b : ℕ) → Passed src a b → samePart src a b a b ≡ true
 self src a b p = same-part-iff src a b a b .1 (p .onward, p .inside, p .onward, p .inside, refl)
 
--- What a name that is given to table k leaves: position and level, the counts of tables but that one and table 10, the rows before, with one more at most; if the
+-- What a name that is given to table k leaves: position, level and kind, the counts of tables but that one and table 10, the rows before, with one more at most; if the
 -- reading goes on the name has a row.
 pub record Noted (src : List ℕ) (k : ℕ) (row : List ℕ) (a b : ℕ) (s : State) (t : List ℕ) (o : Out2) : Type 0 where
   pub stays : o .state .at ≡ s .at
   pub level : o .state .level ≡ s .level
+  pub kind : o .state .kind ≡ s .kind
   pub ten : length (o .state .counts .n) ≡ 10
   pub others : (j : ℕ) → (j ≡ k → ⊥) → (j ≡ repeats → ⊥) → count (o .state) j ≡ count s j
   pub rows : Grown (λ x. x ≡ row) (length row) (count s k) t (count (o .state) k) (o .a)
@@ -118,8 +119,8 @@ module _ (src : List ℕ) (s : State) (ten : length (s .counts .n) ≡ 10) (k : 
     unfolding pushRow
     push-noted t10 =
         add-cases (λ (o : Added). Noted src k row a b s t (first2 (pushed (o .ok) s k row (o .cells)) t10)) (count s k) row t
-        (λ room less. record { stays = refl; level = refl; ten = length-set (s .counts .n) k (count s k + 1) ∙ ten; others = λ j c d. getD-set-other (s .counts .n) k j (count s k + 1) 0 c; rows = grown-as refl (sym more) (grown-add (count s k) row t room); one = rw more (omega arith); undone = λ e. differ e; has = λ e. new-row (rw more (omega arith)) (grown-as refl (sym more) (grown-add (count s k) row t room)) })
-        (λ full. record { stays = refl; level = refl; ten = ten; others = λ j c d. refl; rows = grown-none; one = omega arith; undone = λ e. let z : _≡_ {A = ℕ} 0 1 = cc in omega arith; has = λ e. let z : _≡_ {A = ℕ} 0 1 = cc in absurd (omega arith) })
+        (λ room less. record { stays = refl; level = refl; kind = refl; ten = length-set (s .counts .n) k (count s k + 1) ∙ ten; others = λ j c d. getD-set-other (s .counts .n) k j (count s k + 1) 0 c; rows = grown-as refl (sym more) (grown-add (count s k) row t room); one = rw more (omega arith); undone = λ e. differ e; has = λ e. new-row (rw more (omega arith)) (grown-as refl (sym more) (grown-add (count s k) row t room)) })
+        (λ full. record { stays = refl; level = refl; kind = refl; ten = ten; others = λ j c d. refl; rows = grown-none; one = omega arith; undone = λ e. let z : _≡_ {A = ℕ} 0 1 = cc in omega arith; has = λ e. let z : _≡_ {A = ℕ} 0 1 = cc in absurd (omega arith) })
       where
         more : count (withCount s k (count s k + 1)) k ≡ count s k + 1
         more = getD-set-same (s .counts .n) k (count s k + 1) 0 (rw ten (omega arith))
@@ -131,8 +132,8 @@ module _ (src : List ℕ) (s : State) (ten : length (s .counts .n) ≡ 10) (k : 
     unfolding listRepeat pushRow
     repeat-noted what c d e f t10 h =
         add-cases (λ (o : Added). Noted src k row a b s t (second2 t (pushed (o .ok) s repeats (repeatCells (numberOfRepeat what) c d e f) (o .cells)))) (count s repeats) (repeatCells (numberOfRepeat what) c d e f) t10
-        (λ room less. record { stays = refl; level = refl; ten = length-set (s .counts .n) repeats (count s repeats + 1) ∙ ten; others = λ j c d. other j d; rows = grown-as refl (sym (other k (λ e. omega arith))) grown-none; one = rw (other k (λ e. omega arith)) (omega arith); undone = λ e. let z : _≡_ {A = ℕ} 0 1 = cc in omega arith; has = λ e. rw (other k (λ e. omega arith)) h })
-        (λ full. record { stays = refl; level = refl; ten = ten; others = λ j c d. refl; rows = grown-none; one = omega arith; undone = λ e. let z : _≡_ {A = ℕ} 0 1 = cc in omega arith; has = λ e. let z : _≡_ {A = ℕ} 0 1 = cc in absurd (omega arith) })
+        (λ room less. record { stays = refl; level = refl; kind = refl; ten = length-set (s .counts .n) repeats (count s repeats + 1) ∙ ten; others = λ j c d. other j d; rows = grown-as refl (sym (other k (λ e. omega arith))) grown-none; one = rw (other k (λ e. omega arith)) (omega arith); undone = λ e. let z : _≡_ {A = ℕ} 0 1 = cc in omega arith; has = λ e. rw (other k (λ e. omega arith)) h })
+        (λ full. record { stays = refl; level = refl; kind = refl; ten = ten; others = λ j c d. refl; rows = grown-none; one = omega arith; undone = λ e. let z : _≡_ {A = ℕ} 0 1 = cc in omega arith; has = λ e. let z : _≡_ {A = ℕ} 0 1 = cc in absurd (omega arith) })
       where
         other : (j : ℕ) → (j ≡ repeats → ⊥) → count (withCount s repeats (count s repeats + 1)) j ≡ count s j
         other j d = getD-set-other (s .counts .n) repeats j (count s repeats + 1) 0 d
@@ -150,9 +151,9 @@ pub enter-noted : (src : List ℕ) (s : State) → length (s .counts .n) ≡ 10 
 unfolding enterStep
 enter-noted src s ten a b t t′ p =
     enter-cases (λ (o : Inserted). Noted src tokens (tokenCells a b 0) a b s t (first2 (entered (o .entered) s (tokenCells a b 0) (o .cells)) t′)) src (count s tokens) a b false t
-    (λ r l e. record { stays = refl; level = refl; ten = length-set (s .counts .n) tokens (count s tokens) ∙ ten; others = λ j c d. other (count s tokens) j c; rows = grown-as refl (sym (same (count s tokens))) grown-none; one = rw (same (count s tokens)) (omega arith); undone = λ e. let z : _≡_ {A = ℕ} 0 1 = cc in omega arith; has = λ e′. rw (same (count s tokens)) (found-row src s ten tokens (omega arith) (tokenCells a b 0) a b (omega arith) t r l e) })
-    (λ none room low. record { stays = refl; level = refl; ten = length-set (s .counts .n) tokens (count s tokens + 1) ∙ ten; others = λ j c d. other (count s tokens + 1) j c; rows = grown-as refl (sym (same (count s tokens + 1))) (grown-add (count s tokens) (tokenCells a b 0) t room); one = rw (same (count s tokens + 1)) (omega arith); undone = λ e. let z : _≡_ {A = ℕ} 0 1 = cc in omega arith; has = λ e. rw (same (count s tokens + 1)) (new-row src s ten tokens (omega arith) (tokenCells a b 0) a b (omega arith) t p refl refl (omega arith) (grown-add (count s tokens) (tokenCells a b 0) t room)) })
-    (λ none full. record { stays = refl; level = refl; ten = ten; others = λ j c d. refl; rows = grown-none; one = omega arith; undone = λ e. let z : _≡_ {A = ℕ} 0 1 = cc in omega arith; has = λ e. let z : _≡_ {A = ℕ} 0 1 = cc in absurd (omega arith) })
+    (λ r l e. record { stays = refl; level = refl; kind = refl; ten = length-set (s .counts .n) tokens (count s tokens) ∙ ten; others = λ j c d. other (count s tokens) j c; rows = grown-as refl (sym (same (count s tokens))) grown-none; one = rw (same (count s tokens)) (omega arith); undone = λ e. let z : _≡_ {A = ℕ} 0 1 = cc in omega arith; has = λ e′. rw (same (count s tokens)) (found-row src s ten tokens (omega arith) (tokenCells a b 0) a b (omega arith) t r l e) })
+    (λ none room low. record { stays = refl; level = refl; kind = refl; ten = length-set (s .counts .n) tokens (count s tokens + 1) ∙ ten; others = λ j c d. other (count s tokens + 1) j c; rows = grown-as refl (sym (same (count s tokens + 1))) (grown-add (count s tokens) (tokenCells a b 0) t room); one = rw (same (count s tokens + 1)) (omega arith); undone = λ e. let z : _≡_ {A = ℕ} 0 1 = cc in omega arith; has = λ e. rw (same (count s tokens + 1)) (new-row src s ten tokens (omega arith) (tokenCells a b 0) a b (omega arith) t p refl refl (omega arith) (grown-add (count s tokens) (tokenCells a b 0) t room)) })
+    (λ none full. record { stays = refl; level = refl; kind = refl; ten = ten; others = λ j c d. refl; rows = grown-none; one = omega arith; undone = λ e. let z : _≡_ {A = ℕ} 0 1 = cc in omega arith; has = λ e. let z : _≡_ {A = ℕ} 0 1 = cc in absurd (omega arith) })
   where
     other : (m j : ℕ) → (j ≡ tokens → ⊥) → count (withCount s tokens m) j ≡ count s j
     other m j c = getD-set-other (s .counts .n) tokens j m 0 c
@@ -161,15 +162,15 @@ enter-noted src s ten a b t t′ p =
     same m = getD-set-same (s .counts .n) tokens m 0 (rw ten (omega arith))
 
 -- spacing behind an item: no line end is counted, or some are
-pub past-cases : (C : Out0 → Type 0) (src : List ℕ) (j : ℕ) (u : State)
-    → ((i : ℕ) → spacesAt true src j ≡ To i 0 → C (record { answer = Going; state = withAt u i }))
-    → ((i n : ℕ) → spacesAt true src j ≡ To i n → 0 < n → C (record { answer = Done; state = withAt u i }))
+pub past-cases : (C : Out0 → Type 0) (src : List ℕ) (j : ℕ) (u : State) (kind : ℕ) → u .kind ≡ kind
+    → ((i : ℕ) → spacesAt kind true src j ≡ To i 0 → C (record { answer = Going; state = withAt u i }))
+    → ((i n : ℕ) → spacesAt kind true src j ≡ To i n → 0 < n → C (record { answer = Done; state = withAt u i }))
     → ((f : Refusal) → C (record { answer = Refused f; state = u }))
     → C (pastGap src true j u)
 unfolding pastGap gapAt gapOf
-past-cases C src j u f g h = go (spacesAt true src j) refl
+past-cases C src j u kind q f g h = go (spacesAt (u .kind) true src j) (ap (λ (k : ℕ). spacesAt k true src j) (sym q))
   where
-    go : (r : Spaced) → spacesAt true src j ≡ r → C (past true (gapOf r) u)
+    go : (r : Spaced) → spacesAt kind true src j ≡ r → C (past true (gapOf r) u)
     go (To i zero) e = f i e
     go (To i (suc n)) e = rw (ne-eqb (suc n) 0 (λ z. omega arith)) (g i (suc n) e (omega arith))
     go (LineEnd i) e = h _

@@ -65,7 +65,7 @@ module _ (src : List ℕ) (level assoc : ℕ) (s : State) (t2 t10 : List ℕ) wh
     prec-refused f g = rw (lt-leb _ _ h, ← e, g)
 
 -- a precedence line, from behind its keyword on
-module _ (src : List ℕ) (s : State) (assoc : ℕ) (t2 t10 : List ℕ) (r : Gap) (q : r ≡ gapAt false src (s .at)) where
+module _ (src : List ℕ) (s : State) (assoc : ℕ) (t2 t10 : List ℕ) (r : Gap) (q : r ≡ gapAt (s .kind) false src (s .at)) where
   pub prec-line : (i n up : ℕ) (o : Out2) → r ≡ GapTo i n → up ≡ nextLevel (s .level) → o ≡ precList src (withLevel (withAt s i) up) (s .level) assoc t2 t10 → o ≡ precDecl src s assoc t2 t10
   unfolding precDecl
   prec-line i n up o e l h = (rw l at h) ∙ ap (λ (x : Gap). precFrom x src s assoc t2 t10) (sym e ∙ q)
@@ -121,7 +121,7 @@ module _ (src : List ℕ) (s : State) (k : ℕ) (what : Repeat) (t1 t t10 : List
   unfolding avoidDecl
   avoid-end h = rw (le-leb _ _ h, avoidDecl)
 
-  module _ (h : s .at < length src) (r : Gap) (q : r ≡ gapAt false src (s .at)) where
+  module _ (h : s .at < length src) (r : Gap) (q : r ≡ gapAt (s .kind) false src (s .at)) where
     pub avoid-line : (i n : ℕ) (o : Out3) → r ≡ GapTo i n → o ≡ avoidList src (withAt s i) k what t1 t t10 → o ≡ avoidDecl src s k what t1 t t10
     unfolding avoidDecl
     avoid-line i n o e w = rw (lt-leb _ _ h, avoidDecl, ← q, e) w

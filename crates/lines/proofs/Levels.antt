@@ -1,6 +1,6 @@
 -- Each precedence line has a level of its own: the rows that a line adds all have its level, and every row that stood before has a lower one. Assumes nothing.
 use Prim.Native.Nat.{ℕ, _≤_, _<_}
-use mathlib.Core.Path.{_≡_, ap}
+use mathlib.Core.Path.{_≡_, refl, ap, _∙_}
 use mathlib.Core.List.{List}
 use mathlib.Core.Bool.{Bool, true}
 use native.Mathlib.Omega.{arith}
@@ -19,6 +19,7 @@ use Rattle.grammar.specs.declared.Repeat.the-variants.{RepeatedPrecedence}
 use Rattle.grammar.specs.Cells.{precedenceCells}
 use Rattle.grammar.specs.State.{Out0, Out2, count, onceStep, pastGap, passOn}
 use Rattle.grammar.specs.Sound.{Tables, Far}
+use Rattle.grammar.proofs.SameKind.{once-kind}
 use Rattle.lines.proofs.Grown.{past-cases}
 use Rattle.lines.proofs.Read.{line-kept}
 use Rattle.lines.specs.Grown.{levelAt}
@@ -44,22 +45,22 @@ lines-differ src done s T assoc f q r a b c =
     let g = rows-stay src s assoc (T .t2) (T .t10) (f .ten) q a in
     rw (e, g) (f .tables precedences .each q a .earlier)
 
-counted : (src : List ℕ) (end i n : ℕ) (u : State) → spacesAt true src end ≡ To i n → 0 < n → pastGap src true end u .answer ≡ Going → ⊥
+counted : (src : List ℕ) (end i n : ℕ) (u : State) → spacesAt (u .kind) true src end ≡ To i n → 0 < n → pastGap src true end u .answer ≡ Going → ⊥
 counted src end i n u g h =
-    past-cases (λ (o : Out0). o .answer ≡ Going → ⊥) src end u
+    past-cases (λ (o : Out0). o .answer ≡ Going → ⊥) src end u (u .kind) refl
     (λ j c y. let z : n ≡ 0 = cc in omega arith)
     (λ j m c d y. let z : _≡_ {A = ℕ} 0 1 = cc in omega arith)
     (λ f y. let z : _≡_ {A = ℕ} 0 1 = cc in omega arith)
 
 -- Where the spacing behind a token counts a line end, its line is at its end: the list does not go on, and what follows is not read with this level.
-pub counted-ends : (src : List ℕ) (s : State) (lev assoc : ℕ) (t2 t10 : List ℕ) (p : Place) (end : ℕ) (quoted : Bool) (i n : ℕ) → tokenAt src (s .at) ≡ Found p end quoted → spacesAt true src end ≡ To i n → 0 < n → precItem src s lev assoc t2 t10 .answer ≡ Going → ⊥
+pub counted-ends : (src : List ℕ) (s : State) (lev assoc : ℕ) (t2 t10 : List ℕ) (p : Place) (end : ℕ) (quoted : Bool) (i n : ℕ) → tokenAt src (s .at) ≡ Found p end quoted → spacesAt (s .kind) true src end ≡ To i n → 0 < n → precItem src s lev assoc t2 t10 .answer ≡ Going → ⊥
 unfolding precItem
-counted-ends src s lev assoc t2 t10 p end quoted i n e g h d = passed (made .answer) (made .state) (rw e at d)
+counted-ends src s lev assoc t2 t10 p end quoted i n e g h d = passed (made .answer) (made .state) (once-kind s src _ _ _ _ _ _ _) (rw e at d)
   where
     made : Out2
     made = onceStep src s precedences (width precedences) 0 RepeatedPrecedence (precedenceCells (p .from) (p .to) lev assoc) t2 t10
 
-    passed : (a : Answer) (u : State) → passOn src true end a u .answer ≡ Going → ⊥
-    passed Going u y = counted src end i n u g h y
-    passed Done u y = let z : _≡_ {A = ℕ} 0 1 = cc in omega arith
-    passed (Refused f) u y = let z : _≡_ {A = ℕ} 0 1 = cc in omega arith
+    passed : (a : Answer) (u : State) → u .kind ≡ s .kind → passOn src true end a u .answer ≡ Going → ⊥
+    passed Going u q y = counted src end i n u (ap (λ (k : ℕ). spacesAt k true src end) q ∙ g) h y
+    passed Done u q y = let z : _≡_ {A = ℕ} 0 1 = cc in omega arith
+    passed (Refused f) u q y = let z : _≡_ {A = ℕ} 0 1 = cc in omega arith

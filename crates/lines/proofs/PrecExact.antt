@@ -1,7 +1,7 @@
 -- A precedence line goes on exactly where it stands in the source and its rows find room, and its rows are exactly those of the words that it meets first; the
 -- others are listed as repeats. Assumes nothing.
 use Prim.Native.Nat.{ℕ, zero, suc, _≤_, _<_}
-use mathlib.Core.Path.{_≡_, refl, sym}
+use mathlib.Core.Path.{_≡_, refl, sym, ap, _∙_}
 use mathlib.Core.List.{List, [], _∷_}
 use mathlib.Core.Bool.{Bool, true}
 use mathlib.Core.Logic.{_↔_}
@@ -42,7 +42,7 @@ module _ (src : List ℕ) (lev assoc : ℕ) where
   Took n p i o t = TurnTo src (λ (o : Out2). o .state) (λ (o : Out2). o .answer) Room Leads n p i o t
 
   -- a turn: the word's row or its repeat, and the list ends where a line end was counted behind it
-  turn : (o : Out2) → length (o .state .counts .n) ≡ 10 → (p : Place) (end : ℕ) (quoted : Bool) (i n : ℕ) → tokenAt src (o .state .at) ≡ Found p end quoted → spacesAt true src end ≡ To i n → Took n p i o (precTurn src lev assoc o)
+  turn : (o : Out2) → length (o .state .counts .n) ≡ 10 → (p : Place) (end : ℕ) (quoted : Bool) (i n : ℕ) → tokenAt src (o .state .at) ≡ Found p end quoted → spacesAt (o .state .kind) true src end ≡ To i n → Took n p i o (precTurn src lev assoc o)
   unfolding precTurn precItem pastGap gapAt gapOf
   turn o ten p end quoted i n e g =
       let a = word-placed src (o .state .at) p end quoted e in
@@ -50,7 +50,7 @@ module _ (src : List ℕ) (lev assoc : ℕ) where
       rw (lt-leb _ _ low, e)
       (once-cases src (o .state) ten precedences (omega arith) refl (precRow lev assoc) (λ q. refl) p (omega arith) RepeatedPrecedence (o .a) (o .b)
       (λ (x : Out2). Took n p i o (lineEnd (behind2 src true end x .answer) (behind2 src true end x)))
-      (λ u a b free given still. rw g (passed u a b free given still n))
+      (λ u a b free given still. rw (ap (λ (q : ℕ). spacesAt q true src end) (still .kind) ∙ g) (passed u a b free given still n))
       (λ r u a b none. full (λ q. let z : _≡_ {A = ℕ} 0 1 = cc in omega arith) none))
     where
       passed : (u : State) (a b : List ℕ) → Room (p ∷ []) o → OnceGiven src precedences (width precedences) (precRow lev assoc) RepeatedPrecedence (p ∷ []) (o .state) (o .a) (o .b) u a b → Still (OnceTables precedences) (o .state) u
@@ -71,18 +71,18 @@ module _ (src : List ℕ) (lev assoc : ℕ) where
         rest = λ p ps i o y z x. free-parts (λ q. refl) (z .rows) ps x .1;
         both = λ p ps i o y z x w. free-both (λ q. refl) (z .rows) ps x w;
         then = λ p ps i j o y e z x. record { rows = given-then (λ q. refl) (z .rows) ps (x .rows); state = still-then (still-at (z .state) j) (x .state) };
-        comes = λ ps i o y z. (z .state .at, z .state .ten);
+        comes = λ ps i o y z. (z .state .at, z .state .ten, z .state .kind);
         turn = turn;
         ends = λ o b h. (rw (le-leb _ _ h), record { own = free-none; again = free-none }, record { rows = record { own = appended-none; again = appended-none }; state = still-none });
       }
 
-  list-run : (s : State) (t2 t10 : List ℕ) → length (s .counts .n) ≡ 10 → {j n : ℕ} {ws : List LineWord} → Line src (s .at) j n ws
+  list-run : (s : State) (t2 t10 : List ℕ) → length (s .counts .n) ≡ 10 → {j n : ℕ} {ws : List LineWord} → Line (s .kind) src (s .at) j n ws
       → Ran src (λ (o : Out2). o .state) (λ (o : Out2). o .answer) Room Leads j (wordPlaces ws) (record { answer = Going; state = s; a = t2; b = t10 }) (precList src s lev assoc t2 t10)
   unfolding precList
-  list-run s t2 t10 ten l = run src _ _ Room Leads (precTurn src lev assoc) Any laws l tt (suc (length src)) _ (refl, ten, refl) (omega arith)
+  list-run s t2 t10 ten l = run src _ _ Room Leads (s .kind) (precTurn src lev assoc) Any laws l tt (suc (length src)) _ (refl, ten, refl, refl) (omega arith)
 
 -- A line behind its keyword, on any tables.
-module _ (src : List ℕ) (s : State) (assoc : ℕ) (t2 t10 : List ℕ) (ten : length (s .counts .n) ≡ 10) {j : ℕ} (l : LineAt src (s .at) j) where
+module _ (src : List ℕ) (s : State) (assoc : ℕ) (t2 t10 : List ℕ) (ten : length (s .counts .n) ≡ 10) {j : ℕ} (l : LineAt (s .kind) src (s .at) j) where
   abbrev after : Out2
   after = precDecl src s assoc t2 t10
 
@@ -106,6 +106,6 @@ module _ (src : List ℕ) (s : State) (assoc : ℕ) (t2 t10 : List ℕ) (ten : l
 
 -- So it goes on exactly where a line stands behind its keyword, and there is room.
 pub prec-goes : (src : List ℕ) (s : State) (assoc : ℕ) (t2 t10 : List ℕ) → s .at ≤ length src → length (s .counts .n) ≡ 10
-    → (precDecl src s assoc t2 t10 .answer ≡ Going) ↔ ((j : ℕ) × (l : LineAt src (s .at) j) × OnceFree src precedences (width precedences) (wordPlaces (l .words)) s t2 t10)
+    → (precDecl src s assoc t2 t10 .answer ≡ Going) ↔ ((j : ℕ) × (l : LineAt (s .kind) src (s .at) j) × OnceFree src precedences (width precedences) (wordPlaces (l .words)) s t2 t10)
 prec-goes src s assoc t2 t10 here ten =
     (λ g. let l = line-words src s assoc t2 t10 here ten g in (_, l, prec-free src s assoc t2 t10 ten l g), λ x. prec-exactly src s assoc t2 t10 ten (x .1) (x .2) .going)

@@ -8,6 +8,7 @@ use lib.Dec.{leb}
 use lib.ListN.{length}
 use borrow.Author.Tests.{leb-true}
 use Rattle.scan.specs.declared.Place.{Place}
+use Rattle.scan.proofs.Bytes.{told}
 use Rattle.scan.proofs.Loop.{Either, turns-keep}
 use Rattle.spacing.specs.declared.Spaced.{Spaced}
 use Rattle.spacing.specs.declared.Spaced.the-variants.{To, LineEnd, OpenComment}
@@ -34,7 +35,7 @@ use Rattle.lines.proofs.Grown.{grown-none, grown-then, grown-map, writt
 pub record Read (src : List ℕ) (lev assoc : ℕ) (o e : Out2) : Type 0 where
   pub words : List LineWord
   pub counted : ℕ
-  pub line : Line src (o .state .at) (e .state .at) counted words
+  pub line : Line (o .state .kind) src (o .state .at) (e .state .at) counted words
   pub table : Written src (precRow lev assoc) (width precedences) words (count (o .state) precedences) (o .a) (count (e .state) precedences) (e .a)
   pub level : e .state .level ≡ o .state .level
   pub ten : length (e .state .counts .n) ≡ 10
@@ -82,15 +83,15 @@ module _ (src : List ℕ) (s : State) (lev assoc : ℕ) (t2 t10 : List ℕ) (ten
       }
 
   item-cases : (C : Out2 → Type 0)
-      → ((p : Place) (end : ℕ) (quoted : Bool) (i : ℕ) (o : Out2) → tokenAt src (s .at) ≡ Found p end quoted → spacesAt true src end ≡ To i 0 → Item p o → o .answer ≡ Going → C (record { answer = Going; state = withAt (o .state) i; a = o .a; b = o .b }))
-      → ((p : Place) (end : ℕ) (quoted : Bool) (i n : ℕ) (o : Out2) → tokenAt src (s .at) ≡ Found p end quoted → spacesAt true src end ≡ To i n → 0 < n → Item p o → o .answer ≡ Going → C (record { answer = Done; state = withAt (o .state) i; a = o .a; b = o .b }))
+      → ((p : Place) (end : ℕ) (quoted : Bool) (i : ℕ) (o : Out2) → tokenAt src (s .at) ≡ Found p end quoted → spacesAt (s .kind) true src end ≡ To i 0 → Item p o → o .answer ≡ Going → C (record { answer = Going; state = withAt (o .state) i; a = o .a; b = o .b }))
+      → ((p : Place) (end : ℕ) (quoted : Bool) (i n : ℕ) (o : Out2) → tokenAt src (s .at) ≡ Found p end quoted → spacesAt (s .kind) true src end ≡ To i n → 0 < n → Item p o → o .answer ≡ Going → C (record { answer = Done; state = withAt (o .state) i; a = o .a; b = o .b }))
       → ((f : Refusal) (u : State) (a b : List ℕ) → Kept src lev assoc s t2 u a → C (record { answer = Refused f; state = u; a = a; b = b }))
       → C (precItem src s lev assoc t2 t10)
   unfolding precItem
   item-cases C f g h = go (tokenAt src (s .at)) refl
     where
       behind : (p : Place) (end : ℕ) (quoted : Bool) → tokenAt src (s .at) ≡ Found p end quoted → (o : Out2) → Item p o → (a : Answer) → o .answer ≡ a → C (tied2 (passOn src true end a (o .state)) (o .a) (o .b))
-      behind p end quoted e o x Going q = past-cases (λ (z : Out0). C (tied2 z (o .a) (o .b))) src end (o .state) (λ i c. f p end quoted i o e c x q) (λ i n c d. g p end quoted i n o e c d x q) (λ r. h r (o .state) (o .a) (o .b) (item-kept p end quoted e o x))
+      behind p end quoted e o x Going q = past-cases (λ (z : Out0). C (tied2 z (o .a) (o .b))) src end (o .state) (s .kind) (x .kind) (λ i c. f p end quoted i o e c x q) (λ i n c d. g p end quoted i n o e c d x q) (λ r. h r (o .state) (o .a) (o .b) (item-kept p end quoted e o x))
       behind p end quoted e o x Done q = absurd (x .undone q)
       behind p end quoted e o x (Refused r) q = h r (o .state) (o .a) (o .b) (item-kept p end quoted e o x)
 
@@ -112,10 +113,10 @@ module _ (src : List ℕ) (lev assoc : ℕ) (s : State) (t2 : List ℕ) where
   turn-kept o x = go (leb (length src) (o .state .at))
     where
       -- the spacing behind the word is further on
-      onward : (p : Place) (end : ℕ) (quoted : Bool) (i n : ℕ) (u : Out2) → tokenAt src (o .state .at) ≡ Found p end quoted → spacesAt true src end ≡ To i n → Item src (o .state) lev assoc (o .a) (o .b) (x .ten) p u → Kept src lev assoc s t2 (withAt (u .state) i) (u .a)
+      onward : (p : Place) (end : ℕ) (quoted : Bool) (i n : ℕ) (u : Out2) → tokenAt src (o .state .at) ≡ Found p end quoted → spacesAt (o .state .kind) true src end ≡ To i n → Item src (o .state) lev assoc (o .a) (o .b) (x .ten) p u → Kept src lev assoc s t2 (withAt (u .state) i) (u .a)
       onward p end quoted i n u e c z =
           let a = word-placed src (o .state .at) p end quoted e in
-          let b = gap-placed src end i n (a .3) c in
+          let b = gap-placed (o .state .kind) src end i n (a .3) c in
           let q = z .stays in
           kept-at i (omega (arith, a .0, a .1, a .2, b .0, q)) (kept-then x (item-kept src (o .state) lev assoc (o .a) (o .b) (x .ten) p end quoted e u z))
 
@@ -149,10 +150,10 @@ module _ (src : List ℕ) (lev assoc : ℕ) where
     abbrev behind : Answer → Out2
     behind a = record { answer = a; state = withAt (u .state) i; a = u .a; b = u .b }
 
-    going : spacesAt true src end ≡ To i 0 → At (behind Going) × (left (behind Going) < left o) × ((z : Out2) → Reads (behind Going) z → Reads o z)
+    going : spacesAt (o .state .kind) true src end ≡ To i 0 → At (behind Going) × (left (behind Going) < left o) × ((z : Out2) → Reads (behind Going) z → Reads o z)
     going c =
         let a = word-placed src (o .state .at) p end quoted e in
-        let b = gap-placed src end i 0 (a .3) c in
+        let b = gap-placed (o .state .kind) src end i 0 (a .3) c in
         (record { here = b .1; ten = x .ten }, omega (arith, a .0, a .1, a .2, a .3, b .0, b .1), λ z rest v. onward z (rest v))
       where
         onward : (z : Out2) → Read src lev assoc (behind Going) z → Read src lev assoc o z
@@ -160,13 +161,13 @@ module _ (src : List ℕ) (lev assoc : ℕ) where
             record {
               words = here ∷ r .words;
               counted = r .counted;
-              line = word e c (r .line);
+              line = word e c (told (λ (k : ℕ). Line k src i (z .state .at) (r .counted) (r .words)) (x .kind) (r .line));
               table = written-more here (r .words) (x .rows) (x .one) (x .has g) (r .table);
               level = r .level ∙ x .level;
               ten = r .ten;
             }
 
-    done : (n : ℕ) → spacesAt true src end ≡ To i n → 0 < n → Read src lev assoc o (behind Going)
+    done : (n : ℕ) → spacesAt (o .state .kind) true src end ≡ To i n → 0 < n → Read src lev assoc o (behind Going)
     done n c d = record { words = here ∷ []; counted = n; line = last e c d; table = written-more here [] (x .rows) (x .one) (x .has g) written-none; level = x .level; ten = x .ten }
 
   turn-reads : (o : Out2) → At o → Nears At left Reads o (precTurn src lev assoc o)
@@ -191,11 +192,11 @@ module _ (src : List ℕ) (s : State) (assoc : ℕ) (t2 t10 : List ℕ) where
   after = precDecl src s assoc t2 t10
 
   -- Whatever its answer, the rows that stood before stay, and a new one is the row of a token behind the keyword's spacing, with the line's level and association.
-  pub line-kept : length (s .counts .n) ≡ 10 → (low : ℕ) → ((i n : ℕ) → spacesAt false src (s .at) ≡ To i n → low ≤ i) → Grown (RowFrom src (s .level) assoc low) (width precedences) (count s precedences) t2 (count (after .state) precedences) (after .a)
+  pub line-kept : length (s .counts .n) ≡ 10 → (low : ℕ) → ((i n : ℕ) → spacesAt (s .kind) false src (s .at) ≡ To i n → low ≤ i) → Grown (RowFrom src (s .level) assoc low) (width precedences) (count s precedences) t2 (count (after .state) precedences) (after .a)
   unfolding precDecl gapAt gapOf
-  line-kept ten low h = go (spacesAt false src (s .at)) refl
+  line-kept ten low h = go (spacesAt (s .kind) false src (s .at)) refl
     where
-      go : (r : Spaced) → spacesAt false src (s .at) ≡ r → Grown (RowFrom src (s .level) assoc low) (width precedences) (count s precedences) t2 (count (precFrom (gapOf r) src s assoc t2 t10 .state) precedences) (precFrom (gapOf r) src s assoc t2 t10 .a)
+      go : (r : Spaced) → spacesAt (s .kind) false src (s .at) ≡ r → Grown (RowFrom src (s .level) assoc low) (width precedences) (count s precedences) t2 (count (precFrom (gapOf r) src s assoc t2 t10 .state) precedences) (precFrom (gapOf r) src s assoc t2 t10 .a)
       go (To i n) e = let l = h i n e in grown-map (λ z r. later l r) (list-kept src (s .level) assoc (withLevel (withAt s i) (nextLevel (s .level))) t2 t10 ten .rows)
       go (LineEnd i) e = grown-none
       go (OpenComment i) e = grown-none
@@ -205,20 +206,20 @@ module _ (src : List ℕ) (s : State) (assoc : ℕ) (t2 t10 : List ℕ) where
     record Whole (o : Out2) : Type 0 where
       start : ℕ
       ends : ℕ
-      gap : spacesAt false src (s .at) ≡ To start ends
+      gap : spacesAt (s .kind) false src (s .at) ≡ To start ends
       read : Read src (s .level) assoc (record { answer = Going; state = withLevel (withAt s start) (nextLevel (s .level)); a = t2; b = t10 }) o
 
     whole : Whole after
     unfolding precDecl gapAt gapOf
-    whole = go (spacesAt false src (s .at)) refl (spaces false src (s .at) here) g
+    whole = go (spacesAt (s .kind) false src (s .at)) refl (spaces (s .kind) false src (s .at) here) g
       where
-        go : (r : Spaced) → spacesAt false src (s .at) ≡ r → Spaces src (s .at) r → precFrom (gapOf r) src s assoc t2 t10 .answer ≡ Going → Whole (precFrom (gapOf r) src s assoc t2 t10)
+        go : (r : Spaced) → spacesAt (s .kind) false src (s .at) ≡ r → Spaces src (s .at) r → precFrom (gapOf r) src s assoc t2 t10 .answer ≡ Going → Whole (precFrom (gapOf r) src s assoc t2 t10)
         go (To i n) e x v = record { start = i; ends = n; gap = e; read = list-reads src (s .level) assoc (withLevel (withAt s i) (nextLevel (s .level))) t2 t10 (x .1) ten v }
         go (LineEnd i) e x v = let z : _≡_ {A = ℕ} 0 1 = cc in absurd (omega arith)
         go (OpenComment i) e x v = let z : _≡_ {A = ℕ} 0 1 = cc in absurd (omega arith)
 
     -- It stands in the source, from behind the keyword to the position that it answers.
-    pub line-words : LineAt src (s .at) (after .state .at)
+    pub line-words : LineAt (s .kind) src (s .at) (after .state .at)
     line-words = let r = whole .read in record { start = whole .start; ends = whole .ends; gap = whole .gap; words = r .words; counted = r .counted; line = r .line }
 
     -- The next line's level is the next one.
@@ -228,10 +229,10 @@ module _ (src : List ℕ) (s : State) (assoc : ℕ) (t2 t10 : List ℕ) where
     pub line-ten : length (after .state .counts .n) ≡ 10
     line-ten = whole .read .ten
 
-    module _ {j : ℕ} (l : LineAt src (s .at) j) where
+    module _ {j : ℕ} (l : LineAt (s .kind) src (s .at) j) where
       same-words : whole .read .words ≡ l .words
       unfolding line-words
-      same-words = line-at-one src line-words l .2
+      same-words = line-at-one (s .kind) src line-words l .2
 
       -- The rows that it adds to table 2 are rows of its words, in their order, with its level and association; those that stood before stay; and each of its
       -- words has a row there, this line's or an earlier one's.

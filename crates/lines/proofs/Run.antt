@@ -1,6 +1,6 @@
 -- A loop over the words of a line, once for both sorts of line: it comes to where the line ends exactly where each word's step finds room. Assumes nothing.
 use Prim.Native.Nat.{ℕ, zero, suc, _-_, _≤_, _<_}
-use mathlib.Core.Path.{_≡_, _∙_}
+use mathlib.Core.Path.{_≡_, ap, _∙_}
 use mathlib.Core.List.{List, [], _∷_}
 use mathlib.Core.Bool.{Bool, true}
 use native.Mathlib.Omega.{arith}
@@ -39,8 +39,8 @@ module _ (src : List ℕ) {X : Type 0} (state : X → State) (answer : X → Ans
     pub rest : (p : Place) (ps : List Place) (i : ℕ) (o y : X) → Leads (p ∷ []) i o y → Room (p ∷ ps) o → Room ps y
     pub both : (p : Place) (ps : List Place) (i : ℕ) (o y : X) → Leads (p ∷ []) i o y → Room (p ∷ []) o → Room ps y → Room (p ∷ ps) o
     pub then : (p : Place) (ps : List Place) (i j : ℕ) (o y e : X) → Leads (p ∷ []) i o y → Leads ps j y e → Leads (p ∷ ps) j o e
-    pub comes : (ps : List Place) (i : ℕ) (o y : X) → Leads ps i o y → (state y .at ≡ i) × (length (state y .counts .n) ≡ length (state o .counts .n))
-    pub turn : (o : X) → length (state o .counts .n) ≡ 10 → (p : Place) (end : ℕ) (quoted : Bool) (i n : ℕ) → tokenAt src (state o .at) ≡ Found p end quoted → spacesAt true src end ≡ To i n → TurnTo n p i o (f o)
+    pub comes : (ps : List Place) (i : ℕ) (o y : X) → Leads ps i o y → (state y .at ≡ i) × (length (state y .counts .n) ≡ length (state o .counts .n)) × (state y .kind ≡ state o .kind)
+    pub turn : (o : X) → length (state o .counts .n) ≡ 10 → (p : Place) (end : ℕ) (quoted : Bool) (i n : ℕ) → tokenAt src (state o .at) ≡ Found p end quoted → spacesAt (state o .kind) true src end ≡ To i n → TurnTo n p i o (f o)
     pub ends : (o : X) → B 0 → length src ≤ state o .at → (f o ≡ stop o) × Room [] o × Leads [] (state o .at) o o
 
   -- the list from o on, in which these places stand up to j, leads to e
@@ -49,23 +49,23 @@ module _ (src : List ℕ) {X : Type 0} (state : X → State) (answer : X → Ans
     pub free : answer e ≡ Going → Room ps o
     pub leads : answer e ≡ Going → Leads ps j o e
 
-  module _ (f : X → Turn X) (B : ℕ → Type 0) (L : Laws f B) where
+  module _ (kind : ℕ) (f : X → Turn X) (B : ℕ → Type 0) (L : Laws f B) where
     abbrev From : ℕ → X → Type 0
-    From i o = (state o .at ≡ i) × (length (state o .counts .n) ≡ 10) × (answer o ≡ Going)
+    From i o = (state o .at ≡ i) × (length (state o .counts .n) ≡ 10) × (answer o ≡ Going) × (state o .kind ≡ kind)
 
-    pub run : {i j n : ℕ} {ws : List LineWord} → Line src i j n ws → B n → (m : ℕ) (o : X) → From i o → length src - i < m → Ran j (wordPlaces ws) o (turns m f o)
+    pub run : {i j n : ℕ} {ws : List LineWord} → Line kind src i j n ws → B n → (m : ℕ) (o : X) → From i o → length src - i < m → Ran j (wordPlaces ws) o (turns m f o)
     unfolding turns
     run l b zero o x h = absurd (omega arith)
     run (ended {i} c) b (suc m) o x h =
         let z = L .ends o b (rw (x .0) c) in
         rw (z .0, turns) (record { goes = λ r. x .2; free = λ g. z .1; leads = λ g. told (λ (k : ℕ). Leads [] k o o) (x .0) (z .2) })
-    run (last {i} {j} {n} {end} {p} {quoted} e g c) b (suc m) o x h = go (f o) (L .turn o (x .1) p end quoted j n (rw (x .0) e) g)
+    run (last {i} {j} {n} {end} {p} {quoted} e g c) b (suc m) o x h = go (f o) (L .turn o (x .1) p end quoted j n (rw (x .0) e) (ap (λ (q : ℕ). spacesAt q true src end) (x .3) ∙ g))
       where
         go : (t : Turn X) → TurnTo n p j o t → Ran j (p ∷ []) o (elim t [ more y ↦ turns m f y | stop y ↦ y ])
         go t (on q a r k) = absurd (omega arith)
         go t (over q a r k) = record { goes = λ r. a; free = λ g. r; leads = λ g. k }
         go t (full a r) = record { goes = λ z. absurd (r z); free = λ z. absurd (a z); leads = λ z. absurd (a z) }
-    run (word {i} {k} {j} {n} {end} {p} {quoted} {ws} e g l) b (suc m) o x h = go (f o) (L .turn o (x .1) p end quoted k 0 (rw (x .0) e) g) (run l b m)
+    run (word {i} {k} {j} {n} {end} {p} {quoted} {ws} e g l) b (suc m) o x h = go (f o) (L .turn o (x .1) p end quoted k 0 (rw (x .0) e) (ap (λ (q : ℕ). spacesAt q true src end) (x .3) ∙ g)) (run l b m)
       where
         ps : List Place
         ps = wordPlaces ws
@@ -73,13 +73,13 @@ module _ (src : List ℕ) {X : Type 0} (state : X → State) (answer : X → Ans
         nearer : length src - k < m
         nearer =
             let a = word-placed src i p end quoted e in
-            let c = gap-placed src end k 0 (a .3) g in
+            let c = gap-placed kind src end k 0 (a .3) g in
             omega (arith, a .0, a .1, a .2, a .3, c .0, c .1)
 
         go : (t : Turn X) → TurnTo 0 p k o t → ((y : X) → From k y → length src - k < m → Ran j ps y (turns m f y)) → Ran j (p ∷ ps) o (elim t [ more y ↦ turns m f y | stop y ↦ y ])
         go t (on {y} q a r z) rest =
             let c = L .comes (p ∷ []) k o y z in
-            let v = rest y (c .0, c .1 ∙ x .1, a) nearer in
+            let v = rest y (c .0, c .1 ∙ x .1, a, c .2 ∙ x .3) nearer in
             record { goes = λ w. v .goes (L .rest p ps k o y z w); free = λ w. L .both p ps k o y z r (v .free w); leads = λ w. L .then p ps k j o y _ z (v .leads w) }
         go t (over q a r z) rest = absurd (omega arith)
         go t (full a r) rest = record { goes = λ z. absurd (r (L .front p ps o z)); free = λ z. absurd (a z); leads = λ z. absurd (a z) }

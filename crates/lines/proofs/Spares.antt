@@ -54,7 +54,7 @@ module _ (k : ℕ) (other : precedences ≡ k → ⊥) (tenth : repeats ≡ k �
 
   pub prec-spares : (s : State) (assoc : ℕ) (t2 t10 : List ℕ) → Spares k (s .counts) (precDecl src s assoc t2 t10 .state .counts)
   unfolding precDecl precList
-  prec-spares s assoc t2 t10 = go (gapAt false src (s .at))
+  prec-spares s assoc t2 t10 = go (gapAt (s .kind) false src (s .at))
     where
       go : (g : Gap) → Spares k (s .counts) (precFrom g src s assoc t2 t10 .state .counts)
       go (GapTo i n) = turns-keep (Since (s .counts)) (precTurn src (s .level) assoc) (turn (s .counts) (s .level) assoc) (suc (length src)) _ (spares-none k (s .counts))

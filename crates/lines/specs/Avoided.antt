@@ -67,5 +67,5 @@ unfoldable pub avoidDecl : List ℕ → State → ℕ → Repeat → List ℕ �
 avoidDecl src s k what t1 t t10 =
     elim (leb (length src) (s .at)) [
       | true ↦ record { answer = Going; state = s; a = t1; b = t; c = t10 }
-      | false ↦ avoidFrom (gapAt false src (s .at)) src s k what t1 t t10
+      | false ↦ avoidFrom (gapAt (s .kind) false src (s .at)) src s k what t1 t t10
     ]

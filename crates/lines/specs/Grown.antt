@@ -71,9 +71,9 @@ levelAt t r = getD (rowAt (width precedences) t r) level 0
 -- ends at at₂, with b, and ends in s₂, whatever its answer. Table 2 behind both is t.
 pub record TwoLists (src : List ℕ) (at₁ a at₂ b : ℕ) (s₀ s₁ s₂ : State) (t : List ℕ) : Type 0 where
   -- the first is a line as it stands in the source,
-  pub line : LineAt src at₁ (s₁ .at)
+  pub line : LineAt (s₀ .kind) src at₁ (s₁ .at)
   -- and where a line end is counted behind a word of it, it is at its end;
-  pub stops : (w : LineWord) → In w (line .words) → (k n : ℕ) → spacesAt true src (w .end) ≡ To k n → 0 < n → k ≡ s₁ .at
+  pub stops : (w : LineWord) → In w (line .words) → (k n : ℕ) → spacesAt (s₀ .kind) true src (w .end) ≡ To k n → 0 < n → k ≡ s₁ .at
   -- its rows are rows of its words, with its level and association,
   pub first : (r : ℕ) → count s₀ precedences ≤ r → r < count s₁ precedences → RowOf (precRow (s₀ .level) a) (line .words) (rowAt (width precedences) t r)
   -- and not of a token that stands behind it;

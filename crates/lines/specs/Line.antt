@@ -30,14 +30,14 @@ Earlier v w [] = ⊥
 Earlier v w (x ∷ xs) = ((v ≡ x) × In w xs) ⊎ Earlier v w xs
 
 -- "Precedence, avoid and implicit lists run until a line end was counted after the spacing behind their keyword": from i on stand the words ws, each followed by
--- spacing. Between words no line end is counted; behind the last one n are, or the source ends there and n is 0. That spacing ends at j.
-pub data Line (src : List ℕ) : ℕ → ℕ → ℕ → List LineWord → Type 0 where
+-- spacing of the kind. Between words no line end is counted; behind the last one n are, or the source ends there and n is 0. That spacing ends at j.
+pub data Line (kind : ℕ) (src : List ℕ) : ℕ → ℕ → ℕ → List LineWord → Type 0 where
   -- no word is left where the source ends; of precedence lists only, since "the last two also go on at the source end and so give 3 there"
-  ended : {i : ℕ} → length src ≤ i → Line src i i 0 []
+  ended : {i : ℕ} → length src ≤ i → Line kind src i i 0 []
   -- a word with a line end behind it is the last one
-  last : {i j n end : ℕ} {p : Place} {quoted : Bool} → tokenAt src i ≡ Found p end quoted → spacesAt true src end ≡ To j n → 0 < n → Line src i j n (record { place = p; end = end } ∷ [])
+  last : {i j n end : ℕ} {p : Place} {quoted : Bool} → tokenAt src i ≡ Found p end quoted → spacesAt kind true src end ≡ To j n → 0 < n → Line kind src i j n (record { place = p; end = end } ∷ [])
   -- a word without one is followed by the rest of the line
-  word : {i k j n end : ℕ} {p : Place} {quoted : Bool} {ws : List LineWord} → tokenAt src i ≡ Found p end quoted → spacesAt true src end ≡ To k 0 → Line src k j n ws → Line src i j n (record { place = p; end = end } ∷ ws)
+  word : {i k j n end : ℕ} {p : Place} {quoted : Bool} {ws : List LineWord} → tokenAt src i ≡ Found p end quoted → spacesAt kind true src end ≡ To k 0 → Line kind src k j n ws → Line kind src i j n (record { place = p; end = end } ∷ ws)
 
 -- LF, the one of "A line end (LF or CR, each counted)" that no token holds: "A quoted token has at least one character, none LF"
 abbrev pub isFeed : ℕ → Bool
@@ -52,13 +52,13 @@ abbrev pub LineOver : List ℕ → ℕ → ℕ → Type 0
 LineOver src a j = (0 < tallyAt isEol src a j) ⊎ (length src ≤ j)
 
 -- a line behind its keyword, which ends at the index at: "Line ends are not allowed directly behind a declaration keyword", then the words, up to j
-pub record LineAt (src : List ℕ) (at j : ℕ) : Type 0 where
+pub record LineAt (kind : ℕ) (src : List ℕ) (at j : ℕ) : Type 0 where
   pub start : ℕ
   pub ends : ℕ
-  pub gap : spacesAt false src at ≡ To start ends
+  pub gap : spacesAt kind false src at ≡ To start ends
   pub words : List LineWord
   pub counted : ℕ
-  pub line : Line src start j counted words
+  pub line : Line kind src start j counted words
 
 -- where a word lies in a line from i to j
 pub record Inside (i j : ℕ) (w : LineWord) : Type 0 where

@@ -114,6 +114,7 @@ OnceTables k j = (j ≡ k) ⊎ (j ≡ repeats)
 
 -- the state is as it was, but for the counts of the tables that P tells
 pub record Still (P : ℕ → Type 0) (s u : State) : Type 0 where
+  pub kind : u .kind ≡ s .kind
   pub at : u .at ≡ s .at
   pub level : u .level ≡ s .level
   pub ten : length (u .counts .n) ≡ length (s .counts .n)

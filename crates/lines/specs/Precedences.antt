@@ -53,4 +53,4 @@ precFrom (GapRefused f) src s assoc t2 t10 = tied2 (refused f s) t2 t10
 
 -- from behind the keyword on, which is where the state stands
 unfoldable pub precDecl : List ℕ → State → ℕ → List ℕ → List ℕ → Out2
-precDecl src s assoc t2 t10 = precFrom (gapAt false src (s .at)) src s assoc t2 t10
+precDecl src s assoc t2 t10 = precFrom (gapAt (s .kind) false src (s .at)) src s assoc t2 t10

@@ -115,7 +115,7 @@ pub fn prec_decl(
     ensures indexed { λ r. ⌜ Follows (now (src .entry)) precedences (width precedences) 0 (r .state .counts) (now (t2 .exit)) (now (fx .entry)) (now (fx .exit)) ⌝ }
 {
     let behind = s.at;
-    match grammar::pass_gap(src, behind, false) {
+    match grammar::pass_gap(src, s.kind, behind, false) {
         Gap::GapTo(i, _) => {
             let level = s.level;
             let mut next = s;
@@ -286,7 +286,7 @@ pub fn avoid_decl(
             state: s,
         };
     }
-    match grammar::pass_gap(src, at, false) {
+    match grammar::pass_gap(src, s.kind, at, false) {
         Gap::GapTo(i, _) => {
             let mut next = s;
             next.at = i;

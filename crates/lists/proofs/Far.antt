@@ -83,7 +83,7 @@ turn-far src done T which o f = go (ends src (o .state .at))
 -- `%token` and `%expect-unused`
 pub list-far : {src : List ℕ} {done : ℕ} {s : State} {T : Tables} (which : Bool) → Far src done s T → Far1 src done T (filled which) (listDecl src s which (tab T (filled which)))
 unfolding listDecl percentList
-list-far {src} {done} {s} {T} which f = go (gapAt false src (s .at)) (gapped false src (s .at) (f .here))
+list-far {src} {done} {s} {T} which f = go (gapAt (s .kind) false src (s .at)) (gapped (s .kind) false src (s .at) (f .here))
   where
     same : (w : Bool) (u : State) → Far src done u T → Far src done u (setTab T (filled w) (tab T (filled w)))
     same true u g = g

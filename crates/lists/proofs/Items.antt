@@ -32,30 +32,32 @@ use Rattle.grammar.specs.declared.Gap.the-variants.{GapTo}
 use Rattle.grammar.specs.Cells.{kindCells}
 use Rattle.grammar.specs.State.{Out1, count, gapAt, Gapped, pushRow, enterStep, onward, behind1}
 use Rattle.grammar.proofs.Kept.{gapped}
+use Rattle.grammar.proofs.SameKind.{push-kind, enter-kind, pass-kind}
 use Rattle.grammar.proofs.Touch.{refused-going, done-going, push-apart, push-more, pass-counts, pass-going}
 use Rattle.lists.specs.Lists.{tokenFound, tokenItem, unusedRow, unusedToken, unusedName, unusedItem, listItem, ends, afterItem, listTurn}
 use Rattle.lists.specs.Written.{TokenWord, UnusedWord, token, rule, quote}
 use Rattle.lists.proofs.Marks.{Marks, Entry, marks-still, enter-marks, enter-entry}
 
 -- a word at i behind which the list goes on, and what came of it
-pub record Went {A : Type 0} (Word : ℕ → ℕ → A → Type 0) (P : A → Type 0) (src : List ℕ) (i : ℕ) (o : Out1) : Type 0 where
+pub record Went (kind : ℕ) {A : Type 0} (Word : ℕ → ℕ → A → Type 0) (P : A → Type 0) (src : List ℕ) (i : ℕ) (o : Out1) : Type 0 where
   pub end : ℕ
   pub to : ℕ
   pub lines : ℕ
   pub what : A
   pub word : Word i end what
-  pub gap : gapAt true src end ≡ GapTo to lines
+  pub gap : gapAt kind true src end ≡ GapTo to lines
   pub at : o .state .at ≡ to
+  pub same : o .state .kind ≡ kind
   pub further : i < to
   pub came : P what
 
-went : {A : Type 0} (Word : ℕ → ℕ → A → Type 0) (P : A → Type 0) (src : List ℕ) (i end : ℕ) (x : A) (o : Out1) → Word i end x → i < end → end ≤ length src → (o .answer ≡ Going → P x)
-    → behind1 src false end o .answer ≡ Going → Went Word P src i (behind1 src false end o)
-went Word P src i end x o w h l f g =
+went : (kind : ℕ) {A : Type 0} (Word : ℕ → ℕ → A → Type 0) (P : A → Type 0) (src : List ℕ) (i end : ℕ) (x : A) (o : Out1) → o .state .kind ≡ kind → Word i end x → i < end → end ≤ length src → (o .answer ≡ Going → P x)
+    → behind1 src false end o .answer ≡ Going → Went kind Word P src i (behind1 src false end o)
+went kind Word P src i end x o e w h l f g =
     let y = pass-going src false end (o .answer) (o .state) g in
-    let z : Gapped src end (GapTo (y .to) (y .lines)) = rw (y .gap) at (gapped true src end l) in
+    let z : Gapped src end (GapTo (y .to) (y .lines)) = rw (y .gap) at (gapped (o .state .kind) true src end l) in
     let k = z .0 in
-    record { end = end; to = y .to; lines = y .lines; what = x; word = w; gap = y .gap; at = y .at; further = omega arith; came = f (y .went) }
+    record { end = end; to = y .to; lines = y .lines; what = x; word = w; gap = ap (λ (k : ℕ). gapAt k true src end) (sym e) ∙ y .gap; at = y .at; same = pass-kind (o .state) src false end (o .answer) ∙ e; further = omega arith; came = f (y .went) }
 
 -- a token of a list, and what became of the table
 module _ (src : List ℕ) (s : State) (t : List ℕ) where
@@ -73,7 +75,7 @@ module _ (src : List ℕ) (s : State) (t : List ℕ) where
   Entered o p = length (s .counts .n) ≡ 10 → Entry src (s .counts) t (o .state .counts) (o .a) p
 
   abbrev pub TokenWent : Out1 → Type 0
-  TokenWent o = o .answer ≡ Going → Went (TokenWord src) (Entered o) src (s .at) o
+  TokenWent o = o .answer ≡ Going → Went (s .kind) (TokenWord src) (Entered o) src (s .at) o
 
   pub token-went : TokenWent (tokenItem src s t)
   unfolding tokenItem
@@ -86,7 +88,7 @@ module _ (src : List ℕ) (s : State) (t : List ℕ) where
           let c = x .2 in
           let d = x .3 in
           let o = enterStep src s (p .from) (p .to) true t in
-          went (TokenWord src) _ src (s .at) end p o (token e) (omega arith) d
+          went (s .kind) (TokenWord src) _ src (s .at) end p o (enter-kind s src (p .from) (p .to) true t) (token e) (omega arith) d
           (λ g ten. rw (pass-counts src false end (o .answer) (o .state)) (enter-entry src s p t ten (omega arith) (omega arith) g))
       go (NoToken k) e x = λ g. absurd (refused-going _ g)
 
@@ -131,7 +133,7 @@ module _ (src : List ℕ) (s : State) (t : List ℕ) where
     pub rows : length (s .counts .n) ≡ 10 → rowsOf (width unused) (count (o .state) unused) (o .a) ≡ rowsOf (width unused) (count s unused) t ++ (row ∷ [])
 
   abbrev pub UnusedWent : Out1 → Type 0
-  UnusedWent o = o .answer ≡ Going → Went (UnusedWord src) (Rowed o) src (s .at) o
+  UnusedWent o = o .answer ≡ Going → Went (s .kind) (UnusedWord src) (Rowed o) src (s .at) o
 
   row-went : (kind from to end : ℕ) → UnusedWord src (s .at) end (kindCells kind from to) → s .at < end → end ≤ length src → UnusedWent (unusedRow src s kind from to end t)
   unfolding unusedRow
@@ -139,7 +141,7 @@ module _ (src : List ℕ) (s : State) (t : List ℕ) where
       let row = kindCells kind from to in
       let o = pushRow s unused row t in
       let c = pass-counts src false end (o .answer) (o .state) in
-      went (UnusedWord src) _ src (s .at) end row o w h l
+      went (s .kind) (UnusedWord src) _ src (s .at) end row o (push-kind s unused row t) w h l
       (λ g. record { ten = λ ten. rw c (push-apart s unused row t .ten ∙ ten); rows = λ ten. rw c (push-more s unused row t (rw ten (omega arith)) g .rows) })
 
   pub unused-went : UnusedWent (unusedItem src s t)

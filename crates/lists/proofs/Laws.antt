@@ -88,7 +88,7 @@ module _ (src : List ℕ) (tokens : Bool) (s : State) (t : List ℕ) where
     turn-refused f e = rw (no-end, ← q, e)
 
 -- from behind the keyword on
-module _ (src : List ℕ) (s : State) (tokens : Bool) (t : List ℕ) (g : Gap) (q : g ≡ gapAt false src (s .at)) where
+module _ (src : List ℕ) (s : State) (tokens : Bool) (t : List ℕ) (g : Gap) (q : g ≡ gapAt (s .kind) false src (s .at)) where
   pub list-from : (i n : ℕ) (o : Out1) → g ≡ GapTo i n → o ≡ percentList src (withAt s i) tokens t → o ≡ listDecl src s tokens t
   unfolding listDecl
   list-from i n o e h = rw (← q, e) h

@@ -29,7 +29,7 @@ use Rattle.lists.proofs.Items.{token-marks, token-went, name-none, unus
 -- a list of tokens from o to z: the table, and where it goes on, its words and what they did
 record Said (src : List ℕ) (o z : Out1) : Type 0 where
   words : List Place
-  written : Written (TokenWord src) src (o .state .at) (z .state .at) words
+  written : Written (o .state .kind) (TokenWord src) src (o .state .at) (z .state .at) words
   effect : Effect src (o .state .counts) (o .a) (z .state .counts) (z .a) words
 
 record Taken (src : List ℕ) (o z : Out1) : Type 0 where
@@ -57,14 +57,14 @@ module _ (src : List ℕ) where
             marks = marks-on (o .state .counts) (i .state .counts) (z .state .counts) (o .a) (i .a) (z .a) m (y .marks);
             said = λ h. let x = y .said h in record {
               words = w .what ∷ x .words;
-              written = word f (w .word) (w .gap) (rw (w .at) at (x .written));
+              written = word f (w .word) (w .gap) (rw (w .at, w .same) at (x .written));
               effect = effect-on src (o .state .counts) (i .state .counts) (z .state .counts) (o .a) (i .a) (z .a) (w .what) (x .words) m (w .came ten) (y .marks) (x .effect);
             };
           }
 
 -- The words of a list are one list: where a word at a place is one word, so are the words from a place on,
-module _ {A : Type 0} {Word : ℕ → ℕ → A → Type 0} {src : List ℕ} (one : (i e f : ℕ) (x y : A) → Word i e x → Word i f y → (e ≡ f) × (x ≡ y)) where
-  pub written-one : {i j k : ℕ} {xs ys : List A} → Written Word src i j xs → Written Word src i k ys → (j ≡ k) × (xs ≡ ys)
+module _ {kind : ℕ} {A : Type 0} {Word : ℕ → ℕ → A → Type 0} {src : List ℕ} (one : (i e f : ℕ) (x y : A) → Word i e x → Word i f y → (e ≡ f) × (x ≡ y)) where
+  pub written-one : {i j k : ℕ} {xs ys : List A} → Written kind Word src i j xs → Written kind Word src i k ys → (j ≡ k) × (xs ≡ ys)
   written-one (over e) (over f) = (refl, refl)
   written-one (over e) (word f w g r) = absurd (false≢true (sym f ∙ e))
   written-one (word e v g q) (over f) = absurd (false≢true (sym e ∙ f))
@@ -75,7 +75,7 @@ module _ {A : Type 0} {Word : ℕ → ℕ → A → Type 0} {src : List ℕ} (on
       let z = written-one q (rw (← a) at r) in
       (z .0, ap₂ _∷_ (u .1) (z .1))
 
-  pub listed-one : {at j k : ℕ} {xs ys : List A} → Listed Word src at j xs → Listed Word src at k ys → (j ≡ k) × (xs ≡ ys)
+  pub listed-one : {at j k : ℕ} {xs ys : List A} → Listed kind Word src at j xs → Listed kind Word src at k ys → (j ≡ k) × (xs ≡ ys)
   listed-one p q =
       let o : GapTo (p .from) (p .lines) ≡ GapTo (q .from) (q .lines) = sym (p .gap) ∙ q .gap in
       let a : p .from ≡ q .from = cc in
@@ -107,20 +107,20 @@ module _ (src : List ℕ) (s : State) (t : List ℕ) (ten : length (s .counts .n
   -- the table, and where it goes on, the words and what they did
   record Begun (o : Out1) : Type 0 where
     marks : Marks (s .counts) t (o .state .counts) (o .a)
-    said : o .answer ≡ Going → (ws : List Place) × Listed (TokenWord src) src (s .at) (o .state .at) ws × Effect src (s .counts) t (o .state .counts) (o .a) ws
+    said : o .answer ≡ Going → (ws : List Place) × Listed (s .kind) (TokenWord src) src (s .at) (o .state .at) ws × Effect src (s .counts) t (o .state .counts) (o .a) ws
 
   begun : Begun after
   unfolding listDecl percentList
-  begun = go (gapAt false src (s .at)) refl
+  begun = go (gapAt (s .kind) false src (s .at)) refl
     where
-      go : (g : Gap) → gapAt false src (s .at) ≡ g → Begun (listFrom g src s true t)
+      go : (g : Gap) → gapAt (s .kind) false src (s .at) ≡ g → Begun (listFrom g src s true t)
       go (GapTo i n) e =
           let y = tokens-run src (suc (length src)) (record { answer = Going; state = withAt s i; a = t }) (omega arith) ten in
           record { marks = y .marks; said = λ g. let x = y .said g in (x .words, record { from = i; lines = n; gap = e; words = x .written }, x .effect) }
       go (GapRefused f) e = record { marks = marks-still (s .counts) t; said = λ g. absurd (refused-going f g) }
 
   -- Where it goes on, words stand in it up to where it came: it runs to the next `%`.
-  pub token-words : after .answer ≡ Going → (ws : List Place) × Listed (TokenWord src) src (s .at) (after .state .at) ws
+  pub token-words : after .answer ≡ Going → (ws : List Place) × Listed (s .kind) (TokenWord src) src (s .at) (after .state .at) ws
   token-words g = let (ws, l, x) = begun .said g in (ws, l)
 
   -- Every row that it adds is declared, whatever the answer,
@@ -135,7 +135,7 @@ module _ (src : List ℕ) (s : State) (t : List ℕ) (ten : length (s .counts .n
   token-stays r h = stays t (after .a) r (begun .marks .old r h)
 
   -- Where it goes on: whichever words stand in it,
-  module _ (g : after .answer ≡ Going) (j : ℕ) (ws : List Place) (l : Listed (TokenWord src) src (s .at) j ws) where
+  module _ (g : after .answer ≡ Going) (j : ℕ) (ws : List Place) (l : Listed (s .kind) (TokenWord src) src (s .at) j ws) where
     effect : Effect src (s .counts) t (after .state .counts) (after .a) ws
     effect =
         let (vs, k, x) = begun .said g in
@@ -156,7 +156,7 @@ module _ (src : List ℕ) (s : State) (t : List ℕ) (ten : length (s .counts .n
 -- a list of words expected unused from o to z, where it goes on
 record Counted (src : List ℕ) (o z : Out1) : Type 0 where
   rows : List (List ℕ)
-  written : Written (UnusedWord src) src (o .state .at) (z .state .at) rows
+  written : Written (o .state .kind) (UnusedWord src) src (o .state .at) (z .state .at) rows
   added : rowsOf (width unused) (count (z .state) unused) (z .a) ≡ rowsOf (width unused) (count (o .state) unused) (o .a) ++ rows
 
 module _ (src : List ℕ) where
@@ -176,7 +176,7 @@ module _ (src : List ℕ) where
           let y = rest (w .came .ten ten) h in
           record {
             rows = w .what ∷ y .rows;
-            written = word f (w .word) (w .gap) (rw (w .at) at (y .written));
+            written = word f (w .word) (w .gap) (rw (w .at, w .same) at (y .written));
             added = y .added ∙ ap (λ l. l ++ y .rows) (w .came .rows ten) ∙ append-assoc (rowsOf (width unused) (count (o .state) unused) (o .a)) (w .what ∷ []) (y .rows);
           }
 
@@ -190,24 +190,24 @@ module _ (src : List ℕ) (s : State) (t : List ℕ) (ten : length (s .counts .n
   Rowed o rows = rowsOf (width unused) (count (o .state) unused) (o .a) ≡ rowsOf (width unused) (count s unused) t ++ rows
 
   abbrev Began : Out1 → Type 0
-  Began o = o .answer ≡ Going → (rows : List (List ℕ)) × Listed (UnusedWord src) src (s .at) (o .state .at) rows × Rowed o rows
+  Began o = o .answer ≡ Going → (rows : List (List ℕ)) × Listed (s .kind) (UnusedWord src) src (s .at) (o .state .at) rows × Rowed o rows
 
   began : Began then
   unfolding listDecl percentList
-  began = go (gapAt false src (s .at)) refl
+  began = go (gapAt (s .kind) false src (s .at)) refl
     where
-      go : (g : Gap) → gapAt false src (s .at) ≡ g → Began (listFrom g src s false t)
+      go : (g : Gap) → gapAt (s .kind) false src (s .at) ≡ g → Began (listFrom g src s false t)
       go (GapTo i n) e = λ g.
           let x = unused-run src (suc (length src)) (record { answer = Going; state = withAt s i; a = t }) (omega arith) ten g in
           (x .rows, record { from = i; lines = n; gap = e; words = x .written }, x .added)
       go (GapRefused f) e = λ g. absurd (refused-going f g)
 
   -- Where it goes on, words stand in it up to where it came,
-  pub unused-words : then .answer ≡ Going → (rows : List (List ℕ)) × Listed (UnusedWord src) src (s .at) (then .state .at) rows
+  pub unused-words : then .answer ≡ Going → (rows : List (List ℕ)) × Listed (s .kind) (UnusedWord src) src (s .at) (then .state .at) rows
   unused-words g = let (rows, l, x) = began g in (rows, l)
 
   -- and the rows of table 6 are those before and then one for each word, in order.
-  pub unused-rows : then .answer ≡ Going → (j : ℕ) (rows : List (List ℕ)) → Listed (UnusedWord src) src (s .at) j rows
+  pub unused-rows : then .answer ≡ Going → (j : ℕ) (rows : List (List ℕ)) → Listed (s .kind) (UnusedWord src) src (s .at) j rows
       → rowsOf (width unused) (count (then .state) unused) (then .a) ≡ rowsOf (width unused) (count s unused) t ++ rows
   unused-rows g j rows l =
       let (vs, k, x) = began g in

@@ -51,7 +51,7 @@ module _ (k : ℕ) (other : unused ≡ k → ⊥) (src : List ℕ) where
 
   pub unused-spares : (s : State) (t : List ℕ) → Spares k (s .counts) (listDecl src s false t .state .counts)
   unfolding listDecl percentList
-  unused-spares s t = go (gapAt false src (s .at))
+  unused-spares s t = go (gapAt (s .kind) false src (s .at))
     where
       go : (g : Gap) → Spares k (s .counts) (listFrom g src s false t .state .counts)
       go (GapTo i n) = turns-keep (Since (s .counts)) (listTurn src false) (turn (s .counts)) (suc (length src)) _ (spares-none k (s .counts))

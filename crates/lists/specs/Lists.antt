@@ -70,4 +70,4 @@ listFrom (GapRefused f) src s tokens t = tied1 (refused f s) t
 
 -- from behind the keyword on, which is where the state stands
 unfoldable pub listDecl : List ℕ → State → Bool → List ℕ → Out1
-listDecl src s tokens t = listFrom (gapAt false src (s .at)) src s tokens t
+listDecl src s tokens t = listFrom (gapAt (s .kind) false src (s .at)) src s tokens t

@@ -16,18 +16,18 @@ use Rattle.grammar.specs.State.{gapAt}
 use Rattle.lists.specs.Lists.{ends}
 
 -- "`%token` and `%expect-unused` lists run to the next `%`": from i on stand these words, each with spacing behind it, and then at j the next `%` or the source's end.
--- What a word is, is the list's: `Word i end x` is that the word x stands at i and ends at `end`. Of the spacing: "Line ends are not allowed directly behind a declaration
+-- What a word is, is the list's, and what spacing is, goes by the kind: `Word i end x` is that the word x stands at i and ends at `end`. Of the spacing: "Line ends are not allowed directly behind a declaration
 -- keyword [..]; elsewhere they are".
-pub data Written {A : Type 0} (Word : ℕ → ℕ → A → Type 0) (src : List ℕ) : ℕ → ℕ → List A → Type 0 where
-  over : {i : ℕ} → ends src i ≡ true → Written Word src i i []
-  word : {i end k n j : ℕ} {x : A} {xs : List A} → ends src i ≡ false → Word i end x → gapAt true src end ≡ GapTo k n → Written Word src k j xs → Written Word src i j (x ∷ xs)
+pub data Written (kind : ℕ) {A : Type 0} (Word : ℕ → ℕ → A → Type 0) (src : List ℕ) : ℕ → ℕ → List A → Type 0 where
+  over : {i : ℕ} → ends src i ≡ true → Written kind Word src i i []
+  word : {i end k n j : ℕ} {x : A} {xs : List A} → ends src i ≡ false → Word i end x → gapAt kind true src end ≡ GapTo k n → Written kind Word src k j xs → Written kind Word src i j (x ∷ xs)
 
 -- the same from behind the keyword on, "directly behind" which line ends are not allowed
-pub record Listed {A : Type 0} (Word : ℕ → ℕ → A → Type 0) (src : List ℕ) (at j : ℕ) (xs : List A) : Type 0 where
+pub record Listed (kind : ℕ) {A : Type 0} (Word : ℕ → ℕ → A → Type 0) (src : List ℕ) (at j : ℕ) (xs : List A) : Type 0 where
   pub from : ℕ
   pub lines : ℕ
-  pub gap : gapAt false src at ≡ GapTo from lines
-  pub words : Written Word src from j xs
+  pub gap : gapAt kind false src at ≡ GapTo from lines
+  pub words : Written kind Word src from j xs
 
 -- a word of a `%token` list: a token, bare or quoted, with its place; "Its span leaves out the quotes"
 pub data TokenWord (src : List ℕ) : ℕ → ℕ → Place → Type 0 where

@@ -130,7 +130,7 @@ pub fn list_decl(src: &[u8], s: State, tokens: bool, t: &mut [u32], ix: &mut [u1
     ensures indexed { λ r. ⌜ Tracks tokens (now (src .entry)) (r .state .counts) (now (t .exit)) (now (ix .entry)) (now (ix .exit)) ⌝ }
 {
     let at = s.at;
-    match grammar::pass_gap(src, at, false) {
+    match grammar::pass_gap(src, s.kind, at, false) {
         Gap::GapTo(i, _) => {
             let mut next = s;
             next.at = i;

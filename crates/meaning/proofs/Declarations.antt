@@ -1,6 +1,6 @@
 -- The declarations keep what is known of a reading's rows, whatever their answer; `%parse-param` alone gives the parse parameter. Assumes nothing.
 use Prim.Native.Nat.{ℕ, suc, _+_}
-use mathlib.Core.Path.{_≡_, refl}
+use mathlib.Core.Path.{_≡_, refl, sym, _∙_, ap₂}
 use mathlib.Core.List.{List, [], _∷_}
 use mathlib.Core.Bool.{Bool, true, false, _&&_, and-eq-true-iff, false≢true}
 use native.Mathlib.Omega.{arith}
@@ -107,7 +107,7 @@ module _ (src : List ℕ) (kind : ℕ) (t7 t8 t9 : List ℕ) where
     -- `%start`,
     start-made : (t : List ℕ) → I (startDecl src s t .state)
     unfolding startDecl startNamed
-    start-made t = go (gapAt false src (s .at))
+    start-made t = go (gapAt (s .kind) false src (s .at))
       where
         given : (q : Part) (i j : ℕ) → I (startGiven q s i j t .state)
         given Absent i j = x
@@ -124,7 +124,7 @@ module _ (src : List ℕ) (kind : ℕ) (t7 t8 t9 : List ℕ) where
     -- `%expect` and `%expect-rr`,
     expect-made : (rr : Bool) (t : List ℕ) → I (expectDecl src s rr t .state)
     unfolding expectDecl expectGiven
-    expect-made rr t = go (gapAt false src (s .at))
+    expect-made rr t = go (gapAt (s .kind) false src (s .at))
       where
         one : (r : Bool) (e : Expect) → I (withSingles s (withExpected (s .singles) r e))
         one true e = x
@@ -146,7 +146,7 @@ module _ (src : List ℕ) (kind : ℕ) (t7 t8 t9 : List ℕ) where
     -- `%actiontype`,
     actiontype-made : (t : List ℕ) → I (actiontypeDecl src s t .state)
     unfolding actiontypeDecl actiontypeNamed
-    actiontype-made t = go (gapAt false src (s .at))
+    actiontype-made t = go (gapAt (s .kind) false src (s .at))
       where
         given : (q : Part) (i j : ℕ) → I (actiontypeGiven q s i j t .state)
         given Absent i j = x
@@ -159,7 +159,7 @@ module _ (src : List ℕ) (kind : ℕ) (t7 t8 t9 : List ℕ) where
     -- `%parse-generics`,
     generics-made : I (genericsDecl src s .state)
     unfolding genericsDecl
-    generics-made = go (gapAt false src (s .at))
+    generics-made = go (gapAt (s .kind) false src (s .at))
       where
         go : (g : Gap) → I (genericsFrom g src s .state)
         go (GapTo i n) = pass-made src kind _ t7 t8 t9 x false (lineEndAt src i) Going
@@ -219,7 +219,7 @@ module _ (src : List ℕ) (kind : ℕ) (t7 t8 t9 : List ℕ) where
     -- `%epp`.
     epp-made : (t5 t10 : List ℕ) → I (eppDecl src s t5 t10 .state)
     unfolding eppDecl eppValue eppText eppGiven
-    epp-made t5 t10 = go (gapAt false src (s .at))
+    epp-made t5 t10 = go (gapAt (s .kind) false src (s .at))
       where
         given : (i j from to v e : ℕ) → I (eppGiven src s i j from to v e t5 t10 .state)
         given i j from to v e =
@@ -239,7 +239,7 @@ module _ (src : List ℕ) (kind : ℕ) (t7 t8 t9 : List ℕ) where
         text i j from to (GapRefused f) = x
 
         key : (i : ℕ) (r : Token) → I (eppKey r i src s t5 t10 .state)
-        key i (Found p end q) = text i end (p .from) (p .to) (gapAt false src end)
+        key i (Found p end q) = text i end (p .from) (p .to) (gapAt (s .kind) false src end)
         key i (NoToken k) = x
 
         go : (g : Gap) → I (eppFrom g src s t5 t10 .state)
@@ -249,29 +249,29 @@ module _ (src : List ℕ) (kind : ℕ) (t7 t8 t9 : List ℕ) where
     -- The parse parameter, behind its keyword.
     param-made : Text src → (at : ℕ) → startsAt paramWord src at ≡ true → s .at ≡ at + length paramWord → I (paramDecl src s .state)
     unfolding paramDecl paramTyped
-    param-made t at k b = go (gapAt false src (s .at)) refl
+    param-made t at k b = go (gapAt (s .kind) false src (s .at)) refl
       where
-        given : (a c : ℕ) → ParamMade src a c → (g : Gap) → I (paramGiven g src s a c .state)
+        given : (a c : ℕ) → ParamMade kind src a c → (g : Gap) → I (paramGiven g src s a c .state)
         given a c y (GapTo i n) =
             let j = lineEndAt src i in
             let u = withSingles s (withParam (s .singles) (ParamAt a c i j)) in
-            pass-made src kind u t7 t8 t9 (record { rules = x .rules; productions = x .productions; symbols = x .symbols; param = y }) false j Going
+            pass-made src kind u t7 t8 t9 (record { rules = x .0 .rules; productions = x .0 .productions; symbols = x .0 .symbols; param = y }, x .1) false j Going
         given a c y (GapRefused f) = x
 
-        text : (i n : ℕ) → gapAt false src (s .at) ≡ GapTo i n → (r : ColonText) → colonTextAt src i ≡ r → I (paramText r src s .state)
+        text : (i n : ℕ) → gapAt (s .kind) false src (s .at) ≡ GapTo i n → (r : ColonText) → colonTextAt src i ≡ r → I (paramText r src s .state)
         text i n g (Upto j l p) e =
-            let h : gapAt false src (at + length paramWord) ≡ GapTo i n = rw b at g in
-            given (p .from) (p .to) (record { at = at; keyword = k; name = word-region src t paramWord false at i n j l p k (omega arith) (omega arith) h e }) (gapAt false src (j + 1))
+            let h : gapAt kind false src (at + length paramWord) ≡ GapTo i n = ap₂ (λ (q j : ℕ). gapAt q false src j) (sym (x .1)) (sym b) ∙ g in
+            given (p .from) (p .to) (record { at = at; keyword = k; name = word-region src t kind paramWord false at i n j l p k (omega arith) (omega arith) h e }) (gapAt (s .kind) false src (j + 1))
         text i n g (NoColon l) e = x
 
-        go : (g : Gap) → gapAt false src (s .at) ≡ g → I (paramFrom g src s .state)
+        go : (g : Gap) → gapAt (s .kind) false src (s .at) ≡ g → I (paramFrom g src s .state)
         go (GapTo i n) e = text i n e (colonTextAt src i) refl
         go (GapRefused f) e = x
 
   -- lists
   list-made : (s : State) → I s → (tokens : Bool) (t : List ℕ) → I (listDecl src s tokens t .state)
   unfolding listDecl percentList listTurn
-  list-made s x tokens t = go (gapAt false src (s .at))
+  list-made s x tokens t = go (gapAt (s .kind) false src (s .at))
     where
       J : Out1 → Type 0
       J o = I (o .state)
@@ -289,7 +289,7 @@ module _ (src : List ℕ) (kind : ℕ) (t7 t8 t9 : List ℕ) where
 
   prec-made : (s : State) → I s → (assoc : ℕ) (t2 t10 : List ℕ) → I (precDecl src s assoc t2 t10 .state)
   unfolding precDecl precList precTurn
-  prec-made s x assoc t2 t10 = go (gapAt false src (s .at))
+  prec-made s x assoc t2 t10 = go (gapAt (s .kind) false src (s .at))
     where
       J : Out2 → Type 0
       J o = I (o .state)
@@ -312,7 +312,7 @@ module _ (src : List ℕ) (kind : ℕ) (t7 t8 t9 : List ℕ) where
 
   avoid-made : (s : State) → I s → (k : ℕ) → Other k → (what : Repeat) (t1 t t10 : List ℕ) → I (avoidDecl src s k what t1 t t10 .state)
   unfolding avoidDecl avoidList avoidTurn
-  avoid-made s x k other what t1 t t10 = on-test J (leb (length src) (s .at)) _ _ (λ e. x) (λ e. go (gapAt false src (s .at)))
+  avoid-made s x k other what t1 t t10 = on-test J (leb (length src) (s .at)) _ _ (λ e. x) (λ e. go (gapAt (s .kind) false src (s .at)))
     where
       J : Out3 → Type 0
       J o = I (o .state)
@@ -352,23 +352,23 @@ module _ (src : List ℕ) (kind : ℕ) (t7 t8 t9 : List ℕ) where
     by-keyword s x D NonassocWord j p = prec-made (withAt s j) x 3 (D .t2) (D .t10)
     by-keyword s x D NoKeyword j p = x
 
-    step-made : (s : State) → I s → (D : Declared) → K (declStep src kind s D)
+    step-made : (s : State) → I s → (D : Declared) → K (declStep src s D)
     unfolding declStep
-    step-made s x D = by-keyword s x D (seenAt kind src (s .at) .word) (seenAt kind src (s .at) .end) (sees-param kind src (s .at))
+    step-made s x D = by-keyword s x D (seenAt (s .kind) src (s .at) .word) (seenAt (s .kind) src (s .at) .end) (sees-param (s .kind) src (s .at))
 
-    turn-made : (o : Out) → K o → Either K K (declTurn src kind o)
+    turn-made : (o : Out) → K o → Either K K (declTurn src o)
     unfolding declTurn
     turn-made o x = go (leb (length src) (o .state .at))
       where
-        go : (b : Bool) → Either K K (sectionEnd b o (declStep src kind (o .state) (o .tables)))
+        go : (b : Bool) → Either K K (sectionEnd b o (declStep src (o .state) (o .tables)))
         go true = x
-        go false = let p = declStep src kind (o .state) (o .tables) in onward-keep K (p .answer) p (step-made (o .state) x (o .tables))
+        go false = let p = declStep src (o .state) (o .tables) in onward-keep K (p .answer) p (step-made (o .state) x (o .tables))
 
     -- The declarations section.
-    pub declarations-made : (s : State) → I s → (D : Declared) → I (declAll src kind s D .state)
+    pub declarations-made : (s : State) → I s → (D : Declared) → I (declAll src s D .state)
     unfolding declAll declRun
-    declarations-made s x D = go (gapAt true src (s .at))
+    declarations-made s x D = go (gapAt (s .kind) true src (s .at))
       where
-        go : (g : Gap) → K (allFrom g src kind s D)
-        go (GapTo i n) = turns-keep K (declTurn src kind) turn-made (suc (length src)) _ x
+        go : (g : Gap) → K (allFrom g src s D)
+        go (GapTo i n) = turns-keep K (declTurn src) turn-made (suc (length src)) _ x
         go (GapRefused f) = x

@@ -172,7 +172,7 @@ module _ (src : List ℕ) (t : Text src) (kind : ℕ) (t7 : List ℕ) where
     -- an action,
     after-made : (end : ℕ) → MadeAt src kind (afterAction src s d end .state) t7 t8 t9
     unfolding afterAction
-    after-made end = go (gapAt true src end)
+    after-made end = go (gapAt (s .kind) true src end)
       where
         go : (g : Gap) → MadeAt src kind (actionGap g src s d .state) t7 t8 t9
         go (GapTo i n) = on-test (λ (o : Made0). MadeAt src kind (o .state) t7 t8 t9) (mayEnd src i) _ _ (λ e. x) (λ e. x)
@@ -181,7 +181,7 @@ module _ (src : List ℕ) (t : Text src) (kind : ℕ) (t7 : List ℕ) where
     -- and `%empty`.
     empty-made : (first : ℕ) → MadeAt src kind (emptyItem src s d first .state) t7 t8 t9
     unfolding emptyItem
-    empty-made first = go (gapAt true src (s .at))
+    empty-made first = go (gapAt (s .kind) true src (s .at))
       where
         go : (g : Gap) → MadeAt src kind (emptyGap g src s d first .state) t7 t8 t9
         go (GapTo k n) = on-test (λ (o : Made0). MadeAt src kind (o .state) t7 t8 t9) (eqb (count s symbols) (d .first) && mayFollow src k) _ _ (λ e. x) (λ e. x)
@@ -197,12 +197,12 @@ module _ (src : List ℕ) (t : Text src) (kind : ℕ) (t7 : List ℕ) where
         rows p end y (GapRefused f) = x
 
         go : (r : Token) → tokenAt src (s .at) ≡ r → let o = quotedFound r src s d t1 t9 in MadeAt src kind (o .state) t7 t8 (o .b)
-        go (Found p end q) e = rows p end (symbol-row src (s .at) 2 end p q e (λ z. absurd (omega arith))) (gapAt true src end)
+        go (Found p end q) e = rows p end (symbol-row src (s .at) 2 end p q e (λ z. absurd (omega arith))) (gapAt (s .kind) true src end)
         go (NoToken k) e = x
 
     prec-made : (t1 : List ℕ) → MadeAt src kind (precItem src s d t1 .state) t7 t8 t9
     unfolding precItem
-    prec-made t1 = go (gapAt true src (s .at))
+    prec-made t1 = go (gapAt (s .kind) true src (s .at))
       where
         go : (g : Gap) → MadeAt src kind (precGap g src s d t1 .state) t7 t8 t9
         go (GapTo i n) = prec-name-made (withAt s i) d t8 t9 x t1
@@ -232,12 +232,12 @@ module _ (src : List ℕ) (t : Text src) (kind : ℕ) (t7 : List ℕ) where
         rows from to end (GapRefused f) = none _ _
 
         go : (r : Token) → let o = quotedFound r src s d t1 t9 in Acts src (o .state .at) (o .draft .to) (o .draft .action)
-        go (Found p end q) = rows (p .from) (p .to) end (gapAt true src end)
+        go (Found p end q) = rows (p .from) (p .to) end (gapAt (s .kind) true src end)
         go (NoToken k) = none _ _
 
     prec-acts : (t1 : List ℕ) → let o = precItem src s d t1 in Acts src (o .state .at) (o .draft .to) (o .draft .action)
     unfolding precItem precName
-    prec-acts t1 = go (gapAt true src (s .at))
+    prec-acts t1 = go (gapAt (s .kind) true src (s .at))
       where
         name : (i : ℕ) (r : Token) → let o = precFound r src (withAt s i) d t1 in Acts src (o .state .at) (o .draft .to) (o .draft .action)
         name i (Found p end q) = none _ _
@@ -249,7 +249,7 @@ module _ (src : List ℕ) (t : Text src) (kind : ℕ) (t7 : List ℕ) where
 
     empty-acts : (first : ℕ) → let o = emptyItem src s d first in Acts src (o .state .at) (o .draft .to) (o .draft .action)
     unfolding emptyItem
-    empty-acts first = go (gapAt true src (s .at))
+    empty-acts first = go (gapAt (s .kind) true src (s .at))
       where
         go : (g : Gap) → let o = emptyGap g src s d first in Acts src (o .state .at) (o .draft .to) (o .draft .action)
         go (GapTo k n) = on-test (λ (o : Made0). Acts src (o .state .at) (o .draft .to) (o .draft .action)) (eqb (count s symbols) (d .first) && mayFollow src k) _ _ (λ e. none _ _) (λ e. none _ _)
@@ -276,7 +276,7 @@ module _ (src : List ℕ) (t : Text src) (kind : ℕ) (t7 : List ℕ) where
       gap a b c e y (GapRefused f) = λ g. absurd (refused-going f g)
 
       go : (r : Action) → actionAt src (s .at) ≡ r → Goes (actionFound r src s d)
-      go (Body end n p q) e = gap (p .from) (p .to) (q .from) (q .to) (action-region src t (s .at) end n p q h b e) (gapAt true src end)
+      go (Body end n p q) e = gap (p .from) (p .to) (q .from) (q .to) (action-region src t (s .at) end n p q h b e) (gapAt (s .kind) true src end)
       go (OpenAction i) e = λ g. absurd (refused-going _ g)
 
   module _ (s : State) (d : Production) (t1 t8 t9 : List ℕ) (x : MadeAt src kind s t7 t8 t9) (y : Acts src (s .at) (d .to) (d .action)) where

@@ -42,20 +42,20 @@ none-made src kind c t7 t8 t9 a b d = record { rules = λ q r l. absurd (omega a
 
 module _ (src : List ℕ) (kind : ℕ) where
   -- the sections of a source that is a text
-  sections-made : Text src → (T : Tables) → let r = sectionsAll src kind fresh T in MadeAt src kind (r .state) (r .tables .t7) (r .tables .t8) (r .tables .t9)
+  sections-made : Text src → (T : Tables) → let r = sectionsAll src (fresh kind) T in MadeAt src kind (r .state) (r .tables .t7) (r .tables .t8) (r .tables .t9)
   unfolding sectionsAll restAll
   sections-made t T =
-      let o = declAll src kind fresh (declared T) in
-      go (o .answer) o (declarations-made src kind (T .t7) (T .t8) (T .t9) t fresh (none-made src kind (fresh .counts) (T .t7) (T .t8) (T .t9) refl refl refl) (declared T))
+      let o = declAll src (fresh kind) (declared T) in
+      go (o .answer) o (declarations-made src kind (T .t7) (T .t8) (T .t9) t (fresh kind) (none-made src kind (fresh kind .counts) (T .t7) (T .t8) (T .t9) refl refl refl, refl) (declared T))
     where
       rest : (a : Answer) (r : Ruled) → MadeIn src t kind r → MadeIn src t kind (restFrom a src r)
       rest Going r x = programs-made src t kind (r .state) (r .t7) (r .t8) (r .t9) x
       rest Done r x = x
       rest (Refused f) r x = x
 
-      go : (a : Answer) (o : Out) → MadeAt src kind (o .state) (T .t7) (T .t8) (T .t9) → let r = sectionsFrom a src kind o T in MadeAt src kind (r .state) (r .tables .t7) (r .tables .t8) (r .tables .t9)
+      go : (a : Answer) (o : Out) → MadeAt src kind (o .state) (T .t7) (T .t8) (T .t9) → let r = sectionsFrom a src o T in MadeAt src kind (r .state) (r .tables .t7) (r .tables .t8) (r .tables .t9)
       go Going o x = x
-      go Done o x = let r = rulesAll src kind (o .state) (o .tables .t1) (T .t7) (T .t8) (T .t9) in rest (r .answer) r (rules-made src t kind (o .state) (o .tables .t1) (T .t7) (T .t8) (T .t9) x)
+      go Done o x = let r = rulesAll src (o .state) (o .tables .t1) (T .t7) (T .t8) (T .t9) in rest (r .answer) r (rules-made src t kind (o .state) (o .tables .t1) (T .t7) (T .t8) (T .t9) x)
       go (Refused f) o x = x
 
   -- a symbol's row number has nothing to do with its name
@@ -76,7 +76,7 @@ module _ (src : List ℕ) (kind : ℕ) where
   finished-made X a s T x = go a
     where
       ended : let r = endedAt s (T .t10) in Made src kind (r .counts) (r .singles .param) (T .t7) (T .t8) (T .t9)
-      ended = on-test (λ (r : Reading). Made src kind (r .counts) (r .singles .param) (T .t7) (T .t8) (T .t9)) (eqb (count s repeats) 0) _ _ (λ e. x) (λ e. x)
+      ended = on-test (λ (r : Reading). Made src kind (r .counts) (r .singles .param) (T .t7) (T .t8) (T .t9)) (eqb (count s repeats) 0) _ _ (λ e. x .0) (λ e. x .0)
 
       go : (a : Answer) → MadeOf src kind (filledIn src (indexed src X (finished a s T)))
       go Going = made-filled _ _ _ _ _ _ _ ended
@@ -106,7 +106,7 @@ module _ (src : List ℕ) (kind : ℕ) where
   read-made T X = go (admitted src kind (sized T X)) (admits (sized T X))
     where
       go : (m : Admission) → Admits m → MadeOf src kind (filledIn src (indexed src X (finishedRun (attemptOf m src kind (zeroAll T)))))
-      go Fit t = let r = sectionsAll src kind fresh (zeroAll T) in finished-made X (r .answer) (r .state) (r .tables) (sections-made t (zeroAll T))
+      go Fit t = let r = sectionsAll src (fresh kind) (zeroAll T) in finished-made X (r .answer) (r .state) (r .tables) (sections-made t (zeroAll T))
       go (Unfit f) t = none-made src kind _ _ _ _ refl refl refl
 
   module _ (T : Tables) (X : Indexes) where
@@ -126,9 +126,9 @@ module _ (src : List ℕ) (kind : ℕ) where
     action-trimmed-read r h = read-made T X .productions r h .acted
 
     -- In kind 2 every rule has a type, which is what trimming leaves of the region from behind the `->` that follows its name to a single colon.
-    pub type-trimmed : kind ≡ 2 → (r : ℕ) → r < getD (o .counts .n) rules 0 → TypeMade src (rowAt (width rules) (o .tables .t7) r)
+    pub type-trimmed : kind ≡ 2 → (r : ℕ) → r < getD (o .counts .n) rules 0 → TypeMade kind src (rowAt (width rules) (o .tables .t7) r)
     type-trimmed = read-made T X .rules
 
     -- The parse parameter's name is what trimming leaves of the region from behind a `%parse-param` to a single colon.
-    pub param-trimmed : (a b c d : ℕ) → o .singles .param ≡ ParamAt a b c d → ParamMade src a b
-    param-trimmed a b c d e = told (ParamFrom src) e (read-made T X .param)
+    pub param-trimmed : (a b c d : ℕ) → o .singles .param ≡ ParamAt a b c d → ParamMade kind src a b
+    param-trimmed a b c d e = told (ParamFrom kind src) e (read-made T X .param)

@@ -36,9 +36,9 @@ clash : _≡_ {A = ℕ} 0 1 → ⊥
 clash z = omega arith
 
 -- a gap is spacing
-pub gap-spaces : (ok : Bool) (src : List ℕ) (at i n : ℕ) → gapAt ok src at ≡ GapTo i n → spacesAt ok src at ≡ To i n
+pub gap-spaces : (kind : ℕ) (ok : Bool) (src : List ℕ) (at i n : ℕ) → gapAt kind ok src at ≡ GapTo i n → spacesAt kind ok src at ≡ To i n
 unfolding gapAt gapOf
-gap-spaces ok src at i n = go (spacesAt ok src at)
+gap-spaces kind ok src at i n = go (spacesAt kind ok src at)
   where
     go : (r : Spaced) → gapOf r ≡ GapTo i n → r ≡ To i n
     go (To j m) e = cc
@@ -115,9 +115,9 @@ colon-single s from to n p h = go (singleAt s from) refl
 
 module _ (src : List ℕ) (t : Text src) where
   -- a text to a single colon, behind spacing that began where a code point may
-  pub colon-region : (ok : Bool) (behind from lines to n : ℕ) (p : Place) → behind ≤ length src → Text (take behind src) → gapAt ok src behind ≡ GapTo from lines → colonTextAt src from ≡ Upto to n p → ColonTrimmed src ok behind (p .from) (p .to)
-  colon-region ok behind from lines to n p h b g e =
-      let x = told (Gapped src behind) g (gapped ok src behind h) in
+  pub colon-region : (kind : ℕ) (ok : Bool) (behind from lines to n : ℕ) (p : Place) → behind ≤ length src → Text (take behind src) → gapAt kind ok src behind ≡ GapTo from lines → colonTextAt src from ≡ Upto to n p → ColonTrimmed kind src ok behind (p .from) (p .to)
+  colon-region kind ok behind from lines to n p h b g e =
+      let x = told (Gapped src behind) g (gapped kind ok src behind h) in
       let c = told (ColonTexts src from) e (colon-placed src from (x .1) (colonTextAt src from) refl .1) in
       let begins = edge-boundary src t behind from b (x .1) (x .2) in
       let u = c .0 in
@@ -127,15 +127,15 @@ module _ (src : List ℕ) (t : Text src) where
         from = from;
         to = to;
         lines = lines;
-        spacing = gap-spaces ok src behind from lines g;
+        spacing = gap-spaces kind ok src behind from lines g;
         colon = colon-single src from to n p (x .1) e;
         part = record { onward = omega arith; inside = omega arith; begins = begins; ends = begins-boundary src t to l (inl (omega arith)) };
         trimmed = colon-trimmed src t from to n p (x .1) begins e;
       }
 
   -- the same behind a word that was looked ahead for, whose last byte is ASCII
-  pub word-region : (word : List ℕ) (ok : Bool) (at from lines to n : ℕ) (p : Place) → startsAt word src at ≡ true → 0 < length word → getD word (length word - 1) 0 < 128 → gapAt ok src (at + length word) ≡ GapTo from lines → colonTextAt src from ≡ Upto to n p → ColonTrimmed src ok (at + length word) (p .from) (p .to)
-  word-region word ok at from lines to n p s l a g e = colon-region ok (at + length word) from lines to n p (starts-fits word src at s l) (starts-boundary src t word at s l a) g e
+  pub word-region : (kind : ℕ) (word : List ℕ) (ok : Bool) (at from lines to n : ℕ) (p : Place) → startsAt word src at ≡ true → 0 < length word → getD word (length word - 1) 0 < 128 → gapAt kind ok src (at + length word) ≡ GapTo from lines → colonTextAt src from ≡ Upto to n p → ColonTrimmed kind src ok (at + length word) (p .from) (p .to)
+  word-region kind word ok at from lines to n p s l a g e = colon-region kind ok (at + length word) from lines to n p (starts-fits word src at s l) (starts-boundary src t word at s l a) g e
 
   -- an action
   pub action-region : (at end n : ℕ) (p q : Place) → at < length src → getD src at 0 ≡ 123 → actionAt src at ≡ Body end n p q → ActionMade src at (p .from) (p .to) (q .from) (q .to)

@@ -54,20 +54,22 @@ pub low-other : (k : ℕ) → k < rules → Other k
 low-other k h = record { no-rules = λ e. omega arith; no-productions = λ e. omega arith; no-symbols = λ e. omega arith }
 
 -- the type of a rule whose name ends at `end`, in kind 2
-abbrev pub TypeGiven : List ℕ → ℕ → Part → Type 0
-TypeGiven src end Absent = ⊥
-TypeGiven src end (At a b) = Arrowed src end a b
+abbrev pub TypeGiven : ℕ → List ℕ → ℕ → Part → Type 0
+TypeGiven kind src end Absent = ⊥
+TypeGiven kind src end (At a b) = Arrowed kind src end a b
 
 module _ (src : List ℕ) (kind : ℕ) (s : State) (t7 t8 t9 : List ℕ) (x : MadeAt src kind s t7 t8 t9) where
   -- another count,
   pub count-made : (k m : ℕ) → Other k → MadeAt src kind (withCount s k m) t7 t8 t9
-  count-made k m o =
-      record {
-        rules = λ q. rw (getD-set-other (s .counts .n) k rules m 0 (o .no-rules)) (x .rules q);
-        productions = rw (getD-set-other (s .counts .n) k productions m 0 (o .no-productions)) (x .productions);
-        symbols = rw (getD-set-other (s .counts .n) k symbols m 0 (o .no-symbols)) (x .symbols);
-        param = x .param;
-      }
+  count-made k m o = (
+    record {
+      rules = λ q. rw (getD-set-other (s .counts .n) k rules m 0 (o .no-rules)) (x .0 .rules q);
+      productions = rw (getD-set-other (s .counts .n) k productions m 0 (o .no-productions)) (x .0 .productions);
+      symbols = rw (getD-set-other (s .counts .n) k symbols m 0 (o .no-symbols)) (x .0 .symbols);
+      param = x .0 .param;
+    },
+    x .1,
+  )
 
   -- a row more of another table,
   pub push-other : (k : ℕ) (row t : List ℕ) → Other k → MadeAt src kind (pushRow s k row t .state) t7 t8 t9
@@ -104,7 +106,7 @@ module _ (src : List ℕ) (kind : ℕ) (s : State) (t7 t8 t9 : List ℕ) (x : Ma
   -- spacing,
   pub pass-made : (line : Bool) (j : ℕ) (a : Answer) → MadeAt src kind (passOn src line j a s .state) t7 t8 t9
   unfolding pastGap
-  pass-made line j Going = go (gapAt true src j)
+  pass-made line j Going = go (gapAt (s .kind) true src j)
     where
       go : (g : Gap) → MadeAt src kind (past line g s .state) t7 t8 t9
       go (GapTo i n) = x
@@ -117,13 +119,15 @@ module _ (src : List ℕ) (kind : ℕ) (s : State) (t7 t8 t9 : List ℕ) (x : Ma
   unfolding pushRow
   symbol-made row wide p =
       add-cases (λ (o : Added). let z = pushed (o .ok) s symbols row (o .cells) in MadeAt src kind (z .state) t7 t8 (z .a)) (count s symbols) row t9
-      (λ room low.
-      record {
-        rules = λ q. rw (getD-set-other (s .counts .n) symbols rules (count s symbols + 1) 0 (λ e. omega arith)) (x .rules q);
-        productions = rw (getD-set-other (s .counts .n) symbols productions (count s symbols + 1) 0 (λ e. omega arith)) (x .productions);
-        symbols = rw wide (each-add (SymbolMade src) (width symbols) (count s symbols) _ row t9 wide (rw wide at room) (set-most (s .counts .n) symbols (count s symbols + 1)) p (x .symbols));
-        param = x .param;
-      })
+      (λ room low. (
+        record {
+          rules = λ q. rw (getD-set-other (s .counts .n) symbols rules (count s symbols + 1) 0 (λ e. omega arith)) (x .0 .rules q);
+          productions = rw (getD-set-other (s .counts .n) symbols productions (count s symbols + 1) 0 (λ e. omega arith)) (x .0 .productions);
+          symbols = rw wide (each-add (SymbolMade src) (width symbols) (count s symbols) _ row t9 wide (rw wide at room) (set-most (s .counts .n) symbols (count s symbols + 1)) p (x .0 .symbols));
+          param = x .0 .param;
+        },
+        x .1,
+      ))
       (λ full. x)
 
   -- a production's row,
@@ -131,33 +135,37 @@ module _ (src : List ℕ) (kind : ℕ) (s : State) (t7 t8 t9 : List ℕ) (x : Ma
   unfolding pushRow
   production-made row wide p =
       add-cases (λ (o : Added). let z = pushed (o .ok) s productions row (o .cells) in MadeAt src kind (z .state) t7 (z .a) t9) (count s productions) row t8
-      (λ room low.
-      record {
-        rules = λ q. rw (getD-set-other (s .counts .n) productions rules (count s productions + 1) 0 (λ e. omega arith)) (x .rules q);
-        productions = rw wide (each-add (ProductionMade src) (width productions) (count s productions) _ row t8 wide (rw wide at room) (set-most (s .counts .n) productions (count s productions + 1)) p (x .productions));
-        symbols = rw (getD-set-other (s .counts .n) productions symbols (count s productions + 1) 0 (λ e. omega arith)) (x .symbols);
-        param = x .param;
-      })
+      (λ room low. (
+        record {
+          rules = λ q. rw (getD-set-other (s .counts .n) productions rules (count s productions + 1) 0 (λ e. omega arith)) (x .0 .rules q);
+          productions = rw wide (each-add (ProductionMade src) (width productions) (count s productions) _ row t8 wide (rw wide at room) (set-most (s .counts .n) productions (count s productions + 1)) p (x .0 .productions));
+          symbols = rw (getD-set-other (s .counts .n) productions symbols (count s productions + 1) 0 (λ e. omega arith)) (x .0 .symbols);
+          param = x .0 .param;
+        },
+        x .1,
+      ))
       (λ full. x)
 
   -- and a rule's row, with its type in kind 2.
-  pub rule-made : (from to : ℕ) (given : Part) → (kind ≡ 2 → TypeGiven src to given) → let o = pushRow s rules (ruleCells from to given) t7 in MadeAt src kind (o .state) (o .a) t8 t9
+  pub rule-made : (from to : ℕ) (given : Part) → (kind ≡ 2 → TypeGiven kind src to given) → let o = pushRow s rules (ruleCells from to given) t7 in MadeAt src kind (o .state) (o .a) t8 t9
   unfolding pushRow
   rule-made from to given h =
       add-cases (λ (o : Added). let z = pushed (o .ok) s rules row (o .cells) in MadeAt src kind (z .state) (z .a) t8 t9) (count s rules) row t7
-      (λ room low.
-      record {
-        rules = λ q. typed given (h q) room (x .rules q);
-        productions = rw (getD-set-other (s .counts .n) rules productions (count s rules + 1) 0 (λ e. omega arith)) (x .productions);
-        symbols = rw (getD-set-other (s .counts .n) rules symbols (count s rules + 1) 0 (λ e. omega arith)) (x .symbols);
-        param = x .param;
-      })
+      (λ room low. (
+        record {
+          rules = λ q. typed given (h q) room (x .0 .rules q);
+          productions = rw (getD-set-other (s .counts .n) rules productions (count s rules + 1) 0 (λ e. omega arith)) (x .0 .productions);
+          symbols = rw (getD-set-other (s .counts .n) rules symbols (count s rules + 1) 0 (λ e. omega arith)) (x .0 .symbols);
+          param = x .0 .param;
+        },
+        x .1,
+      ))
       (λ full. x)
     where
       row : List ℕ
       row = ruleCells from to given
 
-      typed : (g : Part) → TypeGiven src to g → let r = ruleCells from to g in count s rules * length r + length r ≤ length t7 → EachRow (TypeMade src) (width rules) (count s rules) t7 → EachRow (TypeMade src) (width rules) (getD (set (s .counts .n) rules (count s rules + 1)) rules 0) (put t7 (count s rules * length r) r)
+      typed : (g : Part) → TypeGiven kind src to g → let r = ruleCells from to g in count s rules * length r + length r ≤ length t7 → EachRow (TypeMade kind src) (width rules) (count s rules) t7 → EachRow (TypeMade kind src) (width rules) (getD (set (s .counts .n) rules (count s rules + 1)) rules 0) (put t7 (count s rules * length r) r)
       typed Absent y room z = absurd y
       typed (At a b) y room z =
-          each-add (TypeMade src) (width rules) (count s rules) _ (ruleCells from to (At a b)) t7 refl room (set-most (s .counts .n) rules (count s rules + 1)) (record { given = refl; arrowed = y }) z
+          each-add (TypeMade kind src) (width rules) (count s rules) _ (ruleCells from to (At a b)) t7 refl room (set-most (s .counts .n) rules (count s rules + 1)) (record { given = refl; arrowed = y }) z

@@ -1,6 +1,6 @@
 -- The rules section keeps what is known of a reading's rows, whatever its answer. Assumes nothing.
 use Prim.Native.Nat.{ℕ, suc, _+_}
-use mathlib.Core.Path.{_≡_, refl}
+use mathlib.Core.Path.{_≡_, refl, _∙_}
 use mathlib.Core.List.{List, [], _∷_}
 use mathlib.Core.Bool.{Bool, true, false}
 use native.Mathlib.Omega.{arith}
@@ -8,7 +8,7 @@ use lib.Dec.{leb, eqb}
 use lib.ListN.{length}
 use borrow.Author.Tests.{eqb-false}
 use Rattle.scan.specs.Scan.{startsAt}
-use Rattle.scan.proofs.Bytes.{on-test}
+use Rattle.scan.proofs.Bytes.{on-test, told}
 use Rattle.scan.proofs.Loop.{Either, turns-keep}
 use Rattle.whole.specs.Encode.{Text}
 use Rattle.words.specs.declared.Name.{Name}
@@ -43,34 +43,34 @@ use Rattle.meaning.proofs.Items.{items-made}
 
 module _ (src : List ℕ) (t : Text src) where
   -- The type that stands behind a rule's name in kind 2.
-  abbrev Typed : ℕ → Typing → Type 0
-  Typed end o = o .answer ≡ Going → TypeGiven src end (o .given)
+  abbrev Typed : ℕ → ℕ → Typing → Type 0
+  Typed kind end o = o .answer ≡ Going → TypeGiven kind src end (o .given)
 
-  arrow-typed : (s : State) → Typed (s .at) (arrowType src s)
+  arrow-typed : (s : State) → Typed (s .kind) (s .at) (arrowType src s)
   unfolding arrowType passMark pastGap colonType
-  arrow-typed s = go (gapAt true src (s .at)) refl
+  arrow-typed s = go (gapAt (s .kind) true src (s .at)) refl
     where
-      text : (i n k m : ℕ) → gapAt true src (s .at) ≡ GapTo i n → startsAt arrowWord src i ≡ true → gapAt true src (i + 2) ≡ GapTo k m → (c : ColonText) → colonTextAt src k ≡ c → Typed (s .at) (colonGiven c (withAt s k))
-      text i n k m g a h (Upto to l p) e = λ q. record { at = i; lines = n; spacing = gap-spaces true src (s .at) i n g; arrow = a; type = word-region src t arrowWord true i k m to l p a (omega arith) (omega arith) h e }
+      text : (i n k m : ℕ) → gapAt (s .kind) true src (s .at) ≡ GapTo i n → startsAt arrowWord src i ≡ true → gapAt (s .kind) true src (i + 2) ≡ GapTo k m → (c : ColonText) → colonTextAt src k ≡ c → Typed (s .kind) (s .at) (colonGiven c (withAt s k))
+      text i n k m g a h (Upto to l p) e = λ q. record { at = i; lines = n; spacing = gap-spaces (s .kind) true src (s .at) i n g; arrow = a; type = word-region src t (s .kind) arrowWord true i k m to l p a (omega arith) (omega arith) h e }
       text i n k m g a h (NoColon j) e = λ q. absurd (refused-going _ q)
 
-      behind : (i n : ℕ) → gapAt true src (s .at) ≡ GapTo i n → startsAt arrowWord src i ≡ true → (h : Gap) → gapAt true src (i + 2) ≡ h → Typed (s .at) (arrowOut src (past false h s))
+      behind : (i n : ℕ) → gapAt (s .kind) true src (s .at) ≡ GapTo i n → startsAt arrowWord src i ≡ true → (h : Gap) → gapAt (s .kind) true src (i + 2) ≡ h → Typed (s .kind) (s .at) (arrowOut src (past false h s))
       behind i n g a (GapTo k m) h = text i n k m g a h (colonTextAt src k) refl
       behind i n g a (GapRefused f) h = λ q. absurd (refused-going f q)
 
-      go : (g : Gap) → gapAt true src (s .at) ≡ g → Typed (s .at) (arrowOut src (markGap g src s arrowWord MissingRightArrow))
-      go (GapTo i n) g = on-test (λ (o : Out0). Typed (s .at) (arrowOut src o)) (startsAt arrowWord src i) _ _ (λ a. behind i n g a (gapAt true src (i + 2)) refl) (λ a q. absurd (refused-going _ q))
+      go : (g : Gap) → gapAt (s .kind) true src (s .at) ≡ g → Typed (s .kind) (s .at) (arrowOut src (markGap g src s arrowWord MissingRightArrow))
+      go (GapTo i n) g = on-test (λ (o : Out0). Typed (s .kind) (s .at) (arrowOut src o)) (startsAt arrowWord src i) _ _ (λ a. behind i n g a (gapAt (s .kind) true src (i + 2)) refl) (λ a q. absurd (refused-going _ q))
       go (GapRefused f) g = λ q. absurd (refused-going f q)
 
-  type-typed : (kind : ℕ) (s : State) → kind ≡ 2 → Typed (s .at) (ruleType src kind s)
+  type-typed : (s : State) → s .kind ≡ 2 → Typed (s .kind) (s .at) (ruleType src s)
   unfolding ruleType
-  type-typed kind s k = on-test (Typed (s .at)) (eqb kind 2) _ _ (λ e. arrow-typed s) (λ e q. absurd (eqb-false kind 2 e k))
+  type-typed s k = on-test (Typed (s .kind) (s .at)) (eqb (s .kind) 2) _ _ (λ e. arrow-typed s) (λ e q. absurd (eqb-false (s .kind) 2 e k))
 
   module _ (kind : ℕ) where
     -- spacing, a mark, and spacing again
     mark-made : (s : State) (t7 t8 t9 : List ℕ) → MadeAt src kind s t7 t8 t9 → (word : List ℕ) (cause : Cause) → MadeAt src kind (passMark src s word cause .state) t7 t8 t9
     unfolding passMark
-    mark-made s t7 t8 t9 x word cause = go (gapAt true src (s .at))
+    mark-made s t7 t8 t9 x word cause = go (gapAt (s .kind) true src (s .at))
       where
         go : (g : Gap) → MadeAt src kind (markGap g src s word cause .state) t7 t8 t9
         go (GapTo i n) = on-test (λ (o : Out0). MadeAt src kind (o .state) t7 t8 t9) (startsAt word src i) _ _ (λ e. pass-made src kind s t7 t8 t9 x false (i + length word) Going) (λ e. x)
@@ -86,10 +86,10 @@ module _ (src : List ℕ) (t : Text src) where
         go (At a b) = x
 
     -- the type of a rule
-    type-made : (s : State) (t7 t8 t9 : List ℕ) → MadeAt src kind s t7 t8 t9 → MadeAt src kind (ruleType src kind s .state) t7 t8 t9
+    type-made : (s : State) (t7 t8 t9 : List ℕ) → MadeAt src kind s t7 t8 t9 → MadeAt src kind (ruleType src s .state) t7 t8 t9
     unfolding ruleType arrowType colonType
     type-made s t7 t8 t9 x =
-        on-test (λ (o : Typing). MadeAt src kind (o .state) t7 t8 t9) (eqb kind 2) _ _
+        on-test (λ (o : Typing). MadeAt src kind (o .state) t7 t8 t9) (eqb (s .kind) 2) _ _
         (λ e. let o = passMark src s arrowWord MissingRightArrow in go (o .answer) (o .state) (mark-made s t7 t8 t9 x arrowWord MissingRightArrow))
         (λ e. x)
       where
@@ -103,7 +103,7 @@ module _ (src : List ℕ) (t : Text src) where
         go (Refused f) u y = y
 
     -- a rule's row
-    entered-made : (s : State) (t7 t8 t9 : List ℕ) → MadeAt src kind s t7 t8 t9 → (from to : ℕ) (given : Part) → (kind ≡ 2 → TypeGiven src to given) → let h = enterRule src s from to given t7 in MadeAt src kind (h .state) (h .t7) t8 t9
+    entered-made : (s : State) (t7 t8 t9 : List ℕ) → MadeAt src kind s t7 t8 t9 → (from to : ℕ) (given : Part) → (kind ≡ 2 → TypeGiven kind src to given) → let h = enterRule src s from to given t7 in MadeAt src kind (h .state) (h .t7) t8 t9
     unfolding enterRule
     entered-made s t7 t8 t9 x from to given y = go (findName src (width rules) 0 (count s rules) t7 from to)
       where
@@ -112,20 +112,21 @@ module _ (src : List ℕ) (t : Text src) where
         go NoRow = rule-made src kind s t7 t8 t9 x from to given y
 
     -- the head of a rule,
-    head-made : (s : State) (t7 t8 t9 : List ℕ) → MadeAt src kind s t7 t8 t9 → let h = ruleHead src kind s t7 in MadeAt src kind (h .state) (h .t7) t8 t9
+    head-made : (s : State) (t7 t8 t9 : List ℕ) → MadeAt src kind s t7 t8 t9 → let h = ruleHead src s t7 in MadeAt src kind (h .state) (h .t7) t8 t9
     unfolding ruleHead namedHead
     head-made s t7 t8 t9 x = name (nameAt src (s .at))
       where
-        go : (j : ℕ) (a : Answer) (o : Typing) → o .answer ≡ a → MadeAt src kind (o .state) t7 t8 t9 → (kind ≡ 2 → Typed j o) → let h = typedHead a src (o .state) (o .given) (s .at) j t7 in MadeAt src kind (h .state) (h .t7) t8 t9
+        go : (j : ℕ) (a : Answer) (o : Typing) → o .answer ≡ a → MadeAt src kind (o .state) t7 t8 t9 → (kind ≡ 2 → Typed kind j o) → let h = typedHead a src (o .state) (o .given) (s .at) j t7 in MadeAt src kind (h .state) (h .t7) t8 t9
         go j Going o e y z = entered-made (o .state) t7 t8 t9 y (s .at) j (o .given) (λ k. z k e)
         go j Done o e y z = y
         go j (Refused f) o e y z = y
 
-        name : (n : Name) → let h = headFound n src kind s t7 in MadeAt src kind (h .state) (h .t7) t8 t9
+        name : (n : Name) → let h = headFound n src s t7 in MadeAt src kind (h .state) (h .t7) t8 t9
         name (NameTo j) =
             let v = withAt (firstStart s (s .at) j) j in
-            let o = ruleType src kind v in
-            go j (o .answer) o refl (type-made v t7 t8 t9 (start-made s t7 t8 t9 x (s .at) j)) (type-typed kind v)
+            let o = ruleType src v in
+            let y = start-made s t7 t8 t9 x (s .at) j in
+            go j (o .answer) o refl (type-made v t7 t8 t9 y) (λ k. told (λ (q : ℕ). Typed q j o) (y .1) (type-typed v (y .1 ∙ k)))
         name (NoName k) = x
 
     -- its body,
@@ -143,9 +144,9 @@ module _ (src : List ℕ) (t : Text src) where
 
     module _ (s : State) (t1 t7 t8 t9 : List ℕ) (x : MadeAt src kind s t7 t8 t9) where
       -- both,
-      step-made : MadeIn (ruleStep src kind s t1 t7 t8 t9)
+      step-made : MadeIn (ruleStep src s t1 t7 t8 t9)
       unfolding ruleStep
-      step-made = let h = ruleHead src kind s t7 in go (h .answer) h (head-made s t7 t8 t9 x)
+      step-made = let h = ruleHead src s t7 in go (h .answer) h (head-made s t7 t8 t9 x)
         where
           go : (a : Answer) (h : Heading) → MadeAt src kind (h .state) (h .t7) t8 t9 → MadeIn (ruleHeaded a src h t1 t8 t9)
           go Going h y = body-made (h .state) (h .t7) t8 t9 y (h .row) t1
@@ -153,33 +154,33 @@ module _ (src : List ℕ) (t : Text src) where
           go (Refused f) h y = y
 
       -- and the spacing behind it
-      next-made : MadeIn (nextRule src kind s t1 t7 t8 t9)
+      next-made : MadeIn (nextRule src s t1 t7 t8 t9)
       unfolding nextRule
-      next-made = let o = ruleStep src kind s t1 t7 t8 t9 in pass-made src kind (o .state) (o .t7) (o .t8) (o .t9) step-made false (o .state .at) (o .answer)
+      next-made = let o = ruleStep src s t1 t7 t8 t9 in pass-made src kind (o .state) (o .t7) (o .t8) (o .t9) step-made false (o .state .at) (o .answer)
 
-    turn-made : (o : Ruled) → MadeIn o → Either MadeIn MadeIn (rulesTurn src kind o)
+    turn-made : (o : Ruled) → MadeIn o → Either MadeIn MadeIn (rulesTurn src o)
     unfolding rulesTurn
     turn-made o x = go (leb (length src) (o .state .at)) (startsAt percents src (o .state .at))
       where
-        go : (b c : Bool) → Either MadeIn MadeIn (ruleOrEnd b c o (nextRule src kind (o .state) (o .t1) (o .t7) (o .t8) (o .t9)))
+        go : (b c : Bool) → Either MadeIn MadeIn (ruleOrEnd b c o (nextRule src (o .state) (o .t1) (o .t7) (o .t8) (o .t9)))
         go true c = x
         go false true = x
-        go false false = let p = nextRule src kind (o .state) (o .t1) (o .t7) (o .t8) (o .t9) in onward-keep MadeIn (p .answer) p (next-made (o .state) (o .t1) (o .t7) (o .t8) (o .t9) x)
+        go false false = let p = nextRule src (o .state) (o .t1) (o .t7) (o .t8) (o .t9) in onward-keep MadeIn (p .answer) p (next-made (o .state) (o .t1) (o .t7) (o .t8) (o .t9) x)
 
     -- The rules section.
-    pub rules-made : (s : State) (t1 t7 t8 t9 : List ℕ) → MadeAt src kind s t7 t8 t9 → MadeIn (rulesAll src kind s t1 t7 t8 t9)
+    pub rules-made : (s : State) (t1 t7 t8 t9 : List ℕ) → MadeAt src kind s t7 t8 t9 → MadeIn (rulesAll src s t1 t7 t8 t9)
     unfolding rulesAll rulesRun
     rules-made s t1 t7 t8 t9 x = let o = passMark src s percents UnknownDeclaration in go (o .answer) (o .state) (mark-made s t7 t8 t9 x percents UnknownDeclaration)
       where
-        go : (a : Answer) (u : State) → MadeAt src kind u t7 t8 t9 → MadeIn (rulesPassed a src kind u t1 t7 t8 t9)
-        go Going u y = turns-keep MadeIn (rulesTurn src kind) turn-made (suc (length src)) _ y
+        go : (a : Answer) (u : State) → MadeAt src kind u t7 t8 t9 → MadeIn (rulesPassed a src u t1 t7 t8 t9)
+        go Going u y = turns-keep MadeIn (rulesTurn src) turn-made (suc (length src)) _ y
         go Done u y = y
         go (Refused f) u y = y
 
     -- The programs.
     pub programs-made : (s : State) (t7 t8 t9 : List ℕ) → MadeAt src kind s t7 t8 t9 → MadeAt src kind (programsFrom src s .state) t7 t8 t9
     unfolding programsFrom
-    programs-made s t7 t8 t9 x = on-test (λ (o : Out0). MadeAt src kind (o .state) t7 t8 t9) (startsAt percents src (s .at)) _ _ (λ e. go (gapAt true src (s .at + 2))) (λ e. x)
+    programs-made s t7 t8 t9 x = on-test (λ (o : Out0). MadeAt src kind (o .state) t7 t8 t9) (startsAt percents src (s .at)) _ _ (λ e. go (gapAt (s .kind) true src (s .at + 2))) (λ e. x)
       where
         go : (g : Gap) → MadeAt src kind (programsGap g src s .state) t7 t8 t9
         go (GapTo i n) = x

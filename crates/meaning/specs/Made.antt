@@ -29,29 +29,29 @@ pub record ProductionMade (src x : List ℕ) : Type 0 where
   pub acted : getD x action 0 ≡ 1 → ActionMade src (getD x (place + 1) 0) (getD x (action + 1) 0) (getD x (action + 2) 0) (getD x (action + 3) 0) (getD x (action + 4) 0)
 
 -- "7 rules (name, action type or none)", of kind 2: there is a type, and it stands behind the name
-pub record TypeMade (src x : List ℕ) : Type 0 where
+pub record TypeMade (kind : ℕ) (src x : List ℕ) : Type 0 where
   pub given : getD x typed 0 ≡ 1
-  pub arrowed : Arrowed src (getD x 1 0) (getD x (typed + 1) 0) (getD x (typed + 2) 0)
+  pub arrowed : Arrowed kind src (getD x 1 0) (getD x (typed + 1) 0) (getD x (typed + 2) 0)
 
 -- what holds of each of n rows of width w
 abbrev pub EachRow : (List ℕ → Type 0) → ℕ → ℕ → List ℕ → Type 0
 EachRow P w n t = (r : ℕ) → r < n → P (rowAt w t r)
 
 -- the parse parameter's name, if it is given
-abbrev pub ParamFrom : List ℕ → Param → Type 0
-ParamFrom src NoParam = Unit {0}
-ParamFrom src (ParamAt a b c d) = ParamMade src a b
+abbrev pub ParamFrom : ℕ → List ℕ → Param → Type 0
+ParamFrom kind src NoParam = Unit {0}
+ParamFrom kind src (ParamAt a b c d) = ParamMade kind src a b
 
 -- All of it, of the counts, the parse parameter and the tables 7, 8 and 9 of a reading.
 pub record Made (src : List ℕ) (kind : ℕ) (c : Counts) (p : Param) (t7 t8 t9 : List ℕ) : Type 0 where
-  pub rules : kind ≡ 2 → EachRow (TypeMade src) (width rules) (getD (c .n) rules 0) t7
+  pub rules : kind ≡ 2 → EachRow (TypeMade kind src) (width rules) (getD (c .n) rules 0) t7
   pub productions : EachRow (ProductionMade src) (width productions) (getD (c .n) productions 0) t8
   pub symbols : EachRow (SymbolMade src) (width symbols) (getD (c .n) symbols 0) t9
-  pub param : ParamFrom src p
+  pub param : ParamFrom kind src p
 
--- the same of a reading under way
+-- the same of a reading under way, which is one of the kind
 abbrev pub MadeAt : List ℕ → ℕ → State → List ℕ → List ℕ → List ℕ → Type 0
-MadeAt src kind s t7 t8 t9 = Made src kind (s .counts) (s .singles .param) t7 t8 t9
+MadeAt src kind s t7 t8 t9 = Made src kind (s .counts) (s .singles .param) t7 t8 t9 × (s .kind ≡ kind)
 
 -- and of what a read left
 abbrev pub MadeOf : List ℕ → ℕ → Result → Type 0

@@ -32,12 +32,12 @@ pub record SingleColon (s : List ℕ) (from to : ℕ) : Type 0 where
   pub alone : getD s (to + 1) 0 ≡ 58 → ⊥
 
 -- "a trimmed text to a single colon": the region runs from where the spacing at `behind` ends to the colon, and a..b is what trimming leaves of it;
--- `ok` says whether line ends are allowed in that spacing
-pub record ColonTrimmed (src : List ℕ) (ok : Bool) (behind a b : ℕ) : Type 0 where
+-- it is spacing of the kind, and `ok` says whether line ends are allowed in it
+pub record ColonTrimmed (kind : ℕ) (src : List ℕ) (ok : Bool) (behind a b : ℕ) : Type 0 where
   pub from : ℕ
   pub to : ℕ
   pub lines : ℕ
-  pub spacing : spacesAt ok src behind ≡ To from lines
+  pub spacing : spacesAt kind ok src behind ≡ To from lines
   pub colon : SingleColon src from to
   pub part : TextPart src from to
   pub trimmed : Trimmed src from to (record { from = a; to = b })
@@ -47,22 +47,22 @@ abbrev pub paramWord : List ℕ
 paramWord = 37 ∷ 112 ∷ 97 ∷ 114 ∷ 115 ∷ 101 ∷ 45 ∷ 112 ∷ 97 ∷ 114 ∷ 97 ∷ 109 ∷ []
 
 -- "`%parse-param` is a trimmed text to a single colon"; "Line ends are not allowed directly behind a declaration keyword"
-pub record ParamMade (src : List ℕ) (a b : ℕ) : Type 0 where
+pub record ParamMade (kind : ℕ) (src : List ℕ) (a b : ℕ) : Type 0 where
   pub at : ℕ
   pub keyword : startsAt paramWord src at ≡ true
-  pub name : ColonTrimmed src false (at + length paramWord) a b
+  pub name : ColonTrimmed kind src false (at + length paramWord) a b
 
 -- `->`
 abbrev pub arrowWord : List ℕ
 arrowWord = 45 ∷ 62 ∷ []
 
 -- "In kind 2 the name is followed by `->` and a type up to a single colon": the name ends at `end`, and the type is a..b
-pub record Arrowed (src : List ℕ) (end a b : ℕ) : Type 0 where
+pub record Arrowed (kind : ℕ) (src : List ℕ) (end a b : ℕ) : Type 0 where
   pub at : ℕ
   pub lines : ℕ
-  pub spacing : spacesAt true src end ≡ To at lines
+  pub spacing : spacesAt kind true src end ≡ To at lines
   pub arrow : startsAt arrowWord src at ≡ true
-  pub type : ColonTrimmed src true (at + length arrowWord) a b
+  pub type : ColonTrimmed kind src true (at + length arrowWord) a b
 
 -- "its action is [..] the place of its trimmed text beside the crate's span": the region runs from behind the `{` at `at` to the brace that closes it, a..b is what
 -- trimming leaves of it, and c..d is the span, which "starts after `{` and has the trimmed length"

@@ -113,7 +113,7 @@ module _ {src : List ℕ} (s : State) (d : Production) {t8 t9 : List ℕ} (here 
   -- a quoted one,
   quoted-rows : (t1 : List ℕ) (from to end : ℕ) → s .at ≤ from → from < to → to ≤ end → end ≤ length src → let o = quotedRows src s d from to end t1 t9 in o .answer ≡ Going → Nested src (o .state) (o .draft) t8 (o .b)
   unfolding quotedRows tokenSymbol
-  quoted-rows t1 from to end a b c e = go (gapAt true src end) (gapped true src end e)
+  quoted-rows t1 from to end a b c e = go (gapAt (s .kind) true src end) (gapped (s .kind) true src end e)
     where
       entry : (i : ℕ) → end ≤ i → (r : Answer) (v : Out1) → TokensAlone (withAt s i) (v .state) → let o = symbolEntered r v from to t9 in o .answer ≡ Going → Nested src (o .state) (withTo d end) t8 (o .b)
       entry i h Going v z g =
@@ -166,7 +166,7 @@ module _ {src : List ℕ} (s : State) (d : Production) {t8 t9 : List ℕ} (here 
   action-nested h = go (actionAt src (s .at)) (action-placed src (s .at) h (actionAt src (s .at)) refl .1) (action-ended src (s .at) h)
     where
       go : (t : Action) → Acted src (s .at) t → ActionEnded t → Nests0 src t8 t9 (actionFound t src s d)
-      go (Body end n p q) y z = gap (gapAt true src end) (gapped true src end (y .1))
+      go (Body end n p q) y z = gap (gapAt (s .kind) true src end) (gapped (s .kind) true src end (y .1))
         where
           gap : (r : Gap) → Gapped src end r → Nests0 src t8 t9 (actionGap r src s (withAction (withTo d (s .at)) (p .from) (p .to) (q .from) (q .to)))
           gap (GapTo i n) w =
@@ -181,7 +181,7 @@ module _ {src : List ℕ} (s : State) (d : Production) {t8 t9 : List ℕ} (here 
   -- and `%empty`, behind its keyword
   empty-nested : (first : ℕ) → Nests0 src t8 t9 (emptyItem src s d first)
   unfolding emptyItem
-  empty-nested first = go (gapAt true src (s .at)) (gapped true src (s .at) here)
+  empty-nested first = go (gapAt (s .kind) true src (s .at)) (gapped (s .kind) true src (s .at) here)
     where
       go : (g : Gap) → Gapped src (s .at) g → Nests0 src t8 t9 (emptyGap g src s d first)
       go (GapTo k n) y =
@@ -194,7 +194,7 @@ module _ {src : List ℕ} (s : State) (d : Production) {t8 t9 : List ℕ} (here 
 -- `%prec`, behind its keyword
 prec-nested : {src : List ℕ} (s : State) (d : Production) {t8 t9 : List ℕ} → s .at ≤ length src → length (s .counts .n) ≡ 10 → Nested src s d t8 t9 → Actionless (d .action) → (t1 : List ℕ) → let o = precItem src s d t1 in o .answer ≡ Going → Nested src (o .state) (o .draft) t8 t9
 unfolding precItem
-prec-nested {src} s d {t8} {t9} here ten x free t1 = go (gapAt true src (s .at)) (gapped true src (s .at) here)
+prec-nested {src} s d {t8} {t9} here ten x free t1 = go (gapAt (s .kind) true src (s .at)) (gapped (s .kind) true src (s .at) here)
   where
     go : (g : Gap) → Gapped src (s .at) g → let o = precGap g src s d t1 in o .answer ≡ Going → Nested src (o .state) (o .draft) t8 t9
     go (GapTo i n) y = let b = y .0 in prec-name (withAt s i) d (y .1) ten (lying-on x free i (omega arith)) free t1
@@ -259,7 +259,7 @@ ending src at e =
 -- spacing behind a step that isn't done isn't
 pub pass-undone : (src : List ℕ) (j : ℕ) (s : State) (a : Answer) → (a ≡ Done → ⊥) → passOn src false j a s .answer ≡ Done → ⊥
 unfolding pastGap
-pass-undone src j s Going h = go (gapAt true src j)
+pass-undone src j s Going h = go (gapAt (s .kind) true src j)
   where
     go : (g : Gap) → past false g s .answer ≡ Done → ⊥
     go (GapTo i n) e = let z : _≡_ {A = ℕ} 0 1 = cc in omega arith

@@ -50,17 +50,17 @@ lain-nest s T x =
     }
 
 -- Declarations count no symbol and no production. They are sound so far beside any tables 8 and 9, so beside ones without room: nothing was counted.
-no-symbols : (src : List ℕ) (kind : ℕ) (T : Tables) → length src ≤ 65536 → count (declAll src kind fresh (declared (zeroAll T)) .state) symbols ≡ 0
+no-symbols : (src : List ℕ) (kind : ℕ) (T : Tables) → length src ≤ 65536 → count (declAll src (fresh kind) (declared (zeroAll T)) .state) symbols ≡ 0
 no-symbols src kind T h =
     let U = zeroAll (setTab T symbols []) in
-    let f = declarations-far src 0 kind fresh (declared U) U (fresh-far src (setTab T symbols []) h) in
+    let f = declarations-far src 0 (fresh kind) (declared U) U (fresh-far src kind (setTab T symbols []) h) in
     let l = f .tables symbols .fits in
     omega arith
 
-no-productions : (src : List ℕ) (kind : ℕ) (T : Tables) → length src ≤ 65536 → count (declAll src kind fresh (declared (zeroAll T)) .state) productions ≡ 0
+no-productions : (src : List ℕ) (kind : ℕ) (T : Tables) → length src ≤ 65536 → count (declAll src (fresh kind) (declared (zeroAll T)) .state) productions ≡ 0
 no-productions src kind T h =
     let U = zeroAll (setTab T productions []) in
-    let f = declarations-far src 0 kind fresh (declared U) U (fresh-far src (setTab T productions []) h) in
+    let f = declarations-far src 0 (fresh kind) (declared U) U (fresh-far src kind (setTab T productions []) h) in
     let l = f .tables productions .fits in
     omega arith
 
@@ -68,12 +68,12 @@ no-productions src kind T h =
 abbrev Rests : Answer → State → Tables → Type 0
 Rests a s T = LainUnless a s (T .t8) (T .t9)
 
-sections-nested : (src : List ℕ) (kind : ℕ) (T : Tables) → length src ≤ 65536 → let r = sectionsAll src kind fresh (zeroAll T) in Rests (r .answer) (r .state) (r .tables)
+sections-nested : (src : List ℕ) (kind : ℕ) (T : Tables) → length src ≤ 65536 → let r = sectionsAll src (fresh kind) (zeroAll T) in Rests (r .answer) (r .state) (r .tables)
 unfolding sectionsAll restAll
 sections-nested src kind T h =
     let U = zeroAll T in
-    let o = declAll src kind fresh (declared U) in
-    go (o .answer) o (declarations-far src 0 kind fresh (declared U) U (fresh-far src T h)) (no-symbols src kind T h) (no-productions src kind T h)
+    let o = declAll src (fresh kind) (declared U) in
+    go (o .answer) o (declarations-far src 0 (fresh kind) (declared U) U (fresh-far src kind T h)) (no-symbols src kind T h) (no-productions src kind T h)
   where
     rest : (a : Answer) (D : Tables) (r : Ruled) → r .answer ≡ a → WholeFar src D r → LainUnless (r .answer) (r .state) (r .t8) (r .t9) → let p = restFrom a src r in LainUnless (p .answer) (p .state) (p .t8) (p .t9)
     rest Going D r e x y =
@@ -87,12 +87,12 @@ sections-nested src kind T h =
     none : (s : State) → count s symbols ≡ 0 → count s productions ≡ 0 → Settled s (zeroAll T .t8) (zeroAll T .t9)
     none s n m = rw (n, m) (record { symbols = rows-zeroed _ (T .t9); productions = rows-zeroed _ (T .t8) })
 
-    go : (a : Answer) (o : Out) → FarAll src 0 (zeroAll T) o → count (o .state) symbols ≡ 0 → count (o .state) productions ≡ 0 → let r = sectionsFrom a src kind o (zeroAll T) in Rests (r .answer) (r .state) (r .tables)
+    go : (a : Answer) (o : Out) → FarAll src 0 (zeroAll T) o → count (o .state) symbols ≡ 0 → count (o .state) productions ≡ 0 → let r = sectionsFrom a src o (zeroAll T) in Rests (r .answer) (r .state) (r .tables)
     go Going o f n m = lies-refused _ (o .state) _ _
     go Done o f n m =
         let D = withDeclared (zeroAll T) (o .tables) in
-        let r = rulesAll src kind (o .state) (D .t1) (D .t7) (D .t8) (D .t9) in
-        rest (r .answer) D r refl (rules-far D f (sym n) kind) (rules-nested D f (sym n) kind (none (o .state) n m))
+        let r = rulesAll src (o .state) (D .t1) (D .t7) (D .t8) (D .t9) in
+        rest (r .answer) D r refl (rules-far D f (sym n)) (rules-nested D f (sym n) (none (o .state) n m))
     go (Refused r) o f n m = lies-refused r (o .state) _ _
 
 -- a source that can be read is not too long
@@ -148,5 +148,5 @@ unfolding readAll readNames attempted
 read-nests src kind T X = nest-filled _ _ _ _ (go (admitted src kind (sized T X)) (admits src kind (sized T X)))
   where
     go : (m : Admission) → Admits src m → let o = finishedRun (attemptOf m src kind (zeroAll T)) in Nest (o .counts) (o .tables)
-    go Fit h = let r = sectionsAll src kind fresh (zeroAll T) in finished-nested (r .answer) (r .state) (r .tables) (sections-nested src kind T h)
-    go (Unfit f) h = finished-nested (Refused f) fresh (zeroAll T) (lies-refused f fresh _ _)
+    go Fit h = let r = sectionsAll src (fresh kind) (zeroAll T) in finished-nested (r .answer) (r .state) (r .tables) (sections-nested src kind T h)
+    go (Unfit f) h = finished-nested (Refused f) (fresh kind) (zeroAll T) (lies-refused f (fresh kind) _ _)

@@ -51,7 +51,7 @@ start-stays s from to = go (s .singles .start)
     go (At a b) = refl
 
 -- a rule's head counts no production
-module _ {src : List ℕ} {done : ℕ} {s : State} {T : Tables} (f : Far src done s T) (kind : ℕ) where
+module _ {src : List ℕ} {done : ℕ} {s : State} {T : Tables} (f : Far src done s T) where
   rule-count : (u : State) (from to : ℕ) (given : Part) (t7 : List ℕ) → count (enterRule src u from to given t7 .state) productions ≡ count u productions
   unfolding enterRule
   rule-count u from to given t7 = go (findName src (width rules) 0 (count u rules) t7 from to)
@@ -60,9 +60,9 @@ module _ {src : List ℕ} {done : ℕ} {s : State} {T : Tables} (f : Far src don
       go (RowAt r) = refl
       go NoRow = push-apart u rules (ruleCells from to given) t7 .count productions (λ e. omega arith)
 
-  named-count : (j : ℕ) → s .at < j → j ≤ length src → count (namedHead src kind s j (T .t7) .state) productions ≡ count s productions
+  named-count : (j : ℕ) → s .at < j → j ≤ length src → count (namedHead src s j (T .t7) .state) productions ≡ count s productions
   unfolding namedHead
-  named-count j h k = go (ruleType src kind v .answer) (ruleType src kind v) (type-far w kind)
+  named-count j h k = go (ruleType src v .answer) (ruleType src v) (type-far w)
     where
       p : Passed src (s .at) j
       p = record { onward = omega arith; inside = k }
@@ -81,11 +81,11 @@ module _ {src : List ℕ} {done : ℕ} {s : State} {T : Tables} (f : Far src don
       go Done o x = same (o .state) (x .to .counts)
       go (Refused e) o x = same (o .state) (x .to .counts)
 
-  head-count : count (ruleHead src kind s (T .t7) .state) productions ≡ count s productions
+  head-count : count (ruleHead src s (T .t7) .state) productions ≡ count s productions
   unfolding ruleHead
   head-count = go (nameAt src (s .at)) (name-placed src (s .at) (nameAt src (s .at)) refl .1)
     where
-      go : (n : Name) → Named src (s .at) n → count (headFound n src kind s (T .t7) .state) productions ≡ count s productions
+      go : (n : Name) → Named src (s .at) n → count (headFound n src s (T .t7) .state) productions ≡ count s productions
       go (NameTo j) x = named-count j (x .0) (x .1)
       go (NoName k) x = refl
 
@@ -118,11 +118,11 @@ body-nested {src} {done} {s} T f e row h x = let o = passMark src s (58 ∷ []) 
 abbrev pub LiesIn : Ruled → Type 0
 LiesIn o = LainUnless (o .answer) (o .state) (o .t8) (o .t9)
 
-module _ {src : List ℕ} {done : ℕ} {s : State} (T : Tables) (f : Far src done s T) (e : done ≡ count s symbols) (kind : ℕ) (x : Settled s (T .t8) (T .t9)) where
+module _ {src : List ℕ} {done : ℕ} {s : State} (T : Tables) (f : Far src done s T) (e : done ≡ count s symbols) (x : Settled s (T .t8) (T .t9)) where
   -- a rule,
-  rule-nested : LiesIn (ruleStep src kind s (T .t1) (T .t7) (T .t8) (T .t9))
+  rule-nested : LiesIn (ruleStep src s (T .t1) (T .t7) (T .t8) (T .t9))
   unfolding ruleStep
-  rule-nested = let h = ruleHead src kind s (T .t7) in go (h .answer) h refl (head-far f kind) (head-count f kind)
+  rule-nested = let h = ruleHead src s (T .t7) in go (h .answer) h refl (head-far f) (head-count f)
     where
       go : (a : Answer) (h : Heading) → h .answer ≡ a → HeadFar src done T s (s .at + 1) h → count (h .state) productions ≡ count s productions → LiesIn (ruleHeaded a src h (T .t1) (T .t8) (T .t9))
       go Going h q y c =
@@ -132,13 +132,13 @@ module _ {src : List ℕ} {done : ℕ} {s : State} (T : Tables) (f : Far src don
       go (Refused r) h q y c = lies-refused r (h .state) (T .t8) (T .t9)
 
   -- and the spacing behind it
-  next-nested : LiesIn (nextRule src kind s (T .t1) (T .t7) (T .t8) (T .t9))
+  next-nested : LiesIn (nextRule src s (T .t1) (T .t7) (T .t8) (T .t9))
   unfolding nextRule
   next-nested =
-      let o = ruleStep src kind s (T .t1) (T .t7) (T .t8) (T .t9) in
+      let o = ruleStep src s (T .t1) (T .t7) (T .t8) (T .t9) in
       let j = o .state .at in
       let c = pass-counts src false j (o .answer) (o .state) in
-      let h = step-far T f e kind .read .far .here in
+      let h = step-far T f e .read .far .here in
       spaced (o .answer) (o .state) (pass-onward src j (o .state) (o .answer) h .forth (omega arith)) rule-nested
     where
       spaced : (a : Answer) (u : State) {t8 t9 : List ℕ} → (u .at ≤ passOn src false (u .at) a u .state .at) → LainUnless a u t8 t9 → LainUnless (passOn src false (u .at) a u .answer) (passOn src false (u .at) a u .state) t8 t9
@@ -153,9 +153,9 @@ record Both (src : List ℕ) (T : Tables) (o : Ruled) : Type 0 where
   far : Far src (count (o .state) symbols) (o .state) (ruled T o)
   settled : Settled (o .state) (o .t8) (o .t9)
 
-turn-nested : (src : List ℕ) (T : Tables) (kind : ℕ) (o : Ruled) → Both src T o → Either (λ (p : Ruled). Both src T p × (length src - p .state .at < length src - o .state .at)) LiesIn (rulesTurn src kind o)
+turn-nested : (src : List ℕ) (T : Tables) (o : Ruled) → Both src T o → Either (λ (p : Ruled). Both src T p × (length src - p .state .at < length src - o .state .at)) LiesIn (rulesTurn src o)
 unfolding rulesTurn
-turn-nested src T kind o z = go (leb (length src) (o .state .at)) (startsAt percents src (o .state .at))
+turn-nested src T o z = go (leb (length src) (o .state .at)) (startsAt percents src (o .state .at))
   where
     next : (a : Answer) (p : Ruled) → p .answer ≡ a → RuledFar src T (o .state .at) p → LiesIn p → Either (λ (p : Ruled). Both src T p × (length src - p .state .at < length src - o .state .at)) LiesIn (onward a p)
     next Going p q x y =
@@ -165,20 +165,20 @@ turn-nested src T kind o z = go (leb (length src) (o .state .at)) (startsAt perc
     next Done p q x y = y
     next (Refused r) p q x y = y
 
-    go : (b c : Bool) → Either (λ (p : Ruled). Both src T p × (length src - p .state .at < length src - o .state .at)) LiesIn (ruleOrEnd b c o (nextRule src kind (o .state) (o .t1) (o .t7) (o .t8) (o .t9)))
+    go : (b c : Bool) → Either (λ (p : Ruled). Both src T p × (length src - p .state .at < length src - o .state .at)) LiesIn (ruleOrEnd b c o (nextRule src (o .state) (o .t1) (o .t7) (o .t8) (o .t9)))
     go true c = record { going = λ g. z .settled; done = λ g. (o .state .at, z .settled) }
     go false true = record { going = λ g. z .settled; done = λ g. (o .state .at, z .settled) }
-    go false false = let p = nextRule src kind (o .state) (o .t1) (o .t7) (o .t8) (o .t9) in next (p .answer) p refl (next-far (ruled T o) (z .far) refl kind) (next-nested (ruled T o) (z .far) refl kind (z .settled))
+    go false false = let p = nextRule src (o .state) (o .t1) (o .t7) (o .t8) (o .t9) in next (p .answer) p refl (next-far (ruled T o) (z .far) refl) (next-nested (ruled T o) (z .far) refl (z .settled))
 
 -- The rules section.
-pub rules-nested : {src : List ℕ} {done : ℕ} {s : State} (T : Tables) → Far src done s T → done ≡ count s symbols → (kind : ℕ) → Settled s (T .t8) (T .t9) → LiesIn (rulesAll src kind s (T .t1) (T .t7) (T .t8) (T .t9))
+pub rules-nested : {src : List ℕ} {done : ℕ} {s : State} (T : Tables) → Far src done s T → done ≡ count s symbols → Settled s (T .t8) (T .t9) → LiesIn (rulesAll src s (T .t1) (T .t7) (T .t8) (T .t9))
 unfolding rulesAll rulesRun
-rules-nested {src} {done} {s} T f e kind x = let o = passMark src s percents UnknownDeclaration in go (o .answer) (o .state) (mark-far f percents UnknownDeclaration)
+rules-nested {src} {done} {s} T f e x = let o = passMark src s percents UnknownDeclaration in go (o .answer) (o .state) (mark-far f percents UnknownDeclaration)
   where
-    go : (a : Answer) (u : State) → Uncounted src done T s u → LiesIn (rulesPassed a src kind u (T .t1) (T .t7) (T .t8) (T .t9))
+    go : (a : Answer) (u : State) → Uncounted src done T s u → LiesIn (rulesPassed a src u (T .t1) (T .t7) (T .t8) (T .t9))
     go Going u y =
         let c = y .counts in
-        turns-end (Both src T) LiesIn (λ o. length src - o .state .at) (rulesTurn src kind) (turn-nested src T kind) (suc (length src)) _ (omega arith)
+        turns-end (Both src T) LiesIn (λ o. length src - o .state .at) (rulesTurn src) (turn-nested src T) (suc (length src)) _ (omega arith)
         (record { far = told (λ (n : ℕ). Far src n u T) (rw c e) (y .far); settled = settled-on s u (y .forth) (rw c) (rw c) x })
     go Done u y = let c = y .counts in lies-done s u (rw c) (rw c) x
     go (Refused r) u y = lies-refused r u (T .t8) (T .t9)

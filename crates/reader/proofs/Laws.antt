@@ -67,37 +67,37 @@ pub bad-byte : (src : List ℕ) (w : Checked) (i : ℕ) → length src ≤ 65536
 bad-byte src w i h x e = let k = told (Below (length src)) e x in omega arith
 
 -- rules, then programs
-module _ (src : List ℕ) (kind : ℕ) (s : State) (t1 t7 t8 t9 : List ℕ) (o : Ruled) (q : o ≡ rulesAll src kind s t1 t7 t8 t9) where
-  pub rest-going : (z : Out0) → o .answer ≡ Going → z ≡ programsFrom src (o .state) → ranProgram z o ≡ restAll src kind s t1 t7 t8 t9
+module _ (src : List ℕ) (s : State) (t1 t7 t8 t9 : List ℕ) (o : Ruled) (q : o ≡ rulesAll src s t1 t7 t8 t9) where
+  pub rest-going : (z : Out0) → o .answer ≡ Going → z ≡ programsFrom src (o .state) → ranProgram z o ≡ restAll src s t1 t7 t8 t9
   unfolding restAll
   rest-going z e h = rw (← q, e) (ap (λ (y : Out0). ranProgram y o) h)
 
-  pub rest-done : o .answer ≡ Done → ranProgram (record { answer = Done; state = o .state }) o ≡ restAll src kind s t1 t7 t8 t9
+  pub rest-done : o .answer ≡ Done → ranProgram (record { answer = Done; state = o .state }) o ≡ restAll src s t1 t7 t8 t9
   unfolding restAll
   rest-done e = rw (← q, e)
 
-  pub rest-refused : (f : Refusal) → o .answer ≡ Refused f → ranProgram (record { answer = Refused f; state = o .state }) o ≡ restAll src kind s t1 t7 t8 t9
+  pub rest-refused : (f : Refusal) → o .answer ≡ Refused f → ranProgram (record { answer = Refused f; state = o .state }) o ≡ restAll src s t1 t7 t8 t9
   unfolding restAll
   rest-refused f e = rw (← q, e)
 
 -- declarations, then the rest
-module _ (src : List ℕ) (kind : ℕ) (s : State) (T : Tables) (o : Out) (q : o ≡ declAll src kind s (declared T)) where
-  pub sections-going : o .answer ≡ Going → record { answer = Refused (Fault PrematureEnd (o .state .at)); state = o .state; tables = withDeclared T (o .tables) } ≡ sectionsAll src kind s T
+module _ (src : List ℕ) (s : State) (T : Tables) (o : Out) (q : o ≡ declAll src s (declared T)) where
+  pub sections-going : o .answer ≡ Going → record { answer = Refused (Fault PrematureEnd (o .state .at)); state = o .state; tables = withDeclared T (o .tables) } ≡ sectionsAll src s T
   unfolding sectionsAll
   sections-going e = rw (← q, e)
 
-  pub sections-done : (r : Ruled) → o .answer ≡ Done → r ≡ restAll src kind (o .state) (o .tables .t1) (T .t7) (T .t8) (T .t9) → withRuled (o .tables) r ≡ sectionsAll src kind s T
+  pub sections-done : (r : Ruled) → o .answer ≡ Done → r ≡ restAll src (o .state) (o .tables .t1) (T .t7) (T .t8) (T .t9) → withRuled (o .tables) r ≡ sectionsAll src s T
   unfolding sectionsAll
   sections-done r e h = rw (← q, e) (ap (withRuled (o .tables)) h)
 
-  pub sections-refused : (f : Refusal) → o .answer ≡ Refused f → record { answer = Refused f; state = o .state; tables = withDeclared T (o .tables) } ≡ sectionsAll src kind s T
+  pub sections-refused : (f : Refusal) → o .answer ≡ Refused f → record { answer = Refused f; state = o .state; tables = withDeclared T (o .tables) } ≡ sectionsAll src s T
   unfolding sectionsAll
   sections-refused f e = rw (← q, e)
 
 -- a source that can be read is begun at its begin, and no reading leaves it
 module _ (src : List ℕ) (a : Admission) (x : Short src a) (e : a ≡ Fit) where
-  pub fit-here : (s : State) → s ≡ fresh → Here src (s .at)
-  fit-here s b = told (λ (y : State). Here src (y .at)) (sym b) (record { within = omega arith; short = told (Short src) e x })
+  pub fit-here : (s : State) (kind : ℕ) → s ≡ fresh kind → Here src (s .at)
+  fit-here s kind b = told (λ (y : State). Here src (y .at)) (sym b) (record { within = omega arith; short = told (Short src) e x })
 
   pub fit-near : (i j : ℕ) → Passed src i j → j ≤ 65536
   fit-near i j p =
@@ -105,12 +105,12 @@ module _ (src : List ℕ) (a : Admission) (x : Short src a) (e : a ≡ Fit) wher
       let k = p .inside in
       omega arith
 
-pub begun-near : (s : State) → s ≡ fresh → s .at ≤ 65536
-begun-near s b = told (λ (y : State). y .at ≤ 65536) (sym b) (omega arith)
+pub begun-near : (s : State) (kind : ℕ) → s ≡ fresh kind → s .at ≤ 65536
+begun-near s kind b = told (λ (y : State). y .at ≤ 65536) (sym b) (omega arith)
 
 -- its sections
-module _ (src : List ℕ) (kind : ℕ) (T : Tables) (s : State) (b : s ≡ fresh) (fit fits : Bool) (z : fit ≡ fits) (a : Admission) (q : a ≡ admitted src kind fit) where
-  pub attempt-fit : (r : Run) → a ≡ Fit → r ≡ sectionsAll src kind s T → r ≡ attempted src kind fits T
+module _ (src : List ℕ) (kind : ℕ) (T : Tables) (s : State) (b : s ≡ fresh kind) (fit fits : Bool) (z : fit ≡ fits) (a : Admission) (q : a ≡ admitted src kind fit) where
+  pub attempt-fit : (r : Run) → a ≡ Fit → r ≡ sectionsAll src s T → r ≡ attempted src kind fits T
   unfolding attempted
   attempt-fit r e h = rw (← z, ← q, e) (rw b at h)
 
@@ -119,16 +119,16 @@ module _ (src : List ℕ) (kind : ℕ) (T : Tables) (s : State) (b : s ≡ fresh
   attempt-unfit f e = rw (← z, ← q, e, b)
 
 -- where a reading begins, any finder leads to all rows, which are none
-pub none-tracked : (src : List ℕ) (k w name : ℕ) (s : State) (t ix : List ℕ) → getD (noCounts .n) k 0 ≡ 0 → s ≡ fresh → Tracked src k w name (s .counts) t ix
-none-tracked src k w name s t ix z b = told (λ (y : State). Tracked src k w name (y .counts) t ix) (sym b) (record { ten = refl; held = rw z (held-none src w name t ix) })
+pub none-tracked : (src : List ℕ) (k w name : ℕ) (s : State) (kind : ℕ) (t ix : List ℕ) → getD (noCounts .n) k 0 ≡ 0 → s ≡ fresh kind → Tracked src k w name (s .counts) t ix
+none-tracked src k w name s kind t ix z b = told (λ (y : State). Tracked src k w name (y .counts) t ix) (sym b) (record { ten = refl; held = rw z (held-none src w name t ix) })
 
-pub none-given : (src : List ℕ) (s : State) (t2 t3 t4 t5 fx : List ℕ) → s ≡ fresh → Givens src (s .counts) t2 t3 t4 t5 fx
-none-given src s t2 t3 t4 t5 fx b =
+pub none-given : (src : List ℕ) (s : State) (kind : ℕ) (t2 t3 t4 t5 fx : List ℕ) → s ≡ fresh kind → Givens src (s .counts) t2 t3 t4 t5 fx
+none-given src s kind t2 t3 t4 t5 fx b =
     record {
-      second = none-tracked src precedences (width precedences) 0 s t2 fx refl b;
-      third = none-tracked src avoided (width avoided) 0 s t3 fx refl b;
-      fourth = none-tracked src implicit (width avoided) 0 s t4 fx refl b;
-      fifth = none-tracked src epps (width epps) 2 s t5 fx refl b;
+      second = none-tracked src precedences (width precedences) 0 s kind t2 fx refl b;
+      third = none-tracked src avoided (width avoided) 0 s kind t3 fx refl b;
+      fourth = none-tracked src implicit (width avoided) 0 s kind t4 fx refl b;
+      fifth = none-tracked src epps (width epps) 2 s kind t5 fx refl b;
     }
 
 -- after a fatal refusal

@@ -102,7 +102,7 @@ once-long src s k w name what row t u = go (findName src w name (count s k) t (g
 module _ (src : List ℕ) (s : State) (t : List ℕ) where
   start-long : Long1 t (startDecl src s t)
   unfolding startDecl startNamed
-  start-long = go (gapAt false src (s .at))
+  start-long = go (gapAt (s .kind) false src (s .at))
     where
       given : (i j : ℕ) (p : Part) → Long1 t (startGiven p s i j t)
       given i j Absent = refl
@@ -118,7 +118,7 @@ module _ (src : List ℕ) (s : State) (t : List ℕ) where
 
   expect-long : (rr : Bool) → Long1 t (expectDecl src s rr t)
   unfolding expectDecl expectGiven
-  expect-long rr = go (gapAt false src (s .at))
+  expect-long rr = go (gapAt (s .kind) false src (s .at))
     where
       given : (v i j : ℕ) (e : Expect) → Long1 t (expectSeen e s rr v i j t)
       given v i j NotExpected = refl
@@ -135,7 +135,7 @@ module _ (src : List ℕ) (s : State) (t : List ℕ) where
 
   actiontype-long : Long1 t (actiontypeDecl src s t)
   unfolding actiontypeDecl actiontypeNamed
-  actiontype-long = go (gapAt false src (s .at))
+  actiontype-long = go (gapAt (s .kind) false src (s .at))
     where
       given : (i j : ℕ) (p : Part) → Long1 t (actiontypeGiven p s i j t)
       given i j Absent = refl
@@ -148,7 +148,7 @@ module _ (src : List ℕ) (s : State) (t : List ℕ) where
 -- lists that run to the next `%`
 list-long : (src : List ℕ) (s : State) (which : Bool) (t : List ℕ) → Long1 t (listDecl src s which t)
 unfolding listDecl percentList listTurn tokenItem unusedItem unusedRow
-list-long src s which t = go (gapAt false src (s .at))
+list-long src s which t = go (gapAt (s .kind) false src (s .at))
   where
     token : (r : Token) (u : State) (x : List ℕ) → Long1 x (tokenFound r src u x)
     token (Found p end q) u x = enter-long src u (p .from) (p .to) true x
@@ -177,7 +177,7 @@ list-long src s which t = go (gapAt false src (s .at))
 -- lists that run to their line's end
 prec-long : (src : List ℕ) (s : State) (assoc : ℕ) (t u : List ℕ) → Long2 t u (precDecl src s assoc t u)
 unfolding precDecl precList precTurn precItem
-prec-long src s assoc t u = go (gapAt false src (s .at))
+prec-long src s assoc t u = go (gapAt (s .kind) false src (s .at))
   where
     found : (r : Token) (v : State) (x y : List ℕ) → Long2 x y (precFound r src v (s .level) assoc x y)
     found (Found p end q) v x y = once-long src v precedences (width precedences) 0 RepeatedPrecedence (precedenceCells (p .from) (p .to) (s .level) assoc) x y
@@ -201,7 +201,7 @@ prec-long src s assoc t u = go (gapAt false src (s .at))
 
 avoid-long : (src : List ℕ) (s : State) (k : ℕ) (what : Repeat) (t u v : List ℕ) → Long3 t u v (avoidDecl src s k what t u v)
 unfolding avoidDecl avoidList avoidTurn avoidItem avoidNamed
-avoid-long src s k what t u v = on-test (Long3 t u v) (leb (length src) (s .at)) _ _ (λ e. (refl, refl, refl)) (λ e. go (gapAt false src (s .at)))
+avoid-long src s k what t u v = on-test (Long3 t u v) (leb (length src) (s .at)) _ _ (λ e. (refl, refl, refl)) (λ e. go (gapAt (s .kind) false src (s .at)))
   where
     entry : (a : Answer) (o : Out1) (from to end : ℕ) (y z : List ℕ) → Long3 (o .a) y z (avoidEntered a o src k what from to end y z)
     entry Going o from to end y z = let x = once-long src (o .state) k (width avoided) 0 what (nameCells from to) y z in (refl, x .0, x .1)
@@ -233,7 +233,7 @@ avoid-long src s k what t u v = on-test (Long3 t u v) (leb (length src) (s .at))
 -- `%epp`
 epp-long : (src : List ℕ) (s : State) (t u : List ℕ) → Long2 t u (eppDecl src s t u)
 unfolding eppDecl eppValue eppText eppGiven
-epp-long src s t u = go (gapAt false src (s .at))
+epp-long src s t u = go (gapAt (s .kind) false src (s .at))
   where
     string : (i j from to v : ℕ) (q : Quote) → Long2 t u (eppString q src s i j from to v t u)
     string i j from to v (Closed e) = once-long src s epps (width epps) keyName RepeatedEpp (eppCells i j from to v e) t u
@@ -247,7 +247,7 @@ epp-long src s t u = go (gapAt false src (s .at))
     value i j from to (GapRefused f) = (refl, refl)
 
     key : (i : ℕ) (r : Token) → Long2 t u (eppKey r i src s t u)
-    key i (Found p end q) = value i end (p .from) (p .to) (gapAt false src end)
+    key i (Found p end q) = value i end (p .from) (p .to) (gapAt (s .kind) false src end)
     key i (NoToken k) = (refl, refl)
 
     go : (g : Gap) → Long2 t u (eppFrom g src s t u)
@@ -276,22 +276,22 @@ by-keyword RightWord src s n D = let x = prec-long src n 2 (D .t2) (D .t10) in r
 by-keyword NonassocWord src s n D = let x = prec-long src n 3 (D .t2) (D .t10) in rw (x .0, x .1)
 by-keyword NoKeyword src s n D = refl
 
-declarations-long : (src : List ℕ) (kind : ℕ) (s : State) (D : Declared) → lengthsOf (declAll src kind s D .tables) ≡ lengthsOf D
+declarations-long : (src : List ℕ) (s : State) (D : Declared) → lengthsOf (declAll src s D .tables) ≡ lengthsOf D
 unfolding declAll declRun declTurn declStep
-declarations-long src kind s D = go (gapAt true src (s .at))
+declarations-long src s D = go (gapAt (s .kind) true src (s .at))
   where
     Long : Out → Type 0
     Long o = lengthsOf (o .tables) ≡ lengthsOf D
 
-    after : (b : Bool) (o : Out) → Long o → Either Long Long (afterLast b o (declStep src kind (o .state) (o .tables)))
+    after : (b : Bool) (o : Out) → Long o → Either Long Long (afterLast b o (declStep src (o .state) (o .tables)))
     after true o h = h
     after false o h =
-        let p = declStep src kind (o .state) (o .tables) in
-        let r = seenAt kind src (o .state .at) in
+        let p = declStep src (o .state) (o .tables) in
+        let r = seenAt (o .state .kind) src (o .state .at) in
         onward-keep Long (p .answer) p (by-keyword (r .word) src (o .state) (withAt (o .state) (r .end)) (o .tables) ∙ h)
 
-    go : (g : Gap) → Long (allFrom g src kind s D)
-    go (GapTo i n) = turns-keep Long (declTurn src kind) (λ o. after (leb (length src) (o .state .at)) o) (suc (length src)) _ refl
+    go : (g : Gap) → Long (allFrom g src s D)
+    go (GapTo i n) = turns-keep Long (declTurn src) (λ o. after (leb (length src) (o .state .at)) o) (suc (length src)) _ refl
     go (GapRefused f) = refl
 
 -- the items of a rule
@@ -321,13 +321,13 @@ quoted-long src s d t1 t9 = go (tokenAt src (s .at))
     gap (GapRefused f) from to end = (refl, refl)
 
     go : (r : Token) → (length (quotedFound r src s d t1 t9 .a) ≡ length t1) × (length (quotedFound r src s d t1 t9 .b) ≡ length t9)
-    go (Found p end q) = gap (gapAt true src end) (p .from) (p .to) end
+    go (Found p end q) = gap (gapAt (s .kind) true src end) (p .from) (p .to) end
     go (NoToken k) = (refl, refl)
 
 -- `%prec`
 prec-part-long : (src : List ℕ) (s : State) (d : Production) (t : List ℕ) → length (precPart src s d t .a) ≡ length t
 unfolding precPart precName
-prec-part-long src s d t = go (gapAt true src (s .at))
+prec-part-long src s d t = go (gapAt (s .kind) true src (s .at))
   where
     name : (r : Token) (u : State) → length (precToken r src u d t .a) ≡ length t
     name (Found p end q) u = enter-long src u (p .from) (p .to) false t
@@ -380,9 +380,9 @@ items-long src s d t1 t8 t9 = turns-keep Long (itemTurn src) (λ o. after (leb (
 abbrev LongRuled : List ℕ → List ℕ → List ℕ → List ℕ → Ruled → Type 0
 LongRuled t1 t7 t8 t9 o = (length (o .t1) ≡ length t1) × (length (o .t7) ≡ length t7) × (length (o .t8) ≡ length t8) × (length (o .t9) ≡ length t9)
 
-head-long : (src : List ℕ) (kind : ℕ) (s : State) (t : List ℕ) → length (ruleHead src kind s t .t7) ≡ length t
+head-long : (src : List ℕ) (s : State) (t : List ℕ) → length (ruleHead src s t .t7) ≡ length t
 unfolding ruleHead namedHead enterRule
-head-long src kind s t = go (nameAt src (s .at))
+head-long src s t = go (nameAt src (s .at))
   where
     found : (r : Row) (u : State) (from to : ℕ) (p : Part) → length (ruleFound r u from to p t .t7) ≡ length t
     found (RowAt r) u from to p = refl
@@ -393,8 +393,8 @@ head-long src kind s t = go (nameAt src (s .at))
     typed Done o from to = refl
     typed (Refused f) o from to = refl
 
-    go : (n : Name) → length (headFound n src kind s t .t7) ≡ length t
-    go (NameTo j) = let o = ruleType src kind (withAt (firstStart s (s .at) j) j) in typed (o .answer) o (s .at) j
+    go : (n : Name) → length (headFound n src s t .t7) ≡ length t
+    go (NameTo j) = let o = ruleType src (withAt (firstStart s (s .at) j) j) in typed (o .answer) o (s .at) j
     go (NoName k) = refl
 
 body-long : (src : List ℕ) (s : State) (row : ℕ) (t1 t8 t9 : List ℕ) → let o = ruleBody src s row t1 t8 t9 in (length (o .t1) ≡ length t1) × (length (o .t8) ≡ length t8) × (length (o .t9) ≡ length t9)
@@ -406,33 +406,33 @@ body-long src s row t1 t8 t9 = let c = passMark src s (58 ∷ []) MissingColon i
     go Done u = (refl, refl, refl)
     go (Refused f) u = (refl, refl, refl)
 
-next-long : (src : List ℕ) (kind : ℕ) (s : State) (t1 t7 t8 t9 : List ℕ) → LongRuled t1 t7 t8 t9 (nextRule src kind s t1 t7 t8 t9)
+next-long : (src : List ℕ) (s : State) (t1 t7 t8 t9 : List ℕ) → LongRuled t1 t7 t8 t9 (nextRule src s t1 t7 t8 t9)
 unfolding nextRule ruleStep
-next-long src kind s t1 t7 t8 t9 = let h = ruleHead src kind s t7 in go (h .answer) h (head-long src kind s t7)
+next-long src s t1 t7 t8 t9 = let h = ruleHead src s t7 in go (h .answer) h (head-long src s t7)
   where
     go : (a : Answer) (h : Heading) → length (h .t7) ≡ length t7 → LongRuled t1 t7 t8 t9 (ruleHeaded a src h t1 t8 t9)
     go Going h e = let x = body-long src (h .state) (h .row) t1 t8 t9 in (x .0, e, x .1, x .2)
     go Done h e = (refl, e, refl, refl)
     go (Refused f) h e = (refl, e, refl, refl)
 
-rules-long : (src : List ℕ) (kind : ℕ) (s : State) (t1 t7 t8 t9 : List ℕ) → LongRuled t1 t7 t8 t9 (rulesAll src kind s t1 t7 t8 t9)
+rules-long : (src : List ℕ) (s : State) (t1 t7 t8 t9 : List ℕ) → LongRuled t1 t7 t8 t9 (rulesAll src s t1 t7 t8 t9)
 unfolding rulesAll rulesRun rulesTurn
-rules-long src kind s t1 t7 t8 t9 = let c = passMark src s percents UnknownDeclaration in go (c .answer) (c .state)
+rules-long src s t1 t7 t8 t9 = let c = passMark src s percents UnknownDeclaration in go (c .answer) (c .state)
   where
     Long : Ruled → Type 0
     Long = LongRuled t1 t7 t8 t9
 
-    after : (b c : Bool) (o : Ruled) → Long o → Either Long Long (ruleOrEnd b c o (nextRule src kind (o .state) (o .t1) (o .t7) (o .t8) (o .t9)))
+    after : (b c : Bool) (o : Ruled) → Long o → Either Long Long (ruleOrEnd b c o (nextRule src (o .state) (o .t1) (o .t7) (o .t8) (o .t9)))
     after true c o h = h
     after false true o h = h
     after false false o h =
-        let p = nextRule src kind (o .state) (o .t1) (o .t7) (o .t8) (o .t9) in
-        let x = next-long src kind (o .state) (o .t1) (o .t7) (o .t8) (o .t9) in
+        let p = nextRule src (o .state) (o .t1) (o .t7) (o .t8) (o .t9) in
+        let x = next-long src (o .state) (o .t1) (o .t7) (o .t8) (o .t9) in
         onward-keep Long (p .answer) p (x .0 ∙ h .0, x .1 ∙ h .1, x .2 ∙ h .2, x .3 ∙ h .3)
 
-    go : (a : Answer) (u : State) → Long (rulesPassed a src kind u t1 t7 t8 t9)
+    go : (a : Answer) (u : State) → Long (rulesPassed a src u t1 t7 t8 t9)
     go Going u =
-        turns-keep Long (rulesTurn src kind) (λ o. after (leb (length src) (o .state .at)) (startsAt percents src (o .state .at)) o) (suc (length src)) _ (refl, refl, refl, refl)
+        turns-keep Long (rulesTurn src) (λ o. after (leb (length src) (o .state .at)) (startsAt percents src (o .state .at)) o) (suc (length src)) _ (refl, refl, refl, refl)
     go Done u = (refl, refl, refl, refl)
     go (Refused f) u = (refl, refl, refl, refl)
 
@@ -448,9 +448,9 @@ zero-lengths T = rw (all (T .t1), all (T .t2), all (T .t3), all (T .t4), all (T 
     all t = length-replicate (length t) 0
 
 -- The sections leave every table as long as it was.
-pub sections-lengths : (src : List ℕ) (kind : ℕ) (s : State) (T : Tables) → lengths (sectionsAll src kind s T .tables) ≡ lengths T
+pub sections-lengths : (src : List ℕ) (s : State) (T : Tables) → lengths (sectionsAll src s T .tables) ≡ lengths T
 unfolding sectionsAll restAll
-sections-lengths src kind s T = let o = declAll src kind s (declaredOf T) in go (o .answer) o (declarations-long src kind s (declaredOf T))
+sections-lengths src s T = let o = declAll src s (declaredOf T) in go (o .answer) o (declarations-long src s (declaredOf T))
   where
     -- those of tables 7 to 9 between those that declarations fill
     among : List ℕ → List ℕ
@@ -462,10 +462,10 @@ sections-lengths src kind s T = let o = declAll src kind s (declaredOf T) in go 
     rest Done r t1 t7 t8 t9 h = h
     rest (Refused f) r t1 t7 t8 t9 h = h
 
-    go : (a : Answer) (o : Out) → lengthsOf (o .tables) ≡ lengthsOf (declaredOf T) → lengths (sectionsFrom a src kind o T .tables) ≡ lengths T
+    go : (a : Answer) (o : Out) → lengthsOf (o .tables) ≡ lengthsOf (declaredOf T) → lengths (sectionsFrom a src o T .tables) ≡ lengths T
     go Going o e = ap among e
     go Done o e =
-        let r = rulesAll src kind (o .state) (o .tables .t1) (T .t7) (T .t8) (T .t9) in
-        let x = rest (r .answer) r (o .tables .t1) (T .t7) (T .t8) (T .t9) (rules-long src kind (o .state) (o .tables .t1) (T .t7) (T .t8) (T .t9)) in
+        let r = rulesAll src (o .state) (o .tables .t1) (T .t7) (T .t8) (T .t9) in
+        let x = rest (r .answer) r (o .tables .t1) (T .t7) (T .t8) (T .t9) (rules-long src (o .state) (o .tables .t1) (T .t7) (T .t8) (T .t9)) in
         rw (x .0, x .1, x .2, x .3) (ap among e)
     go (Refused f) o e = ap among e

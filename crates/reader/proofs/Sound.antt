@@ -64,32 +64,32 @@ admits src kind fit = on-test (Admits src) (ltb kind 1 || ltb 3 kind) _ _ (λ e 
     by false = λ x. x
 
 -- Declarations count no symbol. They are sound so far beside any table 9, so beside one without room: none was counted.
-no-symbols : (src : List ℕ) (kind : ℕ) (T : Tables) → length src ≤ 65536 → count (declAll src kind fresh (declared (zeroAll T)) .state) symbols ≡ 0
+no-symbols : (src : List ℕ) (kind : ℕ) (T : Tables) → length src ≤ 65536 → count (declAll src (fresh kind) (declared (zeroAll T)) .state) symbols ≡ 0
 no-symbols src kind T h =
     let U = zeroAll (setTab T symbols []) in
-    let f = declarations-far src 0 kind fresh (declared U) U (fresh-far src (setTab T symbols []) h) in
+    let f = declarations-far src 0 (fresh kind) (declared U) U (fresh-far src kind (setTab T symbols []) h) in
     let l = f .tables symbols .fits in
     omega arith
 
 -- The sections of a source: sound so far, and the productions' ranges end behind the last symbol unless a step was refused.
-pub sections-far : (src : List ℕ) (kind : ℕ) (T : Tables) → length src ≤ 65536 → let r = sectionsAll src kind fresh (zeroAll T) in Whole src (r .tables) (r .answer) (r .state)
+pub sections-far : (src : List ℕ) (kind : ℕ) (T : Tables) → length src ≤ 65536 → let r = sectionsAll src (fresh kind) (zeroAll T) in Whole src (r .tables) (r .answer) (r .state)
 unfolding sectionsAll restAll
 sections-far src kind T h =
     let U = zeroAll T in
-    let o = declAll src kind fresh (declared U) in
-    go (o .answer) o (declarations-far src 0 kind fresh (declared U) U (fresh-far src T h)) (no-symbols src kind T h)
+    let o = declAll src (fresh kind) (declared U) in
+    go (o .answer) o (declarations-far src 0 (fresh kind) (declared U) U (fresh-far src kind T h)) (no-symbols src kind T h)
   where
     rest : (a : Answer) (D : Tables) (r : Ruled) → r .answer ≡ a → WholeFar src D r → WholeFar src D (restFrom a src r)
     rest Going D r e x = let p = programs-far (x .far) in record { done = x .done; far = p .far; whole = λ t. rw (p .counts) (x .whole (going-taken (r .answer) e)) }
     rest Done D r e x = record { done = x .done; far = x .far; whole = λ t. x .whole (rw e t) }
     rest (Refused f) D r e x = record { done = x .done; far = x .far; whole = λ t. x .whole (rw e t) }
 
-    go : (a : Answer) (o : Out) → FarAll src 0 (zeroAll T) o → count (o .state) symbols ≡ 0 → let r = sectionsFrom a src kind o (zeroAll T) in Whole src (r .tables) (r .answer) (r .state)
+    go : (a : Answer) (o : Out) → FarAll src 0 (zeroAll T) o → count (o .state) symbols ≡ 0 → let r = sectionsFrom a src o (zeroAll T) in Whole src (r .tables) (r .answer) (r .state)
     go Going o f e = record { done = 0; far = f; whole = λ t. sym e }
     go Done o f e =
         let D = withDeclared (zeroAll T) (o .tables) in
-        let r = rulesAll src kind (o .state) (D .t1) (D .t7) (D .t8) (D .t9) in
-        rest (r .answer) D r refl (rules-far D f (sym e) kind)
+        let r = rulesAll src (o .state) (D .t1) (D .t7) (D .t8) (D .t9) in
+        rest (r .answer) D r refl (rules-far D f (sym e))
     go (Refused r) o f e = record { done = 0; far = f; whole = λ t. sym e }
 
 -- The indexes that a source is read with have right sizes,
@@ -144,9 +144,9 @@ read-indexed src kind T X f = go (admitted src kind (sized T X)) (admits src kin
 
     go : (m : Admission) → Admits src m → FitSizes T X m → let o = finishedRun (attemptOf m src kind (zeroAll T)) in Full (o .answer) → SoundIndexes src (o .counts) (filledIn src (indexed src X o) .tables) (indexed src X o .indexes)
     go Fit h z x =
-        let r = sectionsAll src kind fresh (zeroAll T) in
+        let r = sectionsAll src (fresh kind) (zeroAll T) in
         indexes-filled
-        (indexed-sound src T X (finishedRun r) (ends (r .answer) (r .state) (r .tables) (sections-lengths src kind fresh (zeroAll T) ∙ zero-lengths T)) z)
+        (indexed-sound src T X (finishedRun r) (ends (r .answer) (r .state) (r .tables) (sections-lengths src (fresh kind) (zeroAll T) ∙ zero-lengths T)) z)
     go (Unfit g) h z x = absurd (h x)
 
 -- what is sound with its symbols filled in, and with indexes that are
@@ -160,7 +160,7 @@ SoundResult src o = (X : Indexes) → SoundIndexes src (o .counts) (filledTables
 stopped-sound : {src : List ℕ} {done : ℕ} {s : State} {T : Tables} → Far src done s T → (g : Refusal) → SoundResult src (finished (Refused g) s T)
 unfolding filledRows
 stopped-sound {src} {done} {s} {T} f g X i =
-    far-sound src (withCount fresh repeats (count s repeats)) (clearNine T) X (far-table (fresh-far src T (f .short)) repeats (omega arith) (count s repeats) (omega arith) (T .t10) (λ e. omega arith) (f .tables repeats)) i (record { row = λ r h. absurd (omega arith) })
+    far-sound src (withCount (fresh (s .kind)) repeats (count s repeats)) (clearNine T) X (far-table (fresh-far src (s .kind) T (f .short)) repeats (omega arith) (count s repeats) (omega arith) (T .t10) (λ e. omega arith) (f .tables repeats)) i (record { row = λ r h. absurd (omega arith) })
 
 finished-sound : {src : List ℕ} (a : Answer) (s : State) (T : Tables) → Whole src T a s → SoundResult src (finished a s T)
 unfolding endedAt
@@ -185,7 +185,7 @@ unfolding readAll readNames attempted
 read-sound src kind T X f = go (admitted src kind (sized T X)) (admits src kind (sized T X)) f _ (read-indexed src kind T X f)
   where
     go : (m : Admission) → Admits src m → let o = finishedRun (attemptOf m src kind (zeroAll T)) in Full (o .answer) → SoundResult src o
-    go Fit h x = let r = sectionsAll src kind fresh (zeroAll T) in finished-sound (r .answer) (r .state) (r .tables) (sections-far src kind T h)
+    go Fit h x = let r = sectionsAll src (fresh kind) (zeroAll T) in finished-sound (r .answer) (r .state) (r .tables) (sections-far src kind T h)
     go (Unfit f) h x = absurd (h x)
 
 -- The `%epp` values that a read leaves are strings with their quotes, whatever its answer.
@@ -212,7 +212,7 @@ unfolding readAll readNames attempted
 read-values src kind T X = go (admitted src kind (sized T X)) (admits src kind (sized T X))
   where
     go : (m : Admission) → Admits src m → let o = finishedRun (attemptOf m src kind (zeroAll T)) in Values src (o .counts) (o .tables .t5)
-    go Fit h = let r = sectionsAll src kind fresh (zeroAll T) in finished-values (r .answer) (r .state) (r .tables) (sections-far src kind T h .far)
+    go Fit h = let r = sectionsAll src (fresh kind) (zeroAll T) in finished-values (r .answer) (r .state) (r .tables) (sections-far src kind T h .far)
     go (Unfit f) h = λ r l. absurd (omega arith)
 
 -- "0 accepted: read: end reached, twice"
@@ -233,7 +233,7 @@ read-within src kind T X = go (admitted src kind (sized T X)) (admits src kind (
     end (Refused f) s U h = tt
 
     go : (m : Admission) → Admits src m → Within src (finishedRun (attemptOf m src kind (zeroAll T)) .answer)
-    go Fit h = let r = sectionsAll src kind fresh (zeroAll T) in end (r .answer) (r .state) (r .tables) (sections-far src kind T h .far .here)
+    go Fit h = let r = sectionsAll src (fresh kind) (zeroAll T) in end (r .answer) (r .state) (r .tables) (sections-far src kind T h .far .here)
     go (Unfit f) h = tt
 
 pub accepted-end : (src : List ℕ) (kind : ℕ) (T : Tables) (X : Indexes) (i : ℕ) → readAll src kind T X .answer ≡ Accepted i → i ≤ length src
@@ -253,7 +253,7 @@ read-ten src kind T X = go (admitted src kind (sized T X)) (admits src kind (siz
     end (Refused f) s U h = refl
 
     go : (m : Admission) → Admits src m → length (finishedRun (attemptOf m src kind (zeroAll T)) .counts .n) ≡ 10
-    go Fit h = let r = sectionsAll src kind fresh (zeroAll T) in end (r .answer) (r .state) (r .tables) (sections-far src kind T h .far .ten)
+    go Fit h = let r = sectionsAll src (fresh kind) (zeroAll T) in end (r .answer) (r .state) (r .tables) (sections-far src kind T h .far .ten)
     go (Unfit f) h = refl
 
 -- What is left of a read that stopped: tables as long as those it was given.
@@ -295,7 +295,7 @@ unfolding readAll readNames attempted endedAt
 stopped-clean src kind T X f = let r = attempted src kind (sized T X) (zeroAll T) in go (r .answer) (r .state) (r .tables) (run (admitted src kind (sized T X)) ∙ zero-lengths T)
   where
     run : (m : Admission) → lengths (attemptOf m src kind (zeroAll T) .tables) ≡ lengths (zeroAll T)
-    run Fit = sections-lengths src kind fresh (zeroAll T)
+    run Fit = sections-lengths src (fresh kind) (zeroAll T)
     run (Unfit g) = refl
 
     -- one that ended was refused for repeats only

@@ -61,7 +61,7 @@ module _ (src : List ℕ) where
 
   tokens-spare : (s : State) (t : List ℕ) → Spares rules (s .counts) (listDecl src s true t .state .counts)
   unfolding listDecl percentList
-  tokens-spare s t = go (gapAt false src (s .at))
+  tokens-spare s t = go (gapAt (s .kind) false src (s .at))
     where
       go : (g : Gap) → Spares rules (s .counts) (listFrom g src s true t .state .counts)
       go (GapTo i n) = turns-keep (SinceOne (s .counts)) (listTurn src true) (tokens-turn (s .counts)) (suc (length src)) _ (spares-none rules (s .counts))
@@ -114,7 +114,7 @@ module _ (src : List ℕ) where
 
         by : (b : Bool) → leb (length src) (s .at) ≡ b → Spares rules (s .counts) (avoidDecl src s j what t1 t t10 .state .counts)
         by true e = rw (e, avoidDecl) (spares-none rules (s .counts))
-        by false e = rw (e, avoidDecl) (go (gapAt false src (s .at)))
+        by false e = rw (e, avoidDecl) (go (gapAt (s .kind) false src (s .at)))
 
   -- a declaration
   by-keyword : (w : Keyword) (s n : State) (D : Declared) → s .counts ≡ n .counts → Spares rules (n .counts) (byKeyword w src s n D .state .counts)
@@ -135,34 +135,34 @@ module _ (src : List ℕ) where
   by-keyword NonassocWord s n D e = prec-spares rules (λ z. omega arith) (λ z. omega arith) src n 3 (D .t2) (D .t10)
   by-keyword NoKeyword s n D e = rw e (spares-none rules (n .counts))
 
-  step : (kind : ℕ) (s : State) (D : Declared) → Spares rules (s .counts) (declStep src kind s D .state .counts)
+  step : (s : State) (D : Declared) → Spares rules (s .counts) (declStep src s D .state .counts)
   unfolding declStep
-  step kind s D = by-keyword (seenAt kind src (s .at) .word) s (withAt s (seenAt kind src (s .at) .end)) D refl
+  step s D = by-keyword (seenAt (s .kind) src (s .at) .word) s (withAt s (seenAt (s .kind) src (s .at) .end)) D refl
 
   abbrev Since : Counts → Out → Type 0
   Since c o = Spares rules c (o .state .counts)
 
-  turn : (kind : ℕ) (c : Counts) (o : Out) → Since c o → Either (Since c) (Since c) (declTurn src kind o)
+  turn : (c : Counts) (o : Out) → Since c o → Either (Since c) (Since c) (declTurn src o)
   unfolding declTurn
-  turn kind c o x = go (leb (length src) (o .state .at))
+  turn c o x = go (leb (length src) (o .state .at))
     where
-      go : (b : Bool) → Either (Since c) (Since c) (afterEnd b o (declStep src kind (o .state) (o .tables)))
+      go : (b : Bool) → Either (Since c) (Since c) (afterEnd b o (declStep src (o .state) (o .tables)))
       go true = x
-      go false = onward-keep (Since c) (declStep src kind (o .state) (o .tables) .answer) (declStep src kind (o .state) (o .tables)) (spares-on x (step kind (o .state) (o .tables)))
+      go false = onward-keep (Since c) (declStep src (o .state) (o .tables) .answer) (declStep src (o .state) (o .tables)) (spares-on x (step (o .state) (o .tables)))
 
   -- the section
-  pub declarations-spare : (kind : ℕ) (s : State) (D : Declared) → Spares rules (s .counts) (declAll src kind s D .state .counts)
+  pub declarations-spare : (s : State) (D : Declared) → Spares rules (s .counts) (declAll src s D .state .counts)
   unfolding declAll declRun
-  declarations-spare kind s D = go (gapAt true src (s .at))
+  declarations-spare s D = go (gapAt (s .kind) true src (s .at))
     where
-      go : (g : Gap) → Spares rules (s .counts) (allFrom g src kind s D .state .counts)
-      go (GapTo i n) = turns-keep (Since (s .counts)) (declTurn src kind) (turn kind (s .counts)) (suc (length src)) _ (spares-none rules (s .counts))
+      go : (g : Gap) → Spares rules (s .counts) (allFrom g src s D .state .counts)
+      go (GapTo i n) = turns-keep (Since (s .counts)) (declTurn src) (turn (s .counts)) (suc (length src)) _ (spares-none rules (s .counts))
       go (GapRefused f) = spares-none rules (s .counts)
 
 -- so the index of table 7 stays; and programs leave every index
 module _ (src : List ℕ) (s : State) (t ix : List ℕ) (a : Answer) (q : State) where
-  pub by-declarations : (kind : ℕ) (D E : Declared) → _≡_ {A = Out} (record { answer = a; state = q; tables = E }) (declAll src kind s D) → Rules src (s .counts) t ix → Rules src (q .counts) t ix
-  by-declarations kind D E e I = rw (ap (λ (o : Out). o .state .counts) e) (spared (declarations-spare src kind s D) I)
+  pub by-declarations : (D E : Declared) → _≡_ {A = Out} (record { answer = a; state = q; tables = E }) (declAll src s D) → Rules src (s .counts) t ix → Rules src (q .counts) t ix
+  by-declarations D E e I = rw (ap (λ (o : Out). o .state .counts) e) (spared (declarations-spare src s D) I)
 
   pub by-programs : (k w name : ℕ) → _≡_ {A = Out0} (record { answer = a; state = q }) (programsFrom src s) → Tracked src k w name (s .counts) t ix → Tracked src k w name (q .counts) t ix
   by-programs k w name e I = rw (ap (λ (o : Out0). o .state .counts) e) (spared (programs-spares k src s) I)

@@ -99,8 +99,8 @@ restFrom (Refused f) src r = record { answer = Refused f; state = r .state; t1 =
 abbrev pub restOut : List ℕ → Ruled → Ruled
 restOut src r = restFrom (r .answer) src r
 
-unfoldable pub restAll : List ℕ → ℕ → State → List ℕ → List ℕ → List ℕ → List ℕ → Ruled
-restAll src kind s t1 t7 t8 t9 = restOut src (rulesAll src kind s t1 t7 t8 t9)
+unfoldable pub restAll : List ℕ → State → List ℕ → List ℕ → List ℕ → List ℕ → Ruled
+restAll src s t1 t7 t8 t9 = restOut src (rulesAll src s t1 t7 t8 t9)
 
 -- the tables that declarations filled, and those that rules did
 abbrev pub declared : Tables → Declared
@@ -118,21 +118,21 @@ withRuled D r =
     }
 
 -- Declarations, which end with `%%` or refused; then the rest. Where they could go on, which does not come up, the rules would be missing: "10 PrematureEnd".
-abbrev pub sectionsFrom : Answer → List ℕ → ℕ → Out → Tables → Run
-sectionsFrom Going src kind o T = record { answer = Refused (Fault PrematureEnd (o .state .at)); state = o .state; tables = withDeclared T (o .tables) }
-sectionsFrom Done src kind o T = withRuled (o .tables) (restAll src kind (o .state) (o .tables .t1) (T .t7) (T .t8) (T .t9))
-sectionsFrom (Refused f) src kind o T = record { answer = Refused f; state = o .state; tables = withDeclared T (o .tables) }
+abbrev pub sectionsFrom : Answer → List ℕ → Out → Tables → Run
+sectionsFrom Going src o T = record { answer = Refused (Fault PrematureEnd (o .state .at)); state = o .state; tables = withDeclared T (o .tables) }
+sectionsFrom Done src o T = withRuled (o .tables) (restAll src (o .state) (o .tables .t1) (T .t7) (T .t8) (T .t9))
+sectionsFrom (Refused f) src o T = record { answer = Refused f; state = o .state; tables = withDeclared T (o .tables) }
 
-abbrev pub sectionsOut : List ℕ → ℕ → Out → Tables → Run
-sectionsOut src kind o T = sectionsFrom (o .answer) src kind o T
+abbrev pub sectionsOut : List ℕ → Out → Tables → Run
+sectionsOut src o T = sectionsFrom (o .answer) src o T
 
-unfoldable pub sectionsAll : List ℕ → ℕ → State → Tables → Run
-sectionsAll src kind s T = sectionsOut src kind (declAll src kind s (declared T)) T
+unfoldable pub sectionsAll : List ℕ → State → Tables → Run
+sectionsAll src s T = sectionsOut src (declAll src s (declared T)) T
 
 -- the sections of a source that can be read, from where a reading begins
 abbrev pub attemptOf : Admission → List ℕ → ℕ → Tables → Run
-attemptOf Fit src kind T = sectionsAll src kind fresh T
-attemptOf (Unfit f) src kind T = record { answer = Refused f; state = fresh; tables = T }
+attemptOf Fit src kind T = sectionsAll src (fresh kind) T
+attemptOf (Unfit f) src kind T = record { answer = Refused f; state = fresh kind; tables = T }
 
 unfoldable pub attempted : List ℕ → ℕ → Bool → Tables → Run
 attempted src kind fit T = attemptOf (admitted src kind fit) src kind T

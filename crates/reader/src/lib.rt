@@ -96,11 +96,12 @@ pub fn no_singles() -> Singles
     }
 }
 
-// Where a reading begins.
-pub fn begin() -> State
-    ensures { λ r. ⌜ r ≡ fresh ⌝ }
+// Where a reading of a kind begins.
+pub fn begin(kind: u32) -> State
+    ensures { λ r. ⌜ r ≡ fresh kind ⌝ }
 {
     State {
+        kind,
         at: 0,
         level: 0,
         counts: Counts {
@@ -114,7 +115,6 @@ pub fn begin() -> State
 // Rules and programs.
 pub fn rest(
     src: &[u8],
-    kind: u32,
     s: State,
     t1: &mut [u32],
     t7: &mut [u32],
@@ -124,11 +124,11 @@ pub fn rest(
     f7: &mut [u16],
 ) -> Step
     requires { ⌜ Here (now src) (s .at) × Tokens (now src) (s .counts) (now t1) (now f1) × Rules (now src) (s .counts) (now t7) (now f7) ⌝ }
-    ensures is { λ r. ⌜ _≡_ {A = Ruled} (record { answer = r .answer; state = r .state; t1 = now (t1 .exit); t7 = now (t7 .exit); t8 = now (t8 .exit); t9 = now (t9 .exit) }) (restAll (now (src .entry)) kind s (now (t1 .entry)) (now (t7 .entry)) (now (t8 .entry)) (now (t9 .entry))) ⌝ }
+    ensures is { λ r. ⌜ _≡_ {A = Ruled} (record { answer = r .answer; state = r .state; t1 = now (t1 .exit); t7 = now (t7 .exit); t8 = now (t8 .exit); t9 = now (t9 .exit) }) (restAll (now (src .entry)) s (now (t1 .entry)) (now (t7 .entry)) (now (t8 .entry)) (now (t9 .entry))) ⌝ }
     ensures moved { λ r. ⌜ Passed (now (src .entry)) (s .at) (r .state .at) ⌝ }
     ensures indexed { λ r. ⌜ Tokens (now (src .entry)) (r .state .counts) (now (t1 .exit)) (now (f1 .exit)) × Rules (now (src .entry)) (r .state .counts) (now (t7 .exit)) (now (f7 .exit)) ⌝ }
 {
-    let r = rules::rules(src, kind, s, t1, t7, t8, t9, f1, f7);
+    let r = rules::rules(src, s, t1, t7, t8, t9, f1, f7);
     let a = r.answer;
     let n = r.state;
     match a {
@@ -147,7 +147,6 @@ pub fn rest(
 // The three sections. Declarations end with `%%` or refused; where they could go on the rules would be missing.
 pub fn sections(
     src: &[u8],
-    kind: u32,
     s: State,
     t1: &mut [u32],
     t2: &mut [u32],
@@ -164,11 +163,11 @@ pub fn sections(
     fx: &mut [u16],
 ) -> Step
     requires { ⌜ Here (now src) (s .at) × Tokens (now src) (s .counts) (now t1) (now f1) × Rules (now src) (s .counts) (now t7) (now f7) × Givens (now src) (s .counts) (now t2) (now t3) (now t4) (now t5) (now fx) ⌝ }
-    ensures is { λ r. ⌜ _≡_ {A = Run} (record { answer = r .answer; state = r .state; tables = record { t1 = now (t1 .exit); t2 = now (t2 .exit); t3 = now (t3 .exit); t4 = now (t4 .exit); t5 = now (t5 .exit); t6 = now (t6 .exit); t7 = now (t7 .exit); t8 = now (t8 .exit); t9 = now (t9 .exit); t10 = now (t10 .exit) } }) (sectionsAll (now (src .entry)) kind s (record { t1 = now (t1 .entry); t2 = now (t2 .entry); t3 = now (t3 .entry); t4 = now (t4 .entry); t5 = now (t5 .entry); t6 = now (t6 .entry); t7 = now (t7 .entry); t8 = now (t8 .entry); t9 = now (t9 .entry); t10 = now (t10 .entry) })) ⌝ }
+    ensures is { λ r. ⌜ _≡_ {A = Run} (record { answer = r .answer; state = r .state; tables = record { t1 = now (t1 .exit); t2 = now (t2 .exit); t3 = now (t3 .exit); t4 = now (t4 .exit); t5 = now (t5 .exit); t6 = now (t6 .exit); t7 = now (t7 .exit); t8 = now (t8 .exit); t9 = now (t9 .exit); t10 = now (t10 .exit) } }) (sectionsAll (now (src .entry)) s (record { t1 = now (t1 .entry); t2 = now (t2 .entry); t3 = now (t3 .entry); t4 = now (t4 .entry); t5 = now (t5 .entry); t6 = now (t6 .entry); t7 = now (t7 .entry); t8 = now (t8 .entry); t9 = now (t9 .entry); t10 = now (t10 .entry) })) ⌝ }
     ensures moved { λ r. ⌜ Passed (now (src .entry)) (s .at) (r .state .at) ⌝ }
     ensures indexed { λ r. ⌜ Tokens (now (src .entry)) (r .state .counts) (now (t1 .exit)) (now (f1 .exit)) × Rules (now (src .entry)) (r .state .counts) (now (t7 .exit)) (now (f7 .exit)) ⌝ }
 {
-    let r = declarations::declarations(src, kind, s, t1, t2, t3, t4, t5, t6, t10, f1, fx);
+    let r = declarations::declarations(src, s, t1, t2, t3, t4, t5, t6, t10, f1, fx);
     let a = r.answer;
     let n = r.state;
     match a {
@@ -176,7 +175,7 @@ pub fn sections(
             answer: Answer::Refused(Refusal::Fault(Cause::PrematureEnd, n.at as u32)),
             state: n,
         },
-        Answer::Done => rest(src, kind, n, t1, t7, t8, t9, f1, f7),
+        Answer::Done => rest(src, n, t1, t7, t8, t9, f1, f7),
         Answer::Refused(f) => Step {
             answer: Answer::Refused(f),
             state: n,
@@ -207,27 +206,10 @@ pub fn attempt(
     ensures near { λ r. ⌜ r .state .at ≤ 65536 ⌝ }
     ensures indexed { λ r. ⌜ Tokens (now (src .entry)) (r .state .counts) (now (t1 .exit)) (now (f1 .exit)) × Rules (now (src .entry)) (r .state .counts) (now (t7 .exit)) (now (f7 .exit)) ⌝ }
 {
-    let s = begin();
+    let s = begin(kind);
     let a = admit(src, kind, sized);
     match a {
-        Admission::Fit => sections(
-            src,
-            kind,
-            s,
-            t1,
-            t2,
-            t3,
-            t4,
-            t5,
-            t6,
-            t7,
-            t8,
-            t9,
-            t10,
-            f1,
-            f7,
-            fx,
-        ),
+        Admission::Fit => sections(src, s, t1, t2, t3, t4, t5, t6, t7, t8, t9, t10, f1, f7, fx),
         Admission::Unfit(f) => Step {
             answer: Answer::Refused(f),
             state: s,

@@ -43,22 +43,22 @@ module _ (src : List ℕ) (s : State) (h : s .at ≤ length src) (D : Declared) 
   by-keyword NonassocWord j k = prec-in src (withAt s j) k 3 (D .t2) (D .t10)
   by-keyword NoKeyword j k = record { here = h; stops = h }
 
-  step-in : (kind : ℕ) → SitedOut src (declStep src kind s D)
+  step-in : SitedOut src (declStep src s D)
   unfolding declStep
-  step-in kind = by-keyword (seenAt kind src (s .at) .word) (seenAt kind src (s .at) .end) (sees kind src (s .at) h .inside)
+  step-in = by-keyword (seenAt (s .kind) src (s .at) .word) (seenAt (s .kind) src (s .at) .end) (sees (s .kind) src (s .at) h .inside)
 
-turn-in : (src : List ℕ) (kind : ℕ) (o : Out) → SitedOut src o → Either (SitedOut src) (SitedOut src) (declTurn src kind o)
+turn-in : (src : List ℕ) (o : Out) → SitedOut src o → Either (SitedOut src) (SitedOut src) (declTurn src o)
 unfolding declTurn
-turn-in src kind o x = go (leb (length src) (o .state .at))
+turn-in src o x = go (leb (length src) (o .state .at))
   where
-    go : (b : Bool) → Either (SitedOut src) (SitedOut src) (afterEnd b o (declStep src kind (o .state) (o .tables)))
+    go : (b : Bool) → Either (SitedOut src) (SitedOut src) (afterEnd b o (declStep src (o .state) (o .tables)))
     go true = record { here = x .here; stops = x .here }
-    go false = let p = declStep src kind (o .state) (o .tables) in onward-keep (SitedOut src) (p .answer) p (step-in src (o .state) (x .here) (o .tables) kind)
+    go false = let p = declStep src (o .state) (o .tables) in onward-keep (SitedOut src) (p .answer) p (step-in src (o .state) (x .here) (o .tables))
 
-pub declarations-in : (src : List ℕ) (kind : ℕ) (s : State) (D : Declared) → s .at ≤ length src → SitedOut src (declAll src kind s D)
+pub declarations-in : (src : List ℕ) (s : State) (D : Declared) → s .at ≤ length src → SitedOut src (declAll src s D)
 unfolding declAll declRun
-declarations-in src kind s D h = go (gapAt true src (s .at)) (gap-in true src (s .at) h)
+declarations-in src s D h = go (gapAt (s .kind) true src (s .at)) (gap-in (s .kind) true src (s .at) h)
   where
-    go : (g : Gap) → GapIn src (s .at) g → SitedOut src (allFrom g src kind s D)
-    go (GapTo i n) x = turns-keep (SitedOut src) (declTurn src kind) (turn-in src kind) (suc (length src)) _ (record { here = x .inside; stops = tt })
+    go : (g : Gap) → GapIn src (s .at) g → SitedOut src (allFrom g src s D)
+    go (GapTo i n) x = turns-keep (SitedOut src) (declTurn src) (turn-in src) (suc (length src)) _ (record { here = x .inside; stops = tt })
     go (GapRefused e) x = record { here = h; stops = x }

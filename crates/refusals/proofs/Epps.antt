@@ -38,7 +38,7 @@ module _ (src : List ℕ) (s : State) (h : s .at ≤ length src) (t5 t10 : List 
 
   pub epp-in : Sited2 src (eppDecl src s t5 t10)
   unfolding eppDecl eppValue
-  epp-in = go (gapAt false src (s .at)) (gap-in false src (s .at) h)
+  epp-in = go (gapAt (s .kind) false src (s .at)) (gap-in (s .kind) false src (s .at) h)
     where
       value : (i j from to : ℕ) → Passed src i j → (g : Gap) → GapIn src j g → Sited2 src (eppGap g src s i j from to t5 t10)
       value i j from to p (GapTo v n) x = text-in i j from to v p (x .inside)
@@ -50,7 +50,7 @@ module _ (src : List ℕ) (s : State) (h : s .at ≤ length src) (t5 t10 : List 
           let b = x .1 in
           let c = x .2 in
           let d = x .3 in
-          value i end (p .from) (p .to) (record { onward = omega arith; inside = d }) (gapAt false src end) (gap-in false src end d)
+          value i end (p .from) (p .to) (record { onward = omega arith; inside = d }) (gapAt (s .kind) false src end) (gap-in (s .kind) false src end d)
       key i l (NoToken k) x = record { here = h; stops = omega arith }
 
       go : (g : Gap) → GapIn src (s .at) g → Sited2 src (eppFrom g src s t5 t10)

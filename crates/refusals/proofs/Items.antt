@@ -107,7 +107,7 @@ module _ (src : List ℕ) (s : State) (d : Production) (x : Open src s d) where
   -- a quoted symbol,
   quoted-rows-in : (from to end : ℕ) (t1 t9 : List ℕ) → Passed src from to → s .at ≤ end → end ≤ length src → Item2 src (quotedRows src s d from to end t1 t9)
   unfolding quotedRows
-  quoted-rows-in from to end t1 t9 p h k = go (gapAt true src end) (gap-in true src end k)
+  quoted-rows-in from to end t1 t9 p h k = go (gapAt (s .kind) true src end) (gap-in (s .kind) true src end k)
     where
       go : (g : Gap) → GapIn src end g → Item2 src (quotedGap g src s d from to end t1 t9)
       go (GapTo i n) y =
@@ -149,7 +149,7 @@ module _ (src : List ℕ) (s : State) (d : Production) (x : Open src s d) where
   -- what stands behind an action,
   after-action-in : (end : ℕ) → s .at ≤ end → end ≤ length src → Item0 src (afterAction src s d end)
   unfolding afterAction
-  after-action-in end h k = go (gapAt true src end) (gap-in true src end k)
+  after-action-in end h k = go (gapAt (s .kind) true src end) (gap-in (s .kind) true src end k)
     where
       go : (g : Gap) → GapIn src end g → Item0 src (actionGap g src s d)
       go (GapTo i n) y =
@@ -163,7 +163,7 @@ module _ (src : List ℕ) (s : State) (d : Production) (x : Open src s d) where
   -- `%empty`, which begins at `first`,
   empty-in : (first : ℕ) → first ≤ length src → Item0 src (emptyItem src s d first)
   unfolding emptyItem
-  empty-in first h = go (gapAt true src (s .at)) (gap-in true src (s .at) (x .here))
+  empty-in first h = go (gapAt (s .kind) true src (s .at)) (gap-in (s .kind) true src (s .at) (x .here))
     where
       go : (g : Gap) → GapIn src (s .at) g → Item0 src (emptyGap g src s d first)
       go (GapTo k n) y =
@@ -219,7 +219,7 @@ module _ (src : List ℕ) (s : State) (d : Production) (x : Open src s d) where
   -- `%prec`, behind its keyword
   prec-in : (t1 : List ℕ) → Item1 src (precItem src s d t1)
   unfolding precItem
-  prec-in t1 = go (gapAt true src (s .at)) (gap-in true src (s .at) (x .here))
+  prec-in t1 = go (gapAt (s .kind) true src (s .at)) (gap-in (s .kind) true src (s .at) (x .here))
     where
       go : (g : Gap) → GapIn src (s .at) g → Item1 src (precGap g src s d t1)
       go (GapTo i n) y = prec-name-in src (withAt s i) d (open-at src s d x i (y .onward) (y .inside)) t1

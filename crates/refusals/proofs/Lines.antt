@@ -57,7 +57,7 @@ prec-turn-in src level assoc o x = go (leb (length src) (o .state .at))
 -- `%left`, `%right` and `%nonassoc`
 pub prec-in : (src : List ℕ) (s : State) → s .at ≤ length src → (assoc : ℕ) (t2 t10 : List ℕ) → Sited2 src (precDecl src s assoc t2 t10)
 unfolding precDecl precList
-prec-in src s h assoc t2 t10 = go (gapAt false src (s .at)) (gap-in false src (s .at) h)
+prec-in src s h assoc t2 t10 = go (gapAt (s .kind) false src (s .at)) (gap-in (s .kind) false src (s .at) h)
   where
     go : (g : Gap) → GapIn src (s .at) g → Sited2 src (precFrom g src s assoc t2 t10)
     go (GapTo i n) x = turns-keep (Sited2 src) (precTurn src (s .level) assoc) (prec-turn-in src (s .level) assoc) (suc (length src)) _ (record { here = x .inside; stops = tt })
@@ -104,7 +104,7 @@ module _ (src : List ℕ) (k : ℕ) (n : NameTable k) (what : Repeat) where
   unfolding avoidDecl avoidList
   avoid-in s h t1 t t10 =
       on-test (Sited3 src) (leb (length src) (s .at)) _ _ (λ e. record { here = h; stops = tt })
-      (λ e. go (gapAt false src (s .at)) (gap-in false src (s .at) h))
+      (λ e. go (gapAt (s .kind) false src (s .at)) (gap-in (s .kind) false src (s .at) h))
     where
       go : (g : Gap) → GapIn src (s .at) g → Sited3 src (avoidFrom g src s k what t1 t t10)
       go (GapTo i m) x = turns-keep (Sited3 src) (avoidTurn src k what) avoid-turn-in (suc (length src)) _ (record { here = x .inside; stops = tt })

@@ -71,7 +71,7 @@ turn-in src which o x = go (ends src (o .state .at))
 -- `%token` and `%expect-unused`
 pub list-in : (src : List ℕ) (s : State) → s .at ≤ length src → (which : Bool) (t : List ℕ) → Sited1 src (listDecl src s which t)
 unfolding listDecl percentList
-list-in src s h which t = go (gapAt false src (s .at)) (gap-in false src (s .at) h)
+list-in src s h which t = go (gapAt (s .kind) false src (s .at)) (gap-in (s .kind) false src (s .at) h)
   where
     go : (g : Gap) → GapIn src (s .at) g → Sited1 src (listFrom g src s which t)
     go (GapTo i n) x = turns-keep (Sited1 src) (listTurn src which) (turn-in src which) (suc (length src)) _ (record { here = x .inside; stops = tt })

@@ -60,18 +60,18 @@ admits src kind fit = on-test (Admits src) (ltb kind 1 || ltb 3 kind) _ _ (λ e.
     by false = tt
 
 -- The sections of a source: a refusal is a fatal one of the source.
-sections-stop : (src : List ℕ) (kind : ℕ) (T : Tables) → Stops src (sectionsAll src kind fresh T .answer)
+sections-stop : (src : List ℕ) (kind : ℕ) (T : Tables) → Stops src (sectionsAll src (fresh kind) T .answer)
 unfolding sectionsAll restAll
-sections-stop src kind T = let o = declAll src kind fresh (declared T) in go (o .answer) o (declarations-in src kind fresh (declared T) (omega arith))
+sections-stop src kind T = let o = declAll src (fresh kind) (declared T) in go (o .answer) o (declarations-in src (fresh kind) (declared T) (omega arith))
   where
     rest : (a : Answer) (r : Ruled) → Sited src a (r .state) → Stops src (restFrom a src r .answer)
     rest Going r x = programs-in src (r .state) (x .here) .stops
     rest Done r x = tt
     rest (Refused f) r x = x .stops
 
-    go : (a : Answer) (o : Out) → Sited src a (o .state) → Stops src (sectionsFrom a src kind o T .answer)
+    go : (a : Answer) (o : Out) → Sited src a (o .state) → Stops src (sectionsFrom a src o T .answer)
     go Going o x = x .here
-    go Done o x = let r = rulesAll src kind (o .state) (o .tables .t1) (T .t7) (T .t8) (T .t9) in rest (r .answer) r (rules-in src kind (o .state) (o .tables .t1) (T .t7) (T .t8) (T .t9) (x .here))
+    go Done o x = let r = rulesAll src (o .state) (o .tables .t1) (T .t7) (T .t8) (T .t9) in rest (r .answer) r (rules-in src (o .state) (o .tables .t1) (T .t7) (T .t8) (T .t9) (x .here))
     go (Refused f) o x = x .stops
 
 -- "10 repeats (number, first place, repeated place)": whole rows of the source, and zeros behind them, after any read, also one that was stopped.
@@ -92,7 +92,7 @@ unfolding readAll readNames attempted
 read-repeats src kind T X = go (admitted src kind (sized T X)) (admits src kind (sized T X))
   where
     go : (m : Admission) → Admits src m → RepeatsListed src (filledIn src (indexed src X (finishedRun (attemptOf m src kind (zeroAll T)))))
-    go Fit h = let r = sectionsAll src kind fresh (zeroAll T) in finished-listed X (r .answer) (r .state) (r .tables) (sections-far src kind T h .far)
+    go Fit h = let r = sectionsAll src (fresh kind) (zeroAll T) in finished-listed X (r .answer) (r .state) (r .tables) (sections-far src kind T h .far)
     go (Unfit f) h = rows-zeroed _ (T .t10)
 
 -- What a verdict tells: a refusal is a fatal one of the source, or it is the first repeat.
@@ -140,7 +140,7 @@ unfolding readAll readNames attempted
 read-verdict src kind T X = go (admitted src kind (sized T X)) (admits src kind (sized T X))
   where
     go : (m : Admission) → Admits src m → let o = filledIn src (indexed src X (finishedRun (attemptOf m src kind (zeroAll T)))) in Verdicts src o (o .answer)
-    go Fit h = let r = sectionsAll src kind fresh (zeroAll T) in finished-verdict X (r .answer) (r .state) (r .tables) (sections-far src kind T h .far) (sections-stop src kind (zeroAll T))
+    go Fit h = let r = sectionsAll src (fresh kind) (zeroAll T) in finished-verdict X (r .answer) (r .state) (r .tables) (sections-far src kind T h .far) (sections-stop src kind (zeroAll T))
     go (Unfit f) h = stopped-verdict src _ f h
 
 -- "With repeats only, the number is the first repeat's": number and place of such an answer are those of the first row of table 10.

@@ -48,7 +48,7 @@ module _ (src : List ℕ) (s : State) (h : s .at ≤ length src) where
   -- spacing, a mark, and spacing again
   mark-in : (word : List ℕ) (cause : Cause) → Sited0 src (passMark src s word cause)
   unfolding passMark
-  mark-in word cause = go (gapAt true src (s .at)) (gap-in true src (s .at) h)
+  mark-in word cause = go (gapAt (s .kind) true src (s .at)) (gap-in (s .kind) true src (s .at) h)
     where
       go : (g : Gap) → GapIn src (s .at) g → Sited0 src (markGap g src s word cause)
       go (GapTo i n) x =
@@ -80,7 +80,7 @@ module _ (src : List ℕ) (s : State) (h : s .at ≤ length src) where
   unfolding programsFrom
   programs-in =
       on-test (Sited0 src) (startsAt percents src (s .at)) _ _
-      (λ e. go (gapAt true src (s .at + 2)) (gap-in true src (s .at + 2) (mark-fits percents src (s .at) h e)))
+      (λ e. go (gapAt (s .kind) true src (s .at + 2)) (gap-in (s .kind) true src (s .at + 2) (mark-fits percents src (s .at) h e)))
       (λ e. record { here = h; stops = tt })
     where
       go : (g : Gap) → GapIn src (s .at + 2) g → Sited0 src (programsGap g src s)
@@ -88,10 +88,10 @@ module _ (src : List ℕ) (s : State) (h : s .at ≤ length src) where
       go (GapRefused f) x = record { here = h; stops = x }
 
 -- the type of a rule, by the kind
-type-in : (src : List ℕ) (kind : ℕ) (s : State) → s .at ≤ length src → SitedType src (ruleType src kind s)
+type-in : (src : List ℕ) (s : State) → s .at ≤ length src → SitedType src (ruleType src s)
 unfolding ruleType arrowType
-type-in src kind s h =
-    on-test (SitedType src) (eqb kind 2) _ _
+type-in src s h =
+    on-test (SitedType src) (eqb (s .kind) 2) _ _
     (λ e. let o = passMark src s (45 ∷ 62 ∷ []) MissingRightArrow in go (o .answer) (o .state) (mark-in src s h (45 ∷ 62 ∷ []) MissingRightArrow))
     (λ e. record { here = h; stops = tt })
   where
@@ -100,9 +100,9 @@ type-in src kind s h =
     go Done u x = x
     go (Refused f) u x = x
 
-module _ (src : List ℕ) (kind : ℕ) (s : State) (h : s .at ≤ length src) where
+module _ (src : List ℕ) (s : State) (h : s .at ≤ length src) where
   -- the head of a rule
-  head-in : (t7 : List ℕ) → SitedHead src (ruleHead src kind s t7)
+  head-in : (t7 : List ℕ) → SitedHead src (ruleHead src s t7)
   unfolding ruleHead namedHead
   head-in t7 = go (nameAt src (s .at)) (name-placed src (s .at) (nameAt src (s .at)) refl .1)
     where
@@ -111,12 +111,12 @@ module _ (src : List ℕ) (kind : ℕ) (s : State) (h : s .at ≤ length src) wh
       typed j p Done o x = x
       typed j p (Refused f) o x = x
 
-      go : (n : Name) → Named src (s .at) n → SitedHead src (headFound n src kind s t7)
+      go : (n : Name) → Named src (s .at) n → SitedHead src (headFound n src s t7)
       go (NameTo j) x =
           let a = x .0 in
           let b = x .1 in
-          let o = ruleType src kind (withAt (firstStart s (s .at) j) j) in
-          typed j (record { onward = omega arith; inside = b }) (o .answer) o (type-in src kind (withAt (firstStart s (s .at) j) j) b)
+          let o = ruleType src (withAt (firstStart s (s .at) j) j) in
+          typed j (record { onward = omega arith; inside = b }) (o .answer) o (type-in src (withAt (firstStart s (s .at) j) j) b)
       go (NoName k) x = record { here = h; stops = omega arith }
 
   -- its body
@@ -130,33 +130,33 @@ module _ (src : List ℕ) (kind : ℕ) (s : State) (h : s .at ≤ length src) wh
       go (Refused f) u x = x
 
 -- a rule, and the spacing behind it
-next-in : (src : List ℕ) (kind : ℕ) (s : State) → s .at ≤ length src → (t1 t7 t8 t9 : List ℕ) → SitedRules src (nextRule src kind s t1 t7 t8 t9)
+next-in : (src : List ℕ) (s : State) → s .at ≤ length src → (t1 t7 t8 t9 : List ℕ) → SitedRules src (nextRule src s t1 t7 t8 t9)
 unfolding nextRule ruleStep
-next-in src kind s h t1 t7 t8 t9 =
-    let p = ruleHead src kind s t7 in
-    let x = go (p .answer) p (head-in src kind s h t7) in
-    pass-in src false (ruleStep src kind s t1 t7 t8 t9 .state .at) (x .here) x
+next-in src s h t1 t7 t8 t9 =
+    let p = ruleHead src s t7 in
+    let x = go (p .answer) p (head-in src s h t7) in
+    pass-in src false (ruleStep src s t1 t7 t8 t9 .state .at) (x .here) x
   where
     go : (a : Answer) (p : Heading) → Sited src a (p .state) → SitedRules src (ruleHeaded a src p t1 t8 t9)
-    go Going p x = body-in src kind (p .state) (x .here) (p .row) t1 t8 t9
+    go Going p x = body-in src (p .state) (x .here) (p .row) t1 t8 t9
     go Done p x = x
     go (Refused f) p x = x
 
-turn-in : (src : List ℕ) (kind : ℕ) (o : Ruled) → SitedRules src o → Either (SitedRules src) (SitedRules src) (rulesTurn src kind o)
+turn-in : (src : List ℕ) (o : Ruled) → SitedRules src o → Either (SitedRules src) (SitedRules src) (rulesTurn src o)
 unfolding rulesTurn
-turn-in src kind o x = go (leb (length src) (o .state .at)) (startsAt percents src (o .state .at))
+turn-in src o x = go (leb (length src) (o .state .at)) (startsAt percents src (o .state .at))
   where
-    go : (b c : Bool) → Either (SitedRules src) (SitedRules src) (ruleOrEnd b c o (nextRule src kind (o .state) (o .t1) (o .t7) (o .t8) (o .t9)))
+    go : (b c : Bool) → Either (SitedRules src) (SitedRules src) (ruleOrEnd b c o (nextRule src (o .state) (o .t1) (o .t7) (o .t8) (o .t9)))
     go true c = x
     go false true = x
-    go false false = let p = nextRule src kind (o .state) (o .t1) (o .t7) (o .t8) (o .t9) in onward-keep (SitedRules src) (p .answer) p (next-in src kind (o .state) (x .here) (o .t1) (o .t7) (o .t8) (o .t9))
+    go false false = let p = nextRule src (o .state) (o .t1) (o .t7) (o .t8) (o .t9) in onward-keep (SitedRules src) (p .answer) p (next-in src (o .state) (x .here) (o .t1) (o .t7) (o .t8) (o .t9))
 
 -- The rules section.
-pub rules-in : (src : List ℕ) (kind : ℕ) (s : State) (t1 t7 t8 t9 : List ℕ) → s .at ≤ length src → SitedRules src (rulesAll src kind s t1 t7 t8 t9)
+pub rules-in : (src : List ℕ) (s : State) (t1 t7 t8 t9 : List ℕ) → s .at ≤ length src → SitedRules src (rulesAll src s t1 t7 t8 t9)
 unfolding rulesAll rulesRun
-rules-in src kind s t1 t7 t8 t9 h = let o = passMark src s percents UnknownDeclaration in go (o .answer) (o .state) (mark-in src s h percents UnknownDeclaration)
+rules-in src s t1 t7 t8 t9 h = let o = passMark src s percents UnknownDeclaration in go (o .answer) (o .state) (mark-in src s h percents UnknownDeclaration)
   where
-    go : (a : Answer) (u : State) → Sited src a u → SitedRules src (rulesPassed a src kind u t1 t7 t8 t9)
-    go Going u x = turns-keep (SitedRules src) (rulesTurn src kind) (turn-in src kind) (suc (length src)) _ (record { here = x .here; stops = tt })
+    go : (a : Answer) (u : State) → Sited src a u → SitedRules src (rulesPassed a src u t1 t7 t8 t9)
+    go Going u x = turns-keep (SitedRules src) (rulesTurn src) (turn-in src) (suc (length src)) _ (record { here = x .here; stops = tt })
     go Done u x = x
     go (Refused f) u x = x

@@ -44,7 +44,7 @@ module _ (src : List ℕ) (s : State) (h : s .at ≤ length src) where
 
   pub start-in : (t : List ℕ) → Sited1 src (startDecl src s t)
   unfolding startDecl
-  start-in t = go (gapAt false src (s .at)) (gap-in false src (s .at) h)
+  start-in t = go (gapAt (s .kind) false src (s .at)) (gap-in (s .kind) false src (s .at) h)
     where
       named : (i : ℕ) → i ≤ length src → (n : Name) → Named src i n → Sited1 src (startName n i src s t)
       named i l (NameTo j) x = let a = x .0 in let b = x .1 in pass-in src false j b (start-named i j t (record { onward = omega arith; inside = b }))
@@ -65,7 +65,7 @@ module _ (src : List ℕ) (s : State) (h : s .at ≤ length src) where
 
   pub expect-in : (rr : Bool) (t : List ℕ) → Sited1 src (expectDecl src s rr t)
   unfolding expectDecl
-  expect-in rr t = go (gapAt false src (s .at)) (gap-in false src (s .at) h)
+  expect-in rr t = go (gapAt (s .kind) false src (s .at)) (gap-in (s .kind) false src (s .at) h)
     where
       counted : (i : ℕ) → i ≤ length src → (n : Int) → Counted src i n → Sited1 src (expectInt n i src s rr t)
       counted i l (Value v j) x = let a = x .0 in let b = x .1 in pass-in src false j b (expect-given rr v i j t (record { onward = omega arith; inside = b }))
@@ -87,7 +87,7 @@ module _ (src : List ℕ) (s : State) (h : s .at ≤ length src) where
 
   pub actiontype-in : (t : List ℕ) → Sited1 src (actiontypeDecl src s t)
   unfolding actiontypeDecl
-  actiontype-in t = go (gapAt false src (s .at)) (gap-in false src (s .at) h)
+  actiontype-in t = go (gapAt (s .kind) false src (s .at)) (gap-in (s .kind) false src (s .at) h)
     where
       go : (g : Gap) → GapIn src (s .at) g → Sited1 src (actiontypeFrom g src s t)
       go (GapTo i n) x = let e = line-end src i (x .inside) in pass-in src false (lineEndAt src i) (e .1) (actiontype-named i (lineEndAt src i) t (record { onward = e .0; inside = e .1 }))
@@ -96,7 +96,7 @@ module _ (src : List ℕ) (s : State) (h : s .at ≤ length src) where
   -- `%parse-param`
   typed-in : (a b k : ℕ) → k ≤ length src → Sited0 src (paramTyped src s a b k)
   unfolding paramTyped
-  typed-in a b k l = go (gapAt false src k) (gap-in false src k l)
+  typed-in a b k l = go (gapAt (s .kind) false src k) (gap-in (s .kind) false src k l)
     where
       go : (g : Gap) → GapIn src k g → Sited0 src (paramGiven g src s a b)
       go (GapTo i n) x = past-in src false (lineEndAt src i) _ h (line-end src i (x .inside) .1)
@@ -104,7 +104,7 @@ module _ (src : List ℕ) (s : State) (h : s .at ≤ length src) where
 
   pub param-in : Sited0 src (paramDecl src s)
   unfolding paramDecl
-  param-in = go (gapAt false src (s .at)) (gap-in false src (s .at) h)
+  param-in = go (gapAt (s .kind) false src (s .at)) (gap-in (s .kind) false src (s .at) h)
     where
       text : (i : ℕ) (t : ColonText) → ColonTexts src i t → Sited0 src (paramText t src s)
       text i (Upto j n p) x = let b = x .1 in typed-in (p .from) (p .to) (j + 1) (omega arith)
@@ -117,7 +117,7 @@ module _ (src : List ℕ) (s : State) (h : s .at ≤ length src) where
   -- `%parse-generics`
   pub generics-in : Sited0 src (genericsDecl src s)
   unfolding genericsDecl
-  generics-in = go (gapAt false src (s .at)) (gap-in false src (s .at) h)
+  generics-in = go (gapAt (s .kind) false src (s .at)) (gap-in (s .kind) false src (s .at) h)
     where
       go : (g : Gap) → GapIn src (s .at) g → Sited0 src (genericsFrom g src s)
       go (GapTo i n) x = past-in src false (lineEndAt src i) _ h (line-end src i (x .inside) .1)

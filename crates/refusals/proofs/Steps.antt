@@ -28,9 +28,9 @@ use Rattle.grammar.specs.State.{Passed, count, gapOf, gapAt, pushed, pushRow, l
 use Rattle.refusals.specs.Steps.{Stops, GapIn, Sited, Sited0, Sited1, Sited2}
 
 -- where spacing leads, or stops
-pub gap-in : (ok : Bool) (src : List ℕ) (at : ℕ) → at ≤ length src → GapIn src at (gapAt ok src at)
+pub gap-in : (kind : ℕ) (ok : Bool) (src : List ℕ) (at : ℕ) → at ≤ length src → GapIn src at (gapAt kind ok src at)
 unfolding gapAt gapOf
-gap-in ok src at h = go (spacesAt ok src at) (spaces ok src at h)
+gap-in kind ok src at h = go (spacesAt kind ok src at) (spaces kind ok src at h)
   where
     go : (r : Spaced) → Spaces src at r → GapIn src at (gapOf r)
     go (To i n) x = let a = x .0 in record { onward = omega arith; inside = x .1 }
@@ -41,7 +41,7 @@ module _ (src : List ℕ) where
   -- spacing behind a step
   pub past-in : (line : Bool) (j : ℕ) (s : State) → s .at ≤ length src → j ≤ length src → Sited0 src (pastGap src line j s)
   unfolding pastGap
-  past-in line j s h k = go (gapAt true src j) (gap-in true src j k)
+  past-in line j s h k = go (gapAt (s .kind) true src j) (gap-in (s .kind) true src j k)
     where
       go : (g : Gap) → GapIn src j g → Sited0 src (past line g s)
       go (GapTo i n) x = record { here = x .inside; stops = on-test (Stops src) (line && not (eqb n 0)) Done Going (λ e. tt) (λ e. tt) }

@@ -70,7 +70,7 @@ module _ {src : List ℕ} {done : ℕ} {s : State} {T : Tables} (f : Far src don
   -- spacing, a mark, and spacing again
   pub mark-far : (word : List ℕ) (cause : Cause) → Uncounted src done T s (passMark src s word cause .state)
   unfolding passMark
-  mark-far word cause = go (gapAt true src (s .at)) (gapped true src (s .at) (f .here))
+  mark-far word cause = go (gapAt (s .kind) true src (s .at)) (gapped (s .kind) true src (s .at) (f .here))
     where
       past : (j : ℕ) → s .at ≤ j → j ≤ length src → Uncounted src done T s (pastGap src false j s .state)
       past j h k = record { far = past-far f false j h k; forth = pass-onward src j s Going k .forth h; counts = pass-counts src false j Going s }
@@ -114,7 +114,7 @@ module _ {src : List ℕ} {done : ℕ} {s : State} {T : Tables} (f : Far src don
   unfolding programsFrom
   programs-far =
       on-test (λ (o : Out0). Uncounted src done T s (o .state)) (startsAt percents src (s .at)) _ _
-      (λ e. let h = mark-fits percents src (s .at) (f .here) e in go (gapAt true src (s .at + 2)) (gapped true src (s .at + 2) h))
+      (λ e. let h = mark-fits percents src (s .at) (f .here) e in go (gapAt (s .kind) true src (s .at + 2)) (gapped (s .kind) true src (s .at + 2) h))
       (λ e. still)
     where
       go : (g : Gap) → Gapped src (s .at + 2) g → Uncounted src done T s (programsGap g src s .state)
@@ -129,10 +129,10 @@ module _ {src : List ℕ} {done : ℕ} {s : State} {T : Tables} (f : Far src don
       go (GapRefused e) x = still
 
 -- the type of a rule, by the kind
-pub type-far : {src : List ℕ} {done : ℕ} {s : State} {T : Tables} → Far src done s T → (kind : ℕ) → TypeFar src done T s (ruleType src kind s)
+pub type-far : {src : List ℕ} {done : ℕ} {s : State} {T : Tables} → Far src done s T → TypeFar src done T s (ruleType src s)
 unfolding ruleType arrowType
-type-far {src} {done} {s} {T} f kind =
-    on-test (TypeFar src done T s) (eqb kind 2) _ _
+type-far {src} {done} {s} {T} f =
+    on-test (TypeFar src done T s) (eqb (s .kind) 2) _ _
     (λ e. let o = passMark src s (45 ∷ 62 ∷ []) MissingRightArrow in go (o .answer) (o .state) (mark-far f (45 ∷ 62 ∷ []) MissingRightArrow))
     (λ e. record { to = still f; given = f .actiontype })
   where
@@ -182,10 +182,10 @@ rule-far {src} {done} {s} {T} f from to given p q =
     })
 
 -- the head of a rule, behind its name and from it on
-module _ {src : List ℕ} {done : ℕ} {s : State} {T : Tables} (f : Far src done s T) (kind : ℕ) where
-  named-far : (j : ℕ) → s .at < j → j ≤ length src → HeadFar src done T s (s .at + 1) (namedHead src kind s j (T .t7))
+module _ {src : List ℕ} {done : ℕ} {s : State} {T : Tables} (f : Far src done s T) where
+  named-far : (j : ℕ) → s .at < j → j ≤ length src → HeadFar src done T s (s .at + 1) (namedHead src s j (T .t7))
   unfolding namedHead
-  named-far j h k = go (ruleType src kind v .answer) (ruleType src kind v) (type-far w kind)
+  named-far j h k = go (ruleType src v .answer) (ruleType src v) (type-far w)
     where
       p : Passed src (s .at) j
       p = record { onward = omega arith; inside = k }
@@ -207,11 +207,11 @@ module _ {src : List ℕ} {done : ℕ} {s : State} {T : Tables} (f : Far src don
       go Done o x = record { far = x .to .far; beyond = λ g. absurd (done-going g); symbols = same (o .state) (x .to .counts); row = λ g. absurd (done-going g) }
       go (Refused e) o x = record { far = x .to .far; beyond = λ g. absurd (refused-going e g); symbols = same (o .state) (x .to .counts); row = λ g. absurd (refused-going e g) }
 
-  pub head-far : HeadFar src done T s (s .at + 1) (ruleHead src kind s (T .t7))
+  pub head-far : HeadFar src done T s (s .at + 1) (ruleHead src s (T .t7))
   unfolding ruleHead
   head-far = go (nameAt src (s .at)) (name-placed src (s .at) (nameAt src (s .at)) refl .1)
     where
-      go : (n : Name) → Named src (s .at) n → HeadFar src done T s (s .at + 1) (headFound n src kind s (T .t7))
+      go : (n : Name) → Named src (s .at) n → HeadFar src done T s (s .at + 1) (headFound n src s (T .t7))
       go (NameTo j) x = named-far j (x .0) (x .1)
       go (NoName k) x = record { far = f; beyond = λ g. absurd (refused-going _ g); symbols = refl; row = λ g. absurd (refused-going _ g) }
 
@@ -255,11 +255,11 @@ RuledFar src T at o = RuleFar src (ruled T o) at (o .answer) (o .state)
 abbrev pub WholeFar : List ℕ → Tables → Ruled → Type 0
 WholeFar src T o = Whole src (ruled T o) (o .answer) (o .state)
 
-module _ {src : List ℕ} {done : ℕ} {s : State} (T : Tables) (f : Far src done s T) (e : done ≡ count s symbols) (kind : ℕ) where
+module _ {src : List ℕ} {done : ℕ} {s : State} (T : Tables) (f : Far src done s T) (e : done ≡ count s symbols) where
   -- a rule,
-  pub step-far : RuledFar src T (s .at) (ruleStep src kind s (T .t1) (T .t7) (T .t8) (T .t9))
+  pub step-far : RuledFar src T (s .at) (ruleStep src s (T .t1) (T .t7) (T .t8) (T .t9))
   unfolding ruleStep
-  step-far = let h = ruleHead src kind s (T .t7) in go (h .answer) h refl (head-far f kind)
+  step-far = let h = ruleHead src s (T .t7) in go (h .answer) h refl (head-far f)
     where
       go : (a : Answer) (h : Heading) → h .answer ≡ a → HeadFar src done T s (s .at + 1) h → RuledFar src T (s .at) (ruleHeaded a src h (T .t1) (T .t8) (T .t9))
       go Going h q x =
@@ -270,10 +270,10 @@ module _ {src : List ℕ} {done : ℕ} {s : State} (T : Tables) (f : Far src don
       go (Refused r) h q x = record { read = record { done = done; far = x .far; whole = λ t. e ∙ sym (x .symbols) }; further = λ g. absurd (refused-going r g) }
 
   -- and the spacing behind it
-  pub next-far : RuledFar src T (s .at) (nextRule src kind s (T .t1) (T .t7) (T .t8) (T .t9))
+  pub next-far : RuledFar src T (s .at) (nextRule src s (T .t1) (T .t7) (T .t8) (T .t9))
   unfolding nextRule
   next-far =
-      let o = ruleStep src kind s (T .t1) (T .t7) (T .t8) (T .t9) in
+      let o = ruleStep src s (T .t1) (T .t7) (T .t8) (T .t9) in
       let j = o .state .at in
       let x = step-far in
       let h = x .read .far .here in
@@ -289,9 +289,9 @@ Sofar src T o = Far src (count (o .state) symbols) (o .state) (ruled T o)
 abbrev Onto : List ℕ → Tables → Ruled → Ruled → Type 0
 Onto src T o p = Sofar src T p × (length src - p .state .at < length src - o .state .at)
 
-turn-far : (src : List ℕ) (T : Tables) (kind : ℕ) (o : Ruled) → Sofar src T o → Either (Onto src T o) (WholeFar src T) (rulesTurn src kind o)
+turn-far : (src : List ℕ) (T : Tables) (o : Ruled) → Sofar src T o → Either (Onto src T o) (WholeFar src T) (rulesTurn src o)
 unfolding rulesTurn
-turn-far src T kind o f = go (leb (length src) (o .state .at)) (startsAt percents src (o .state .at))
+turn-far src T o f = go (leb (length src) (o .state .at)) (startsAt percents src (o .state .at))
   where
     next : (a : Answer) (p : Ruled) → p .answer ≡ a → RuledFar src T (o .state .at) p → Either (Onto src T o) (WholeFar src T) (onward a p)
     next Going p q x =
@@ -301,24 +301,24 @@ turn-far src T kind o f = go (leb (length src) (o .state .at)) (startsAt percent
     next Done p q x = x .read
     next (Refused r) p q x = x .read
 
-    go : (b c : Bool) → Either (Onto src T o) (WholeFar src T) (ruleOrEnd b c o (nextRule src kind (o .state) (o .t1) (o .t7) (o .t8) (o .t9)))
+    go : (b c : Bool) → Either (Onto src T o) (WholeFar src T) (ruleOrEnd b c o (nextRule src (o .state) (o .t1) (o .t7) (o .t8) (o .t9)))
     go true c = record { done = _; far = f; whole = λ t. refl }
     go false true = record { done = _; far = f; whole = λ t. refl }
-    go false false = let p = nextRule src kind (o .state) (o .t1) (o .t7) (o .t8) (o .t9) in next (p .answer) p refl (next-far (ruled T o) f refl kind)
+    go false false = let p = nextRule src (o .state) (o .t1) (o .t7) (o .t8) (o .t9) in next (p .answer) p refl (next-far (ruled T o) f refl)
 
 -- Rules up to the next `%%` or the source's end.
-pub run-far : {src : List ℕ} {done : ℕ} {s : State} (T : Tables) → Far src done s T → done ≡ count s symbols → (kind : ℕ) → WholeFar src T (rulesRun src kind s (T .t1) (T .t7) (T .t8) (T .t9))
+pub run-far : {src : List ℕ} {done : ℕ} {s : State} (T : Tables) → Far src done s T → done ≡ count s symbols → WholeFar src T (rulesRun src s (T .t1) (T .t7) (T .t8) (T .t9))
 unfolding rulesRun
-run-far {src} {done} {s} T f e kind =
-    turns-end (Sofar src T) (WholeFar src T) (λ o. length src - o .state .at) (rulesTurn src kind) (turn-far src T kind) (suc (length src)) _ (omega arith)
+run-far {src} {done} {s} T f e =
+    turns-end (Sofar src T) (WholeFar src T) (λ o. length src - o .state .at) (rulesTurn src) (turn-far src T) (suc (length src)) _ (omega arith)
     (told (λ (n : ℕ). Far src n s T) e f)
 
 -- The rules section keeps soundness so far, whatever its answer; unless it was refused, the productions' ranges end behind the last symbol.
-pub rules-far : {src : List ℕ} {done : ℕ} {s : State} (T : Tables) → Far src done s T → done ≡ count s symbols → (kind : ℕ) → WholeFar src T (rulesAll src kind s (T .t1) (T .t7) (T .t8) (T .t9))
+pub rules-far : {src : List ℕ} {done : ℕ} {s : State} (T : Tables) → Far src done s T → done ≡ count s symbols → WholeFar src T (rulesAll src s (T .t1) (T .t7) (T .t8) (T .t9))
 unfolding rulesAll
-rules-far {src} {done} {s} T f e kind = let o = passMark src s percents UnknownDeclaration in go (o .answer) (o .state) (mark-far f percents UnknownDeclaration)
+rules-far {src} {done} {s} T f e = let o = passMark src s percents UnknownDeclaration in go (o .answer) (o .state) (mark-far f percents UnknownDeclaration)
   where
-    go : (a : Answer) (u : State) → Uncounted src done T s u → WholeFar src T (rulesPassed a src kind u (T .t1) (T .t7) (T .t8) (T .t9))
-    go Going u x = run-far T (x .far) (rw (x .counts) e) kind
+    go : (a : Answer) (u : State) → Uncounted src done T s u → WholeFar src T (rulesPassed a src u (T .t1) (T .t7) (T .t8) (T .t9))
+    go Going u x = run-far T (x .far) (rw (x .counts) e)
     go Done u x = record { done = done; far = x .far; whole = λ t. rw (x .counts) e }
     go (Refused r) u x = record { done = done; far = x .far; whole = λ t. rw (x .counts) e }

@@ -47,7 +47,7 @@ mark-fits [] s i h e = omega arith
 mark-fits (c ∷ cs) s i h e = starts-fits (c ∷ cs) s i e (omega arith)
 
 -- spacing, a mark, and spacing again
-module _ (src : List ℕ) (s : State) (word : List ℕ) (cause : Cause) (g : Gap) (q : g ≡ gapAt true src (s .at)) where
+module _ (src : List ℕ) (s : State) (word : List ℕ) (cause : Cause) (g : Gap) (q : g ≡ gapAt (s .kind) true src (s .at)) where
   module _ (i n : ℕ) (e : g ≡ GapTo i n) (b : Bool) (is : b ≡ startsAt word src i) where
     pub mark-passed : (o : Out0) → b ≡ true → o ≡ pastGap src false (i + length word) s → o ≡ passMark src s word cause
     unfolding passMark
@@ -101,12 +101,12 @@ module _ (src : List ℕ) (s : State) (o : Out0) (q : o ≡ passMark src s (45 �
   unfolding arrowType
   arrow-refused f e = rw (← q, e)
 
-module _ (src : List ℕ) (kind : ℕ) (s : State) where
-  pub type-arrow : (z : Typing) → eqb kind 2 ≡ true → z ≡ arrowType src s → z ≡ ruleType src kind s
+module _ (src : List ℕ) (s : State) where
+  pub type-arrow : (z : Typing) → eqb (s .kind) 2 ≡ true → z ≡ arrowType src s → z ≡ ruleType src s
   unfolding ruleType
   type-arrow z e h = rw (ruleType, e) h
 
-  pub type-given : eqb kind 2 ≡ false → record { answer = Going; state = s; given = s .actiontype } ≡ ruleType src kind s
+  pub type-given : eqb (s .kind) 2 ≡ false → record { answer = Going; state = s; given = s .actiontype } ≡ ruleType src s
   unfolding ruleType
   type-given e = rw (ruleType, e)
 
@@ -128,25 +128,25 @@ module _ (src : List ℕ) (s : State) (from to : ℕ) (given : Part) (t7 : List 
       rw (← p, e, c) (ap (newRule (count s rules)) ((rw k at h) ∙ ap (λ (y : List ℕ). pushRow s rules (from ∷ to ∷ y) t7) (three given)))
 
 -- the head behind the name
-module _ (src : List ℕ) (kind : ℕ) (s : State) (j : ℕ) (t7 : List ℕ) (first : State) (z : Typing) (k : first ≡ firstStart s (s .at) j) (q : z ≡ ruleType src kind (withAt first j)) where
-  pub head-going : (h : Heading) → z .answer ≡ Going → h ≡ enterRule src (z .state) (s .at) j (z .given) t7 → h ≡ namedHead src kind s j t7
+module _ (src : List ℕ) (s : State) (j : ℕ) (t7 : List ℕ) (first : State) (z : Typing) (k : first ≡ firstStart s (s .at) j) (q : z ≡ ruleType src (withAt first j)) where
+  pub head-going : (h : Heading) → z .answer ≡ Going → h ≡ enterRule src (z .state) (s .at) j (z .given) t7 → h ≡ namedHead src s j t7
   unfolding namedHead
   head-going h e w = rw (← k, ← q, e) w
 
-  pub head-done : z .answer ≡ Done → record { answer = Done; state = z .state; row = 0; t7 = t7 } ≡ namedHead src kind s j t7
+  pub head-done : z .answer ≡ Done → record { answer = Done; state = z .state; row = 0; t7 = t7 } ≡ namedHead src s j t7
   unfolding namedHead
   head-done e = rw (← k, ← q, e)
 
-  pub head-refused : (f : Refusal) → z .answer ≡ Refused f → record { answer = Refused f; state = z .state; row = 0; t7 = t7 } ≡ namedHead src kind s j t7
+  pub head-refused : (f : Refusal) → z .answer ≡ Refused f → record { answer = Refused f; state = z .state; row = 0; t7 = t7 } ≡ namedHead src s j t7
   unfolding namedHead
   head-refused f e = rw (← k, ← q, e)
 
-module _ (src : List ℕ) (kind : ℕ) (s : State) (t7 : List ℕ) (w : Name) (q : w ≡ nameAt src (s .at)) where
-  pub head-named : (j : ℕ) (h : Heading) → w ≡ NameTo j → h ≡ namedHead src kind s j t7 → h ≡ ruleHead src kind s t7
+module _ (src : List ℕ) (s : State) (t7 : List ℕ) (w : Name) (q : w ≡ nameAt src (s .at)) where
+  pub head-named : (j : ℕ) (h : Heading) → w ≡ NameTo j → h ≡ namedHead src s j t7 → h ≡ ruleHead src s t7
   unfolding ruleHead
   head-named j h e z = rw (← q, e) z
 
-  pub head-none : (k : ℕ) → w ≡ NoName k → record { answer = Refused (Fault IllegalName k); state = s; row = 0; t7 = t7 } ≡ ruleHead src kind s t7
+  pub head-none : (k : ℕ) → w ≡ NoName k → record { answer = Refused (Fault IllegalName k); state = s; row = 0; t7 = t7 } ≡ ruleHead src s t7
   unfolding ruleHead
   head-none k e = rw (← q, e)
 
@@ -164,7 +164,7 @@ module _ (src : List ℕ) (s : State) (b : Bool) (is : b ≡ startsAt percents s
   unfolding programsFrom
   no-programs e = rw (programsFrom, ← is, e)
 
-  module _ (t : b ≡ true) (g : Gap) (q : g ≡ gapAt true src (s .at + 2)) where
+  module _ (t : b ≡ true) (g : Gap) (q : g ≡ gapAt (s .kind) true src (s .at + 2)) where
     pub programs-text : (i n : ℕ) (y : Singles) → g ≡ GapTo i n → y ≡ withPrograms (s .singles) (At i (length src)) → record { answer = Going; state = withSingles (withAt s (length src)) y } ≡ programsFrom src s
     unfolding programsFrom
     programs-text i n y e h = rw (programsFrom, ← is, t, ← q, e, h)
@@ -188,16 +188,16 @@ module _ (src : List ℕ) (s : State) (row : ℕ) (t1 t8 t9 : List ℕ) (o : Out
   body-refused f e = rw (← q, e)
 
 -- a rule
-module _ (src : List ℕ) (kind : ℕ) (s : State) (t1 t7 t8 t9 : List ℕ) (h : Heading) (q : h ≡ ruleHead src kind s t7) where
-  pub rule-going : (z : Itemed) → h .answer ≡ Going → z ≡ ruleBody src (h .state) (h .row) t1 t8 t9 → withBody (h .t7) z ≡ ruleStep src kind s t1 t7 t8 t9
+module _ (src : List ℕ) (s : State) (t1 t7 t8 t9 : List ℕ) (h : Heading) (q : h ≡ ruleHead src s t7) where
+  pub rule-going : (z : Itemed) → h .answer ≡ Going → z ≡ ruleBody src (h .state) (h .row) t1 t8 t9 → withBody (h .t7) z ≡ ruleStep src s t1 t7 t8 t9
   unfolding ruleStep
   rule-going z e k = rw (← q, e) (ap (withBody (h .t7)) k)
 
-  pub rule-done : h .answer ≡ Done → record { answer = Done; state = h .state; t1 = t1; t7 = h .t7; t8 = t8; t9 = t9 } ≡ ruleStep src kind s t1 t7 t8 t9
+  pub rule-done : h .answer ≡ Done → record { answer = Done; state = h .state; t1 = t1; t7 = h .t7; t8 = t8; t9 = t9 } ≡ ruleStep src s t1 t7 t8 t9
   unfolding ruleStep
   rule-done e = rw (← q, e)
 
-  pub rule-refused : (f : Refusal) → h .answer ≡ Refused f → record { answer = Refused f; state = h .state; t1 = t1; t7 = h .t7; t8 = t8; t9 = t9 } ≡ ruleStep src kind s t1 t7 t8 t9
+  pub rule-refused : (f : Refusal) → h .answer ≡ Refused f → record { answer = Refused f; state = h .state; t1 = t1; t7 = h .t7; t8 = t8; t9 = t9 } ≡ ruleStep src s t1 t7 t8 t9
   unfolding ruleStep
   rule-refused f e = rw (← q, e)
 
@@ -213,9 +213,9 @@ pub moves-as : {src : List ℕ} {at after : ℕ} {a b : Answer} → a ≡ b → 
 moves-as e m = rw e at m
 
 -- and the spacing behind it
-pub rule-spaced : (src : List ℕ) (kind : ℕ) (s : State) (t1 t7 t8 t9 : List ℕ) (o : Ruled) (z : Out0) → o ≡ ruleStep src kind s t1 t7 t8 t9 → z ≡ passOn src false (o .state .at) (o .answer) (o .state) → spacedOut z o ≡ nextRule src kind s t1 t7 t8 t9
+pub rule-spaced : (src : List ℕ) (s : State) (t1 t7 t8 t9 : List ℕ) (o : Ruled) (z : Out0) → o ≡ ruleStep src s t1 t7 t8 t9 → z ≡ passOn src false (o .state .at) (o .answer) (o .state) → spacedOut z o ≡ nextRule src s t1 t7 t8 t9
 unfolding nextRule
-rule-spaced src kind s t1 t7 t8 t9 o z q h = rw (← q) (ap (λ (x : Out0). spacedOut x o) h)
+rule-spaced src s t1 t7 t8 t9 o z q h = rw (← q) (ap (λ (x : Out0). spacedOut x o) h)
 
 -- which is further on where the rule is, and goes on only where it does
 pub spaced-moves : (src : List ℕ) (at mid after : ℕ) (a b : Answer) → Moves src at a mid → Onward src mid mid b after → (b ≡ Going → a ≡ Going) → Moves src at b after
@@ -228,42 +228,42 @@ pub went : (src : List ℕ) (j : ℕ) (a : Answer) (s : State) (z : Out0) → z 
 went src j a s z e g = pass-going src false j a s (sym (ap (λ (x : Out0). x .answer) e) ∙ g) .went
 
 -- a turn of the rules
-module _ (src : List ℕ) (kind : ℕ) (s : State) (t1 t7 t8 t9 : List ℕ) where
+module _ (src : List ℕ) (s : State) (t1 t7 t8 t9 : List ℕ) where
   abbrev here : Ruled
   here = record { answer = Going; state = s; t1 = t1; t7 = t7; t8 = t8; t9 = t9 }
 
-  pub turn-end : length src ≤ s .at → rulesTurn src kind here ≡ stop here
+  pub turn-end : length src ≤ s .at → rulesTurn src here ≡ stop here
   unfolding rulesTurn
   turn-end h = rw (le-leb (length src) (s .at) h)
 
   module _ (h : s .at < length src) (b : Bool) (is : b ≡ startsAt percents src (s .at)) where
-    pub turn-percents : b ≡ true → rulesTurn src kind here ≡ stop here
+    pub turn-percents : b ≡ true → rulesTurn src here ≡ stop here
     unfolding rulesTurn
     turn-percents e = rw (lt-leb (length src) (s .at) h, ← is, e)
 
-    module _ (n : b ≡ false) (x : Answer) (u : State) (u1 u7 u8 u9 : List ℕ) (q : record { answer = x; state = u; t1 = u1; t7 = u7; t8 = u8; t9 = u9 } ≡ nextRule src kind s t1 t7 t8 t9) where
-      pub turn-more : x ≡ Going → rulesTurn src kind here ≡ more (record { answer = Going; state = u; t1 = u1; t7 = u7; t8 = u8; t9 = u9 })
+    module _ (n : b ≡ false) (x : Answer) (u : State) (u1 u7 u8 u9 : List ℕ) (q : record { answer = x; state = u; t1 = u1; t7 = u7; t8 = u8; t9 = u9 } ≡ nextRule src s t1 t7 t8 t9) where
+      pub turn-more : x ≡ Going → rulesTurn src here ≡ more (record { answer = Going; state = u; t1 = u1; t7 = u7; t8 = u8; t9 = u9 })
       unfolding rulesTurn
       turn-more e = rw (lt-leb (length src) (s .at) h, ← is, n, ← q, e)
 
-      pub turn-done : x ≡ Done → rulesTurn src kind here ≡ stop (record { answer = x; state = u; t1 = u1; t7 = u7; t8 = u8; t9 = u9 })
+      pub turn-done : x ≡ Done → rulesTurn src here ≡ stop (record { answer = x; state = u; t1 = u1; t7 = u7; t8 = u8; t9 = u9 })
       unfolding rulesTurn
       turn-done e = rw (lt-leb (length src) (s .at) h, ← is, n, ← q, e)
 
-      pub turn-refused : (f : Refusal) → x ≡ Refused f → rulesTurn src kind here ≡ stop (record { answer = x; state = u; t1 = u1; t7 = u7; t8 = u8; t9 = u9 })
+      pub turn-refused : (f : Refusal) → x ≡ Refused f → rulesTurn src here ≡ stop (record { answer = x; state = u; t1 = u1; t7 = u7; t8 = u8; t9 = u9 })
       unfolding rulesTurn
       turn-refused f e = rw (lt-leb (length src) (s .at) h, ← is, n, ← q, e)
 
 -- the section
-module _ (src : List ℕ) (kind : ℕ) (s : State) (t1 t7 t8 t9 : List ℕ) (o : Out0) (q : o ≡ passMark src s percents UnknownDeclaration) where
-  pub all-going : (z : Ruled) → o .answer ≡ Going → z ≡ rulesRun src kind (o .state) t1 t7 t8 t9 → z ≡ rulesAll src kind s t1 t7 t8 t9
+module _ (src : List ℕ) (s : State) (t1 t7 t8 t9 : List ℕ) (o : Out0) (q : o ≡ passMark src s percents UnknownDeclaration) where
+  pub all-going : (z : Ruled) → o .answer ≡ Going → z ≡ rulesRun src (o .state) t1 t7 t8 t9 → z ≡ rulesAll src s t1 t7 t8 t9
   unfolding rulesAll
   all-going z e h = rw (← q, e) h
 
-  pub all-done : o .answer ≡ Done → record { answer = Done; state = o .state; t1 = t1; t7 = t7; t8 = t8; t9 = t9 } ≡ rulesAll src kind s t1 t7 t8 t9
+  pub all-done : o .answer ≡ Done → record { answer = Done; state = o .state; t1 = t1; t7 = t7; t8 = t8; t9 = t9 } ≡ rulesAll src s t1 t7 t8 t9
   unfolding rulesAll
   all-done e = rw (← q, e)
 
-  pub all-refused : (f : Refusal) → o .answer ≡ Refused f → record { answer = Refused f; state = o .state; t1 = t1; t7 = t7; t8 = t8; t9 = t9 } ≡ rulesAll src kind s t1 t7 t8 t9
+  pub all-refused : (f : Refusal) → o .answer ≡ Refused f → record { answer = Refused f; state = o .state; t1 = t1; t7 = t7; t8 = t8; t9 = t9 } ≡ rulesAll src s t1 t7 t8 t9
   unfolding rulesAll
   all-refused f e = rw (← q, e)

@@ -37,7 +37,7 @@ module _ (k : ℕ) (src : List ℕ) where
   -- a mark, the start and the type leave every count
   pub mark-spares : (s : State) (word : List ℕ) (cause : Cause) → Spares k (s .counts) (passMark src s word cause .state .counts)
   unfolding passMark
-  mark-spares s word cause = go (gapAt true src (s .at))
+  mark-spares s word cause = go (gapAt (s .kind) true src (s .at))
     where
       by : (i : ℕ) (b : Bool) → startsAt word src i ≡ b → Spares k (s .counts) (markGap (GapTo i 0) src s word cause .state .counts)
       by i true e = rw (e, markGap) (spares-pass k src false (i + length word) Going s)
@@ -72,11 +72,11 @@ module _ (k : ℕ) (src : List ℕ) where
       go Done u = spares-none k (u .counts)
       go (Refused f) u = spares-none k (u .counts)
 
-  type-spares : (kind : ℕ) (s : State) → Spares k (s .counts) (ruleType src kind s .state .counts)
+  type-spares : (s : State) → Spares k (s .counts) (ruleType src s .state .counts)
   unfolding ruleType
-  type-spares kind s = go (eqb kind 2) refl
+  type-spares s = go (eqb (s .kind) 2) refl
     where
-      go : (b : Bool) → eqb kind 2 ≡ b → Spares k (s .counts) (ruleType src kind s .state .counts)
+      go : (b : Bool) → eqb (s .kind) 2 ≡ b → Spares k (s .counts) (ruleType src s .state .counts)
       go true e = rw (e, ruleType) (arrow s)
       go false e = rw (e, ruleType) (spares-none k (s .counts))
 
@@ -90,7 +90,7 @@ module _ (k : ℕ) (src : List ℕ) where
       go (GapRefused f) = spares-none k (s .counts)
 
       by : (b : Bool) → startsAt percents src (s .at) ≡ b → Spares k (s .counts) (programsFrom src s .state .counts)
-      by true e = rw (e, programsFrom) (go (gapAt true src (s .at + 2)))
+      by true e = rw (e, programsFrom) (go (gapAt (s .kind) true src (s .at + 2)))
       by false e = rw (e, programsFrom) (spares-none k (s .counts))
 
   -- a head leaves every count but that of table 7
@@ -103,23 +103,23 @@ module _ (k : ℕ) (src : List ℕ) where
         go (RowAt r) = spares-none k (s .counts)
         go NoRow = spares-push k s rules (ruleCells from to given) t7 seventh
 
-    named : (kind : ℕ) (s : State) (j : ℕ) (t7 : List ℕ) → Spares k (s .counts) (namedHead src kind s j t7 .state .counts)
+    named : (s : State) (j : ℕ) (t7 : List ℕ) → Spares k (s .counts) (namedHead src s j t7 .state .counts)
     unfolding namedHead
-    named kind s j t7 =
-        let ty = ruleType src kind (withAt (firstStart s (s .at) j) j) in
-        spares-on (spares-on (first-spares s (s .at) j) (type-spares kind (withAt (firstStart s (s .at) j) j))) (go (ty .answer) (ty .state) (ty .given))
+    named s j t7 =
+        let ty = ruleType src (withAt (firstStart s (s .at) j) j) in
+        spares-on (spares-on (first-spares s (s .at) j) (type-spares (withAt (firstStart s (s .at) j) j))) (go (ty .answer) (ty .state) (ty .given))
       where
         go : (a : Answer) (u : State) (given : Part) → Spares k (u .counts) (typedHead a src u given (s .at) j t7 .state .counts)
         go Going u given = enter u (s .at) j given t7
         go Done u given = spares-none k (u .counts)
         go (Refused f) u given = spares-none k (u .counts)
 
-    pub head-spares : (kind : ℕ) (s : State) (t7 : List ℕ) → Spares k (s .counts) (ruleHead src kind s t7 .state .counts)
+    pub head-spares : (s : State) (t7 : List ℕ) → Spares k (s .counts) (ruleHead src s t7 .state .counts)
     unfolding ruleHead
-    head-spares kind s t7 = go (nameAt src (s .at))
+    head-spares s t7 = go (nameAt src (s .at))
       where
-        go : (x : Name) → Spares k (s .counts) (headFound x src kind s t7 .state .counts)
-        go (NameTo j) = named kind s j t7
+        go : (x : Name) → Spares k (s .counts) (headFound x src s t7 .state .counts)
+        go (NameTo j) = named s j t7
         go (NoName i) = spares-none k (s .counts)
 
   -- a body leaves every count but those of tables 1, 8 and 9
@@ -138,11 +138,11 @@ module _ (src : List ℕ) (s : State) (t ix : List ℕ) (a : Answer) (q : State)
   pub by-mark : (k w name : ℕ) (word : List ℕ) (cause : Cause) → _≡_ {A = Out0} (record { answer = a; state = q }) (passMark src s word cause) → Tracked src k w name (s .counts) t ix → Tracked src k w name (q .counts) t ix
   by-mark k w name word cause e I = rw (ap (λ (o : Out0). o .state .counts) e) (spared (mark-spares k src s word cause) I)
 
-  pub by-type : (kind : ℕ) (given : Part) → _≡_ {A = Typing} (record { answer = a; state = q; given = given }) (ruleType src kind s) → Rules src (s .counts) t ix → Rules src (q .counts) t ix
-  by-type kind given e I = rw (ap (λ (o : Typing). o .state .counts) e) (spared (type-spares 6 src kind s) I)
+  pub by-type : (given : Part) → _≡_ {A = Typing} (record { answer = a; state = q; given = given }) (ruleType src s) → Rules src (s .counts) t ix → Rules src (q .counts) t ix
+  by-type given e I = rw (ap (λ (o : Typing). o .state .counts) e) (spared (type-spares 6 src s) I)
 
-  pub by-head : (kind row : ℕ) (t7 u7 : List ℕ) → _≡_ {A = Heading} (record { answer = a; state = q; row = row; t7 = u7 }) (ruleHead src kind s t7) → Tokens src (s .counts) t ix → Tokens src (q .counts) t ix
-  by-head kind row t7 u7 e I = rw (ap (λ (o : Heading). o .state .counts) e) (spared (head-spares 0 src (λ z. omega arith) kind s t7) I)
+  pub by-head : (row : ℕ) (t7 u7 : List ℕ) → _≡_ {A = Heading} (record { answer = a; state = q; row = row; t7 = u7 }) (ruleHead src s t7) → Tokens src (s .counts) t ix → Tokens src (q .counts) t ix
+  by-head row t7 u7 e I = rw (ap (λ (o : Heading). o .state .counts) e) (spared (head-spares 0 src (λ z. omega arith) s t7) I)
 
   pub by-body : (row : ℕ) (t1 t8 t9 u1 u8 u9 : List ℕ) → _≡_ {A = Itemed} (record { answer = a; state = q; t1 = u1; t8 = u8; t9 = u9 }) (ruleBody src s row t1 t8 t9) → Rules src (s .counts) t ix → Rules src (q .counts) t ix
   by-body row t1 t8 t9 u1 u8 u9 e I = rw (ap (λ (o : Itemed). o .state .counts) e) (spared (body-spares 6 src (λ z. omega arith) (λ z. omega arith) (λ z. omega arith) s row t1 t8 t9) I)

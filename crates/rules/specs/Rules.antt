@@ -61,7 +61,7 @@ markGap (GapTo i n) src s word cause = elim (startsAt word src i) [ true ↦ pas
 markGap (GapRefused f) src s word cause = refused f s
 
 unfoldable pub passMark : List ℕ → State → List ℕ → Cause → Out0
-passMark src s word cause = markGap (gapAt true src (s .at)) src s word cause
+passMark src s word cause = markGap (gapAt (s .kind) true src (s .at)) src s word cause
 
 -- "The first rule is the start if `%start` gave none."
 abbrev pub startOr : Part → State → ℕ → ℕ → State
@@ -92,8 +92,8 @@ unfoldable pub arrowType : List ℕ → State → Typing
 arrowType src s = arrowOut src (passMark src s (45 ∷ 62 ∷ []) MissingRightArrow)
 
 -- "in the others the type is the `%actiontype` text, if any"
-unfoldable pub ruleType : List ℕ → ℕ → State → Typing
-ruleType src kind s = elim (eqb kind 2) [ true ↦ arrowType src s | false ↦ record { answer = Going; state = s; given = s .actiontype } ]
+unfoldable pub ruleType : List ℕ → State → Typing
+ruleType src s = elim (eqb (s .kind) 2) [ true ↦ arrowType src s | false ↦ record { answer = Going; state = s; given = s .actiontype } ]
 
 -- "A rule seen again keeps its first span and type."
 abbrev pub newRule : ℕ → Out1 → Heading
@@ -115,16 +115,16 @@ typedHead (Refused f) src s given from to t7 = record { answer = Refused f; stat
 abbrev pub headOut : List ℕ → Typing → ℕ → ℕ → List ℕ → Heading
 headOut src o from to t7 = typedHead (o .answer) src (o .state) (o .given) from to t7
 
-unfoldable pub namedHead : List ℕ → ℕ → State → ℕ → List ℕ → Heading
-namedHead src kind s j t7 = headOut src (ruleType src kind (withAt (firstStart s (s .at) j) j)) (s .at) j t7
+unfoldable pub namedHead : List ℕ → State → ℕ → List ℕ → Heading
+namedHead src s j t7 = headOut src (ruleType src (withAt (firstStart s (s .at) j) j)) (s .at) j t7
 
 -- a rule's name; "2 IllegalName" where it was sought
-abbrev pub headFound : Name → List ℕ → ℕ → State → List ℕ → Heading
-headFound (NameTo j) src kind s t7 = namedHead src kind s j t7
-headFound (NoName k) src kind s t7 = record { answer = Refused (Fault IllegalName k); state = s; row = 0; t7 = t7 }
+abbrev pub headFound : Name → List ℕ → State → List ℕ → Heading
+headFound (NameTo j) src s t7 = namedHead src s j t7
+headFound (NoName k) src s t7 = record { answer = Refused (Fault IllegalName k); state = s; row = 0; t7 = t7 }
 
-unfoldable pub ruleHead : List ℕ → ℕ → State → List ℕ → Heading
-ruleHead src kind s t7 = headFound (nameAt src (s .at)) src kind s t7
+unfoldable pub ruleHead : List ℕ → State → List ℕ → Heading
+ruleHead src s t7 = headFound (nameAt src (s .at)) src s t7
 
 -- the colon, else 7, and the productions
 abbrev pub bodyPassed : Answer → List ℕ → State → ℕ → List ℕ → List ℕ → List ℕ → Itemed
@@ -150,8 +150,8 @@ ruleHeaded (Refused f) src h t1 t8 t9 = record { answer = Refused f; state = h .
 abbrev pub ruleOut : List ℕ → Heading → List ℕ → List ℕ → List ℕ → Ruled
 ruleOut src h t1 t8 t9 = ruleHeaded (h .answer) src h t1 t8 t9
 
-unfoldable pub ruleStep : List ℕ → ℕ → State → List ℕ → List ℕ → List ℕ → List ℕ → Ruled
-ruleStep src kind s t1 t7 t8 t9 = ruleOut src (ruleHead src kind s t7) t1 t8 t9
+unfoldable pub ruleStep : List ℕ → State → List ℕ → List ℕ → List ℕ → List ℕ → Ruled
+ruleStep src s t1 t7 t8 t9 = ruleOut src (ruleHead src s t7) t1 t8 t9
 
 -- and the spacing behind it
 abbrev pub spacedOut : Out0 → Ruled → Ruled
@@ -160,8 +160,8 @@ spacedOut z o = record { answer = z .answer; state = z .state; t1 = o .t1; t7 = 
 abbrev pub ruleSpaced : List ℕ → Ruled → Ruled
 ruleSpaced src o = spacedOut (passOn src false (o .state .at) (o .answer) (o .state)) o
 
-unfoldable pub nextRule : List ℕ → ℕ → State → List ℕ → List ℕ → List ℕ → List ℕ → Ruled
-nextRule src kind s t1 t7 t8 t9 = ruleSpaced src (ruleStep src kind s t1 t7 t8 t9)
+unfoldable pub nextRule : List ℕ → State → List ℕ → List ℕ → List ℕ → List ℕ → Ruled
+nextRule src s t1 t7 t8 t9 = ruleSpaced src (ruleStep src s t1 t7 t8 t9)
 
 -- `%%`
 abbrev pub percents : List ℕ
@@ -173,24 +173,24 @@ ruleOrEnd true b o p = stop o
 ruleOrEnd false true o p = stop o
 ruleOrEnd false false o p = onward (p .answer) p
 
-unfoldable pub rulesTurn : List ℕ → ℕ → Ruled → Turn Ruled
-rulesTurn src kind o =
-    ruleOrEnd (leb (length src) (o .state .at)) (startsAt percents src (o .state .at)) o (nextRule src kind (o .state) (o .t1) (o .t7) (o .t8) (o .t9))
+unfoldable pub rulesTurn : List ℕ → Ruled → Turn Ruled
+rulesTurn src o =
+    ruleOrEnd (leb (length src) (o .state .at)) (startsAt percents src (o .state .at)) o (nextRule src (o .state) (o .t1) (o .t7) (o .t8) (o .t9))
 
-unfoldable pub rulesRun : List ℕ → ℕ → State → List ℕ → List ℕ → List ℕ → List ℕ → Ruled
-rulesRun src kind s t1 t7 t8 t9 = turns (suc (length src)) (rulesTurn src kind) (record { answer = Going; state = s; t1 = t1; t7 = t7; t8 = t8; t9 = t9 })
+unfoldable pub rulesRun : List ℕ → State → List ℕ → List ℕ → List ℕ → List ℕ → Ruled
+rulesRun src s t1 t7 t8 t9 = turns (suc (length src)) (rulesTurn src) (record { answer = Going; state = s; t1 = t1; t7 = t7; t8 = t8; t9 = t9 })
 
 -- The section begins with the `%%` that the declarations ended at; where none stands, which does not come of them, the declaration is unknown.
-abbrev pub rulesPassed : Answer → List ℕ → ℕ → State → List ℕ → List ℕ → List ℕ → List ℕ → Ruled
-rulesPassed Going src kind s t1 t7 t8 t9 = rulesRun src kind s t1 t7 t8 t9
-rulesPassed Done src kind s t1 t7 t8 t9 = record { answer = Done; state = s; t1 = t1; t7 = t7; t8 = t8; t9 = t9 }
-rulesPassed (Refused f) src kind s t1 t7 t8 t9 = record { answer = Refused f; state = s; t1 = t1; t7 = t7; t8 = t8; t9 = t9 }
+abbrev pub rulesPassed : Answer → List ℕ → State → List ℕ → List ℕ → List ℕ → List ℕ → Ruled
+rulesPassed Going src s t1 t7 t8 t9 = rulesRun src s t1 t7 t8 t9
+rulesPassed Done src s t1 t7 t8 t9 = record { answer = Done; state = s; t1 = t1; t7 = t7; t8 = t8; t9 = t9 }
+rulesPassed (Refused f) src s t1 t7 t8 t9 = record { answer = Refused f; state = s; t1 = t1; t7 = t7; t8 = t8; t9 = t9 }
 
-abbrev pub rulesOut : List ℕ → ℕ → Out0 → List ℕ → List ℕ → List ℕ → List ℕ → Ruled
-rulesOut src kind o t1 t7 t8 t9 = rulesPassed (o .answer) src kind (o .state) t1 t7 t8 t9
+abbrev pub rulesOut : List ℕ → Out0 → List ℕ → List ℕ → List ℕ → List ℕ → Ruled
+rulesOut src o t1 t7 t8 t9 = rulesPassed (o .answer) src (o .state) t1 t7 t8 t9
 
-unfoldable pub rulesAll : List ℕ → ℕ → State → List ℕ → List ℕ → List ℕ → List ℕ → Ruled
-rulesAll src kind s t1 t7 t8 t9 = rulesOut src kind (passMark src s percents UnknownDeclaration) t1 t7 t8 t9
+unfoldable pub rulesAll : List ℕ → State → List ℕ → List ℕ → List ℕ → List ℕ → Ruled
+rulesAll src s t1 t7 t8 t9 = rulesOut src (passMark src s percents UnknownDeclaration) t1 t7 t8 t9
 
 -- "Behind a second `%%`, spacing passes and the rest is the programs text, given even if empty."
 abbrev pub withPrograms : Singles → Part → Singles
@@ -203,6 +203,6 @@ programsGap (GapRefused f) src s = refused f s
 unfoldable pub programsFrom : List ℕ → State → Out0
 programsFrom src s =
     elim (startsAt percents src (s .at)) [
-      | true ↦ programsGap (gapAt true src (s .at + 2)) src s
+      | true ↦ programsGap (gapAt (s .kind) true src (s .at + 2)) src s
       | false ↦ record { answer = Going; state = s }
     ]

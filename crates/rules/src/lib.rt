@@ -36,7 +36,7 @@ pub fn pass_mark(src: &[u8], s: State, word: &[u8], cause: Cause) -> Step
     ensures moved { λ r. ⌜ Passed (now (src .entry)) (s .at) (r .state .at) ⌝ }
 {
     let at = s.at;
-    match grammar::pass_gap(src, at, true) {
+    match grammar::pass_gap(src, s.kind, at, true) {
         Gap::GapTo(i, _) => {
             if scan::starts(src, i, word) {
                 return grammar::past_gap(src, s, i + word.len(), false);
@@ -119,12 +119,12 @@ pub fn arrow_type(src: &[u8], s: State) -> Typed
 }
 
 // The type of a rule by the kind: in kinds 1 and 3 the `%actiontype` text, if any.
-pub fn rule_type(src: &[u8], kind: u32, s: State) -> Typed
+pub fn rule_type(src: &[u8], s: State) -> Typed
     requires { ⌜ Here (now src) (s .at) ⌝ }
-    ensures is { λ r. ⌜ _≡_ {A = Typing} (record { answer = r .answer; state = r .state; given = r .given }) (ruleType (now (src .entry)) kind s) ⌝ }
+    ensures is { λ r. ⌜ _≡_ {A = Typing} (record { answer = r .answer; state = r .state; given = r .given }) (ruleType (now (src .entry)) s) ⌝ }
     ensures moved { λ r. ⌜ Passed (now (src .entry)) (s .at) (r .state .at) ⌝ }
 {
-    if kind == 2 {
+    if s.kind == 2 {
         return arrow_type(src, s);
     }
     let given = s.actiontype;
@@ -182,18 +182,11 @@ pub fn enter_rule(
 }
 
 // A rule's head behind its name, which begins where the state stands and ends at `j`: the start, the type, then the rule's row.
-pub fn named_head(
-    src: &[u8],
-    kind: u32,
-    s: State,
-    j: usize,
-    t7: &mut [u32],
-    i7: &mut [u16],
-) -> Headed
+pub fn named_head(src: &[u8], s: State, j: usize, t7: &mut [u32], i7: &mut [u16]) -> Headed
     requires { ⌜ Here (now src) j ⌝ }
     requires { ⌜ Passed (now src) (s .at) j ⌝ }
     requires { ⌜ Rules (now src) (s .counts) (now t7) (now i7) ⌝ }
-    ensures is { λ r. ⌜ _≡_ {A = Heading} (record { answer = r .answer; state = r .state; row = r .row; t7 = now (t7 .exit) }) (namedHead (now (src .entry)) kind s j (now (t7 .entry))) ⌝ }
+    ensures is { λ r. ⌜ _≡_ {A = Heading} (record { answer = r .answer; state = r .state; row = r .row; t7 = now (t7 .exit) }) (namedHead (now (src .entry)) s j (now (t7 .entry))) ⌝ }
     ensures moved { λ r. ⌜ Passed (now (src .entry)) j (r .state .at) ⌝ }
     ensures indexed { λ r. ⌜ Rules (now (src .entry)) (r .state .counts) (now (t7 .exit)) (now (i7 .exit)) ⌝ }
 {
@@ -201,7 +194,7 @@ pub fn named_head(
     let to = j as u32;
     let mut n = first_start(s, from, to);
     n.at = j;
-    let ty = rule_type(src, kind, n);
+    let ty = rule_type(src, n);
     let a = ty.answer;
     let m = ty.state;
     let given = ty.given;
@@ -220,15 +213,15 @@ pub fn named_head(
     }
 }
 
-pub fn rule_head(src: &[u8], kind: u32, s: State, t7: &mut [u32], i7: &mut [u16]) -> Headed
+pub fn rule_head(src: &[u8], s: State, t7: &mut [u32], i7: &mut [u16]) -> Headed
     requires { ⌜ Here (now src) (s .at) × Rules (now src) (s .counts) (now t7) (now i7) ⌝ }
-    ensures is { λ r. ⌜ _≡_ {A = Heading} (record { answer = r .answer; state = r .state; row = r .row; t7 = now (t7 .exit) }) (ruleHead (now (src .entry)) kind s (now (t7 .entry))) ⌝ }
+    ensures is { λ r. ⌜ _≡_ {A = Heading} (record { answer = r .answer; state = r .state; row = r .row; t7 = now (t7 .exit) }) (ruleHead (now (src .entry)) s (now (t7 .entry))) ⌝ }
     ensures moved { λ r. ⌜ Moves (now (src .entry)) (s .at) (r .answer) (r .state .at) ⌝ }
     ensures indexed { λ r. ⌜ Rules (now (src .entry)) (r .state .counts) (now (t7 .exit)) (now (i7 .exit)) ⌝ }
 {
     let at = s.at;
     match words::parse_name(src, at) {
-        Name::NameTo(j) => named_head(src, kind, s, j, t7, i7),
+        Name::NameTo(j) => named_head(src, s, j, t7, i7),
         Name::NoName(k) => Headed {
             answer: Answer::Refused(Refusal::Fault(Cause::IllegalName, k as u32)),
             state: s,
@@ -273,7 +266,6 @@ pub fn rule_body(
 
 pub fn rule(
     src: &[u8],
-    kind: u32,
     s: State,
     t1: &mut [u32],
     t7: &mut [u32],
@@ -283,11 +275,11 @@ pub fn rule(
     i7: &mut [u16],
 ) -> Step
     requires { ⌜ Here (now src) (s .at) × Tokens (now src) (s .counts) (now t1) (now i1) × Rules (now src) (s .counts) (now t7) (now i7) ⌝ }
-    ensures is { λ r. ⌜ _≡_ {A = Ruled} (record { answer = r .answer; state = r .state; t1 = now (t1 .exit); t7 = now (t7 .exit); t8 = now (t8 .exit); t9 = now (t9 .exit) }) (ruleStep (now (src .entry)) kind s (now (t1 .entry)) (now (t7 .entry)) (now (t8 .entry)) (now (t9 .entry))) ⌝ }
+    ensures is { λ r. ⌜ _≡_ {A = Ruled} (record { answer = r .answer; state = r .state; t1 = now (t1 .exit); t7 = now (t7 .exit); t8 = now (t8 .exit); t9 = now (t9 .exit) }) (ruleStep (now (src .entry)) s (now (t1 .entry)) (now (t7 .entry)) (now (t8 .entry)) (now (t9 .entry))) ⌝ }
     ensures moved { λ r. ⌜ Moves (now (src .entry)) (s .at) (r .answer) (r .state .at) ⌝ }
     ensures indexed { λ r. ⌜ Tokens (now (src .entry)) (r .state .counts) (now (t1 .exit)) (now (i1 .exit)) × Rules (now (src .entry)) (r .state .counts) (now (t7 .exit)) (now (i7 .exit)) ⌝ }
 {
-    let h = rule_head(src, kind, s, t7, i7);
+    let h = rule_head(src, s, t7, i7);
     let a = h.answer;
     let n = h.state;
     match a {
@@ -306,7 +298,6 @@ pub fn rule(
 // A rule and the spacing behind it.
 pub fn next_rule(
     src: &[u8],
-    kind: u32,
     s: State,
     t1: &mut [u32],
     t7: &mut [u32],
@@ -316,11 +307,11 @@ pub fn next_rule(
     i7: &mut [u16],
 ) -> Step
     requires { ⌜ Here (now src) (s .at) × Tokens (now src) (s .counts) (now t1) (now i1) × Rules (now src) (s .counts) (now t7) (now i7) ⌝ }
-    ensures is { λ r. ⌜ _≡_ {A = Ruled} (record { answer = r .answer; state = r .state; t1 = now (t1 .exit); t7 = now (t7 .exit); t8 = now (t8 .exit); t9 = now (t9 .exit) }) (nextRule (now (src .entry)) kind s (now (t1 .entry)) (now (t7 .entry)) (now (t8 .entry)) (now (t9 .entry))) ⌝ }
+    ensures is { λ r. ⌜ _≡_ {A = Ruled} (record { answer = r .answer; state = r .state; t1 = now (t1 .exit); t7 = now (t7 .exit); t8 = now (t8 .exit); t9 = now (t9 .exit) }) (nextRule (now (src .entry)) s (now (t1 .entry)) (now (t7 .entry)) (now (t8 .entry)) (now (t9 .entry))) ⌝ }
     ensures moved { λ r. ⌜ Moves (now (src .entry)) (s .at) (r .answer) (r .state .at) ⌝ }
     ensures indexed { λ r. ⌜ Tokens (now (src .entry)) (r .state .counts) (now (t1 .exit)) (now (i1 .exit)) × Rules (now (src .entry)) (r .state .counts) (now (t7 .exit)) (now (i7 .exit)) ⌝ }
 {
-    let r = rule(src, kind, s, t1, t7, t8, t9, i1, i7);
+    let r = rule(src, s, t1, t7, t8, t9, i1, i7);
     let n = r.state;
     let at = n.at;
     grammar::pass_on(src, r, at, false)
@@ -329,7 +320,6 @@ pub fn next_rule(
 // Rules up to the next `%%`, or to the source's end.
 pub fn rules_run(
     src: &[u8],
-    kind: u32,
     s: State,
     t1: &mut [u32],
     t7: &mut [u32],
@@ -339,7 +329,7 @@ pub fn rules_run(
     i7: &mut [u16],
 ) -> Step
     requires { ⌜ Here (now src) (s .at) × Tokens (now src) (s .counts) (now t1) (now i1) × Rules (now src) (s .counts) (now t7) (now i7) ⌝ }
-    ensures is { λ r. ⌜ _≡_ {A = Ruled} (record { answer = r .answer; state = r .state; t1 = now (t1 .exit); t7 = now (t7 .exit); t8 = now (t8 .exit); t9 = now (t9 .exit) }) (rulesRun (now (src .entry)) kind s (now (t1 .entry)) (now (t7 .entry)) (now (t8 .entry)) (now (t9 .entry))) ⌝ }
+    ensures is { λ r. ⌜ _≡_ {A = Ruled} (record { answer = r .answer; state = r .state; t1 = now (t1 .exit); t7 = now (t7 .exit); t8 = now (t8 .exit); t9 = now (t9 .exit) }) (rulesRun (now (src .entry)) s (now (t1 .entry)) (now (t7 .entry)) (now (t8 .entry)) (now (t9 .entry))) ⌝ }
     ensures moved { λ r. ⌜ Passed (now (src .entry)) (s .at) (r .state .at) ⌝ }
     ensures indexed { λ r. ⌜ Tokens (now (src .entry)) (r .state .counts) (now (t1 .exit)) (now (i1 .exit)) × Rules (now (src .entry)) (r .state .counts) (now (t7 .exit)) (now (i7 .exit)) ⌝ }
 {
@@ -358,7 +348,7 @@ pub fn rules_run(
                 state: st,
             };
         }
-        let r = next_rule(src, kind, st, t1, t7, t8, t9, i1, i7);
+        let r = next_rule(src, st, t1, t7, t8, t9, i1, i7);
         let a = r.answer;
         match a {
             Answer::Going => {
@@ -378,7 +368,6 @@ pub fn rules_run(
 // The rules section from its `%%` on, where the state stands.
 pub fn rules(
     src: &[u8],
-    kind: u32,
     s: State,
     t1: &mut [u32],
     t7: &mut [u32],
@@ -388,7 +377,7 @@ pub fn rules(
     i7: &mut [u16],
 ) -> Step
     requires { ⌜ Here (now src) (s .at) × Tokens (now src) (s .counts) (now t1) (now i1) × Rules (now src) (s .counts) (now t7) (now i7) ⌝ }
-    ensures is { λ r. ⌜ _≡_ {A = Ruled} (record { answer = r .answer; state = r .state; t1 = now (t1 .exit); t7 = now (t7 .exit); t8 = now (t8 .exit); t9 = now (t9 .exit) }) (rulesAll (now (src .entry)) kind s (now (t1 .entry)) (now (t7 .entry)) (now (t8 .entry)) (now (t9 .entry))) ⌝ }
+    ensures is { λ r. ⌜ _≡_ {A = Ruled} (record { answer = r .answer; state = r .state; t1 = now (t1 .exit); t7 = now (t7 .exit); t8 = now (t8 .exit); t9 = now (t9 .exit) }) (rulesAll (now (src .entry)) s (now (t1 .entry)) (now (t7 .entry)) (now (t8 .entry)) (now (t9 .entry))) ⌝ }
     ensures moved { λ r. ⌜ Passed (now (src .entry)) (s .at) (r .state .at) ⌝ }
     ensures indexed { λ r. ⌜ Tokens (now (src .entry)) (r .state .counts) (now (t1 .exit)) (now (i1 .exit)) × Rules (now (src .entry)) (r .state .counts) (now (t7 .exit)) (now (i7 .exit)) ⌝ }
 {
@@ -396,7 +385,7 @@ pub fn rules(
     let a = r.answer;
     let n = r.state;
     match a {
-        Answer::Going => rules_run(src, kind, n, t1, t7, t8, t9, i1, i7),
+        Answer::Going => rules_run(src, n, t1, t7, t8, t9, i1, i7),
         Answer::Done => Step {
             answer: Answer::Done,
             state: n,
@@ -439,7 +428,7 @@ pub fn programs(src: &[u8], s: State) -> Step
             state: s,
         };
     }
-    match grammar::pass_gap(src, at + 2, true) {
+    match grammar::pass_gap(src, s.kind, at + 2, true) {
         Gap::GapTo(i, _) => {
             let end = src.len();
             let g = s.singles;

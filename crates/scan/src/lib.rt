@@ -23,6 +23,10 @@ pub enum Class {
     Unquoted(u8),
     // No line end, and no `*`.
     CommentByte,
+    // No line end, and no `>`.
+    TagByte,
+    // No line end, and no `%`.
+    CodeByte,
     // Plain bytes of an action, no line end and no brace among them.
     TextByte,
     // A code point by itself that is no blank.
@@ -87,6 +91,8 @@ pub fn in_class(c: u8, class: Class) -> bool
         Class::LineByte => !is_eol(c),
         Class::Unquoted(q) => (c != q) & (c != 10),
         Class::CommentByte => !is_eol(c) & (c != b'*'),
+        Class::TagByte => !is_eol(c) & (c != b'>'),
+        Class::CodeByte => !is_eol(c) & (c != b'%'),
         Class::TextByte => (13 < c) & (c < b'{'),
         Class::Graphic => (32 < c) & (c < 127),
         Class::Ascii => c < 128,

@@ -58,7 +58,7 @@ module _ {src : List ℕ} {done : ℕ} {s : State} {T : Tables} (f : Far src don
 
   pub start-far : Far1 src done T repeats (startDecl src s (T .t10))
   unfolding startDecl
-  start-far = go (gapAt false src (s .at)) (gapped false src (s .at) (f .here))
+  start-far = go (gapAt (s .kind) false src (s .at)) (gapped (s .kind) false src (s .at) (f .here))
     where
       named : (i : ℕ) → s .at ≤ i → (n : Name) → Named src i n → Far1 src done T repeats (startName n i src s (T .t10))
       named i h (NameTo j) x = let a = x .0 in let b = x .1 in behind1-far false j _ (omega arith) b (start-held i j (record { onward = omega arith; inside = b }))
@@ -87,7 +87,7 @@ module _ {src : List ℕ} {done : ℕ} {s : State} {T : Tables} (f : Far src don
 
   pub expect-far : (rr : Bool) → Far1 src done T repeats (expectDecl src s rr (T .t10))
   unfolding expectDecl
-  expect-far rr = go (gapAt false src (s .at)) (gapped false src (s .at) (f .here))
+  expect-far rr = go (gapAt (s .kind) false src (s .at)) (gapped (s .kind) false src (s .at) (f .here))
     where
       counted : (i : ℕ) → s .at ≤ i → (n : Int) → Counted src i n → Far1 src done T repeats (expectInt n i src s rr (T .t10))
       counted i h (Value v j) x = let a = x .0 in let b = x .1 in behind1-far false j _ (omega arith) b (expect-held rr v i j (record { onward = omega arith; inside = b }))
@@ -109,7 +109,7 @@ module _ {src : List ℕ} {done : ℕ} {s : State} {T : Tables} (f : Far src don
 
   pub actiontype-far : Far1 src done T repeats (actiontypeDecl src s (T .t10))
   unfolding actiontypeDecl
-  actiontype-far = go (gapAt false src (s .at)) (gapped false src (s .at) (f .here))
+  actiontype-far = go (gapAt (s .kind) false src (s .at)) (gapped (s .kind) false src (s .at) (f .here))
     where
       go : (g : Gap) → Gapped src (s .at) g → Far1 src done T repeats (actiontypeFrom g src s (T .t10))
       go (GapTo i n) x =
@@ -122,7 +122,7 @@ module _ {src : List ℕ} {done : ℕ} {s : State} {T : Tables} (f : Far src don
   -- `%parse-generics`
   pub generics-far : Far src done (genericsDecl src s .state) T
   unfolding genericsDecl
-  generics-far = go (gapAt false src (s .at)) (gapped false src (s .at) (f .here))
+  generics-far = go (gapAt (s .kind) false src (s .at)) (gapped (s .kind) false src (s .at) (f .here))
     where
       go : (g : Gap) → Gapped src (s .at) g → Far src done (genericsFrom g src s .state) T
       go (GapTo i n) x =
@@ -136,7 +136,7 @@ module _ {src : List ℕ} {done : ℕ} {s : State} {T : Tables} (f : Far src don
   -- `%parse-param`
   typed-far : (a b k : ℕ) → Passed src a b → s .at ≤ k → k ≤ length src → Far src done (paramTyped src s a b k .state) T
   unfolding paramTyped
-  typed-far a b k p h l = go (gapAt false src k) (gapped false src k l)
+  typed-far a b k p h l = go (gapAt (s .kind) false src k) (gapped (s .kind) false src k l)
     where
       go : (g : Gap) → Gapped src k g → Far src done (paramGiven g src s a b .state) T
       go (GapTo i n) x =
@@ -149,7 +149,7 @@ module _ {src : List ℕ} {done : ℕ} {s : State} {T : Tables} (f : Far src don
 
   pub param-far : Far src done (paramDecl src s .state) T
   unfolding paramDecl
-  param-far = go (gapAt false src (s .at)) (gapped false src (s .at) (f .here))
+  param-far = go (gapAt (s .kind) false src (s .at)) (gapped (s .kind) false src (s .at) (f .here))
     where
       text : (i : ℕ) → s .at ≤ i → (t : ColonText) → ColonTexts src i t → Far src done (paramText t src s .state) T
       text i h (Upto j n p) x = let a = x .0 in let b = x .1 in typed-far (p .from) (p .to) (j + 1) (record { onward = x .4; inside = x .5 }) (omega arith) (omega arith)

@@ -116,7 +116,7 @@ behind-on : (src : List ℕ) (j : ℕ) (n : Out1) (a : Answer) (x : State) (cell
 behind-on src j n a x cells o e h = rw (← e, h)
 
 -- the declarations on table 10, by what follows their keyword
-module _ (src : List ℕ) (s : State) (t : List ℕ) (g : Gap) (q : g ≡ gapAt false src (s .at)) where
+module _ (src : List ℕ) (s : State) (t : List ℕ) (g : Gap) (q : g ≡ gapAt (s .kind) false src (s .at)) where
   pub start-refused : (f : Refusal) → g ≡ GapRefused f → tied1 (refused f s) t ≡ startDecl src s t
   unfolding startDecl
   start-refused f e = rw (← q, e)
@@ -157,7 +157,7 @@ module _ (src : List ℕ) (s : State) (t : List ℕ) (g : Gap) (q : g ≡ gapAt 
       expect-value v j a x cells o h k l = rw (← q, e, ← p, h) (behind-on src j _ a x cells o k l)
 
 -- the parse parameter's type, by what follows the colon
-module _ (src : List ℕ) (s : State) (at : ℕ) (g : Gap) (q : g ≡ gapAt false src at) (a b : ℕ) where
+module _ (src : List ℕ) (s : State) (at : ℕ) (g : Gap) (q : g ≡ gapAt (s .kind) false src at) (a b : ℕ) where
   pub typed-refused : (f : Refusal) → g ≡ GapRefused f → refused f s ≡ paramTyped src s a b at
   unfolding paramTyped
   typed-refused f e = rw (← q, e)
@@ -167,7 +167,7 @@ module _ (src : List ℕ) (s : State) (at : ℕ) (g : Gap) (q : g ≡ gapAt fals
   typed-given i n j x o e p w h = rw (← q, e, ← p, ← w) h
 
 -- the parse parameter and the generics, by what follows their keyword
-module _ (src : List ℕ) (s : State) (g : Gap) (q : g ≡ gapAt false src (s .at)) where
+module _ (src : List ℕ) (s : State) (g : Gap) (q : g ≡ gapAt (s .kind) false src (s .at)) where
   pub param-refused : (f : Refusal) → g ≡ GapRefused f → refused f s ≡ paramDecl src s
   unfolding paramDecl
   param-refused f e = rw (← q, e)

@@ -32,7 +32,7 @@ use Rattle.settings.specs.Settings.{startGiven, startNamed, startName, s
 module _ (k : ℕ) (src : List ℕ) (s : State) where
   param-typed : (a b j : ℕ) → Spares k (s .counts) (paramTyped src s a b j .state .counts)
   unfolding paramTyped
-  param-typed a b j = go (gapAt false src j)
+  param-typed a b j = go (gapAt (s .kind) false src j)
     where
       go : (g : Gap) → Spares k (s .counts) (paramGiven g src s a b .state .counts)
       go (GapTo i n) = spares-pass k src false (lineEndAt src i) Going (withSingles s (withParam (s .singles) (ParamAt a b i (lineEndAt src i))))
@@ -40,7 +40,7 @@ module _ (k : ℕ) (src : List ℕ) (s : State) where
 
   pub param-spares : Spares k (s .counts) (paramDecl src s .state .counts)
   unfolding paramDecl
-  param-spares = go (gapAt false src (s .at))
+  param-spares = go (gapAt (s .kind) false src (s .at))
     where
       text : (x : ColonText) → Spares k (s .counts) (paramText x src s .state .counts)
       text (Upto j n p) = param-typed (p .from) (p .to) (j + 1)
@@ -52,7 +52,7 @@ module _ (k : ℕ) (src : List ℕ) (s : State) where
 
   pub generics-spares : Spares k (s .counts) (genericsDecl src s .state .counts)
   unfolding genericsDecl
-  generics-spares = go (gapAt false src (s .at))
+  generics-spares = go (gapAt (s .kind) false src (s .at))
     where
       go : (g : Gap) → Spares k (s .counts) (genericsFrom g src s .state .counts)
       go (GapTo i n) = spares-pass k src false (lineEndAt src i) Going (withSingles s (withGenerics (s .singles) (At i (lineEndAt src i))))
@@ -69,7 +69,7 @@ module _ (k : ℕ) (src : List ℕ) (s : State) where
 
     pub start-spares : Spares k (s .counts) (startDecl src s t10 .state .counts)
     unfolding startDecl
-    start-spares = go (gapAt false src (s .at))
+    start-spares = go (gapAt (s .kind) false src (s .at))
       where
         name : (i : ℕ) (x : Name) → Spares k (s .counts) (startName x i src s t10 .state .counts)
         name i (NameTo j) = spares-behind k src false j (startNamed s i j t10 .answer) (startNamed s i j t10 .state) (start-named i j)
@@ -89,7 +89,7 @@ module _ (k : ℕ) (src : List ℕ) (s : State) where
 
     pub expect-spares : (rr : Bool) → Spares k (s .counts) (expectDecl src s rr t10 .state .counts)
     unfolding expectDecl
-    expect-spares rr = go (gapAt false src (s .at))
+    expect-spares rr = go (gapAt (s .kind) false src (s .at))
       where
         int : (i : ℕ) (x : Int) → Spares k (s .counts) (expectInt x i src s rr t10 .state .counts)
         int i (Value v j) = spares-behind k src false j (expectGiven s rr v i j t10 .answer) (expectGiven s rr v i j t10 .state) (expect-given rr v i j)
@@ -110,7 +110,7 @@ module _ (k : ℕ) (src : List ℕ) (s : State) where
 
     pub actiontype-spares : Spares k (s .counts) (actiontypeDecl src s t10 .state .counts)
     unfolding actiontypeDecl
-    actiontype-spares = go (gapAt false src (s .at))
+    actiontype-spares = go (gapAt (s .kind) false src (s .at))
       where
         go : (g : Gap) → Spares k (s .counts) (actiontypeFrom g src s t10 .state .counts)
         go (GapTo i n) =

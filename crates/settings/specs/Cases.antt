@@ -34,7 +34,7 @@ use Rattle.settings.specs.Settings.{startNamed, startDecl, expectGiven, 
 
 -- a reading that stands at an index, with nothing given yet or with one thing
 abbrev stand : ℕ → State
-stand i = withAt fresh i
+stand i = withAt (fresh 1) i
 
 abbrev having : Singles → ℕ → State
 having g i = withSingles (stand i) g

@@ -47,7 +47,7 @@ startFrom (GapRefused f) src s t = tied1 (refused f s) t
 
 -- from behind the keyword on, which is where the state stands
 unfoldable pub startDecl : List ℕ → State → List ℕ → Out1
-startDecl src s t = startFrom (gapAt false src (s .at)) src s t
+startDecl src s t = startFrom (gapAt (s .kind) false src (s .at)) src s t
 
 -- `%expect` and `%expect-rr`: "An integer fits 64 unsigned bits"; a later one is a repeat
 abbrev pub repeatedExpect : Bool → Repeat
@@ -71,7 +71,7 @@ expectFrom (GapTo i n) src s rr t = expectInt (intAt src i) i src s rr t
 expectFrom (GapRefused f) src s rr t = tied1 (refused f s) t
 
 unfoldable pub expectDecl : List ℕ → State → Bool → List ℕ → Out1
-expectDecl src s rr t = expectFrom (gapAt false src (s .at)) src s rr t
+expectDecl src s rr t = expectFrom (gapAt (s .kind) false src (s .at)) src s rr t
 
 -- `%actiontype` (an untrimmed text); a later one is a repeat
 abbrev pub actiontypeGiven : Part → State → ℕ → ℕ → List ℕ → Out1
@@ -86,7 +86,7 @@ actiontypeFrom (GapTo i n) src s t = behind1 src false (lineEndAt src i) (action
 actiontypeFrom (GapRefused f) src s t = tied1 (refused f s) t
 
 unfoldable pub actiontypeDecl : List ℕ → State → List ℕ → Out1
-actiontypeDecl src s t = actiontypeFrom (gapAt false src (s .at)) src s t
+actiontypeDecl src s t = actiontypeFrom (gapAt (s .kind) false src (s .at)) src s t
 
 -- "`%parse-param` is a trimmed text to a single colon, then an untrimmed one to the line end; a second [..] replaces the first"
 abbrev pub paramGiven : Gap → List ℕ → State → ℕ → ℕ → Out0
@@ -94,7 +94,7 @@ paramGiven (GapTo i n) src s a b = pastGap src false (lineEndAt src i) (withSing
 paramGiven (GapRefused f) src s a b = refused f s
 
 unfoldable pub paramTyped : List ℕ → State → ℕ → ℕ → ℕ → Out0
-paramTyped src s a b k = paramGiven (gapAt false src k) src s a b
+paramTyped src s a b k = paramGiven (gapAt (s .kind) false src k) src s a b
 
 abbrev pub paramText : ColonText → List ℕ → State → Out0
 paramText (Upto j n p) src s = paramTyped src s (p .from) (p .to) (j + 1)
@@ -105,7 +105,7 @@ paramFrom (GapTo i n) src s = paramText (colonTextAt src i) src s
 paramFrom (GapRefused f) src s = refused f s
 
 unfoldable pub paramDecl : List ℕ → State → Out0
-paramDecl src s = paramFrom (gapAt false src (s .at)) src s
+paramDecl src s = paramFrom (gapAt (s .kind) false src (s .at)) src s
 
 -- "or a second `%parse-generics`, replaces the first"
 abbrev pub genericsFrom : Gap → List ℕ → State → Out0
@@ -113,4 +113,4 @@ genericsFrom (GapTo i n) src s = pastGap src false (lineEndAt src i) (withSingle
 genericsFrom (GapRefused f) src s = refused f s
 
 unfoldable pub genericsDecl : List ℕ → State → Out0
-genericsDecl src s = genericsFrom (gapAt false src (s .at)) src s
+genericsDecl src s = genericsFrom (gapAt (s .kind) false src (s .at)) src s

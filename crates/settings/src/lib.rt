@@ -129,7 +129,7 @@ pub fn start_decl(src: &[u8], s: State, t10: &mut [u32]) -> Step
     ensures moved { λ r. ⌜ Passed (now (src .entry)) (s .at) (r .state .at) ⌝ }
 {
     let at = s.at;
-    match grammar::pass_gap(src, at, false) {
+    match grammar::pass_gap(src, s.kind, at, false) {
         Gap::GapTo(i, _) => match words::parse_name(src, i) {
             Name::NameTo(j) => {
                 let r = start_named(s, i as u32, j as u32, t10);
@@ -180,7 +180,7 @@ pub fn expect_decl(src: &[u8], s: State, rr: bool, t10: &mut [u32]) -> Step
     ensures moved { λ r. ⌜ Passed (now (src .entry)) (s .at) (r .state .at) ⌝ }
 {
     let at = s.at;
-    match grammar::pass_gap(src, at, false) {
+    match grammar::pass_gap(src, s.kind, at, false) {
         Gap::GapTo(i, _) => match words::parse_int(src, i) {
             Int::Value(v, j) => {
                 let r = expect_given(s, rr, v, i as u32, j as u32, t10);
@@ -215,6 +215,7 @@ pub fn actiontype_named(s: State, i: u32, j: u32, t10: &mut [u32]) -> Step
             Step {
                 answer: Answer::Going,
                 state: State {
+                    kind: s.kind,
                     at: s.at,
                     level: s.level,
                     counts: c,
@@ -233,7 +234,7 @@ pub fn actiontype_decl(src: &[u8], s: State, t10: &mut [u32]) -> Step
     ensures moved { λ r. ⌜ Passed (now (src .entry)) (s .at) (r .state .at) ⌝ }
 {
     let at = s.at;
-    match grammar::pass_gap(src, at, false) {
+    match grammar::pass_gap(src, s.kind, at, false) {
         Gap::GapTo(i, _) => {
             let j = texts::parse_to_eol(src, i);
             let r = actiontype_named(s, i as u32, j as u32, t10);
@@ -252,7 +253,7 @@ pub fn param_typed(src: &[u8], s: State, a: u32, b: u32, k: usize) -> Step
     ensures is { λ r. ⌜ _≡_ {A = Out0} (record { answer = r .answer; state = r .state }) (paramTyped (now (src .entry)) s a b k) ⌝ }
     ensures moved { λ r. ⌜ Onward (now (src .entry)) k (s .at) (r .answer) (r .state .at) ⌝ }
 {
-    match grammar::pass_gap(src, k, false) {
+    match grammar::pass_gap(src, s.kind, k, false) {
         Gap::GapTo(i, _) => {
             let j = texts::parse_to_eol(src, i);
             let g = s.singles;
@@ -273,7 +274,7 @@ pub fn param_decl(src: &[u8], s: State) -> Step
     ensures moved { λ r. ⌜ Passed (now (src .entry)) (s .at) (r .state .at) ⌝ }
 {
     let at = s.at;
-    match grammar::pass_gap(src, at, false) {
+    match grammar::pass_gap(src, s.kind, at, false) {
         Gap::GapTo(i, _) => match texts::parse_to_single_colon(src, i) {
             ColonText::Upto(j, _, p) => param_typed(src, s, p.from as u32, p.to as u32, j + 1),
             ColonText::NoColon(k) => Step {
@@ -294,7 +295,7 @@ pub fn generics_decl(src: &[u8], s: State) -> Step
     ensures moved { λ r. ⌜ Passed (now (src .entry)) (s .at) (r .state .at) ⌝ }
 {
     let at = s.at;
-    match grammar::pass_gap(src, at, false) {
+    match grammar::pass_gap(src, s.kind, at, false) {
         Gap::GapTo(i, _) => {
             let j = texts::parse_to_eol(src, i);
             let g = s.singles;

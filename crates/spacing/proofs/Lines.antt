@@ -12,7 +12,7 @@ use Rattle.scan.specs.Scan.{isEol}
 use Rattle.scan.specs.Lines.{linesHere, linesTo}
 use Rattle.scan.proofs.Bytes.{on-test, told, drop-next, drop-byte}
 use Rattle.scan.proofs.Lines.{mark-plain, here-none, lines-next, lines-plain, lines-more}
-use Rattle.spacing.specs.Spacing.{isBlank, Mode, gap, slash, line, comment, spacing, spacingAt, spacesAt}
+use Rattle.spacing.specs.Spacing.{slashCloses, isBlank, Mode, gap, slash, line, comment, spacing, spacingAt, spacesAt}
 use Rattle.spacing.specs.declared.Spaced.{Spaced}
 use Rattle.spacing.specs.declared.Spaced.the-variants.{To, LineEnd, OpenComment}
 
@@ -43,7 +43,7 @@ end-plain : (s : List ℕ) (i : ℕ) → drop i s ≡ [] → isEol (getD s i 0) 
 unfolding isEol
 end-plain s i q = let m = length-drop i s in let n : length (drop i s) ≡ 0 = ap length q in rw (List·getD-eq-default s 0 {n = i} (omega arith))
 
-module _ (ok : Bool) (s : List ℕ) (from : ℕ) where
+module _ (kind : ℕ) (ok : Bool) (s : List ℕ) (from : ℕ) where
   -- the lines that end before index i are those before the begin, and n more
   abbrev Till : ℕ → ℕ → Type 0
   Till i n = (from ≤ i) × (linesTo s from + n ≡ linesTo s i)
@@ -76,8 +76,8 @@ module _ (ok : Bool) (s : List ℕ) (from : ℕ) where
     here e = (x, rw (drop-byte s i c cs q) e)
 
     -- one byte more, where every mode behind it is known
-    module _ (on : (mode : Mode) (m : ℕ) → Ready mode (i + 1) m → Stopped (spacing ok mode cs (i + 1) m)) where
-      in-gap : Stopped (spacing ok gap (c ∷ cs) i n)
+    module _ (on : (mode : Mode) (m : ℕ) → Ready mode (i + 1) m → Stopped (spacing kind ok mode cs (i + 1) m)) where
+      in-gap : Stopped (spacing kind ok gap (c ∷ cs) i n)
       unfolding spacing
       in-gap =
           on-test Stopped (isBlank c) _ _ (λ e. on gap n (pass (blank-plain c e)))
@@ -85,25 +85,25 @@ module _ (ok : Bool) (s : List ℕ) (from : ℕ) where
           (λ e. on-test Stopped (not ok) _ _ (λ r. tt) (λ r. on gap (n + linesHere c cs) hit))
           (λ g. on-test Stopped (eqb c 47) _ _ (λ e. on (slash i) n (here g, pass g)) (λ e. here g)))
 
-      in-slash : (b : ℕ) → Stop b n → Stopped (spacing ok (slash b) (c ∷ cs) i n)
+      in-slash : (b : ℕ) → Stop b n → Stopped (spacing kind ok (slash b) (c ∷ cs) i n)
       unfolding spacing
       in-slash b y =
           on-test Stopped (eqb c 47) _ _ (λ e. on line n (pass (slash-plain c e)))
           (λ f. on-test Stopped (eqb c 42) _ _ (λ e. on (comment b false) n (pass (star-plain c e))) (λ e. y))
 
-      in-line : Stopped (spacing ok line (c ∷ cs) i n)
+      in-line : Stopped (spacing kind ok line (c ∷ cs) i n)
       unfolding spacing
       in-line = on-test Stopped (isEol c) _ _ (λ e. on gap (n + linesHere c cs) hit) (λ e. on line n (pass e))
 
-      in-comment : (b : ℕ) (behind : Bool) → Stopped (spacing ok (comment b behind) (c ∷ cs) i n)
+      in-comment : (b : ℕ) (behind : Bool) → Stopped (spacing kind ok (comment b behind) (c ∷ cs) i n)
       unfolding spacing
       in-comment b behind =
           on-test Stopped (behind && eqb c 47) _ _ (λ e. on gap n (pass (close-plain behind c e)))
           (λ f. on-test Stopped (isEol c) _ _
-          (λ e. on-test Stopped (not ok) _ _ (λ r. tt) (λ r. on (comment b true) (n + linesHere c cs) hit))
+          (λ e. on-test Stopped (not ok) _ _ (λ r. tt) (λ r. on (comment b (slashCloses kind)) (n + linesHere c cs) hit))
           (λ g. on (comment b (eqb c 42)) n (pass g)))
 
-  stopped : (l : List ℕ) (mode : Mode) (i n : ℕ) → drop i s ≡ l → Ready mode i n → Stopped (spacing ok mode l i n)
+  stopped : (l : List ℕ) (mode : Mode) (i n : ℕ) → drop i s ≡ l → Ready mode i n → Stopped (spacing kind ok mode l i n)
   unfolding spacing
   stopped [] gap i n q x = (x, end-plain s i q)
   stopped [] (slash b) i n q x = x .0
@@ -114,10 +114,10 @@ module _ (ok : Bool) (s : List ℕ) (from : ℕ) where
   stopped (c ∷ cs) line i n q x = in-line i n c cs q x (λ mode m. stopped cs mode (i + 1) m (drop-next s i c cs q))
   stopped (c ∷ cs) (comment b d) i n q x = in-comment i n c cs q x (λ mode m. stopped cs mode (i + 1) m (drop-next s i c cs q)) b d
 
-module _ (ok : Bool) (s : List ℕ) (from i n : ℕ) (e : spacesAt ok s from ≡ To i n) where
-  till-end : Stop ok s from i n
+module _ (kind : ℕ) (ok : Bool) (s : List ℕ) (from i n : ℕ) (e : spacesAt kind ok s from ≡ To i n) where
+  till-end : Stop kind ok s from i n
   unfolding spacingAt
-  till-end = told (Stopped ok s from) e (stopped ok s from (drop from s) gap from 0 refl (omega arith, omega arith))
+  till-end = told (Stopped kind ok s from) e (stopped kind ok s from (drop from s) gap from 0 refl (omega arith, omega arith))
 
   -- Spacing that ends tells "how many lines" it passed, wherever they end in it: among blanks, with a `//` comment, inside `/* */`.
   pub spacing-tells : linesTo s from + n ≡ linesTo s i

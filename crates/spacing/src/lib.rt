@@ -14,9 +14,9 @@ pub enum Spaced {
     OpenComment(usize),
 }
 
-pub fn parse_ws(s: &[u8], from: usize, ends_allowed: bool) -> Spaced
+pub fn parse_ws(s: &[u8], kind: u32, from: usize, ends_allowed: bool) -> Spaced
     requires { ⌜ from ≤ length (now s) ⌝ }
-    ensures { λ r. ⌜ r ≡ spacesAt «ends_allowed» (now (s .entry)) from ⌝ }
+    ensures { λ r. ⌜ r ≡ spacesAt kind «ends_allowed» (now (s .entry)) from ⌝ }
     ensures { λ r. ⌜ Spaces (now (s .entry)) from r ⌝ }
 {
     let mut i = from;
@@ -65,7 +65,7 @@ pub fn parse_ws(s: &[u8], from: usize, ends_allowed: bool) -> Spaced
                                         return Spaced::LineEnd(i);
                                     }
                                     n += scan::lines_at(s, b);
-                                    if scan::is_at(s, k, b'/') {
+                                    if (kind != 4) & scan::is_at(s, k, b'/') {
                                         k += 1;
                                         break 'comment;
                                     }

@@ -1,8 +1,8 @@
--- Texts: one law for each way through the two scans, as rules for `search`; and where the answers lie. Assumes nothing.
+-- Texts: one law for each way through the three scans, as rules for `search`; and where the answers lie. Assumes nothing.
 use Prim.Native.Nat.{ℕ, _+_, _-_, _≤_, _<_}
 use mathlib.Core.Path.{_≡_, refl, sym, _∙_, ap}
 use mathlib.Core.List.{List, [], _∷_}
-use mathlib.Core.Bool.{Bool, true, false, not, and-eq-true-iff}
+use mathlib.Core.Bool.{Bool, true, false, not, false≢true, and-eq-true-iff}
 use mathlib.Core.Logic.{⊎-elim}
 use native.Mathlib.Omega.{arith}
 use lib.Dec.{eqb}
@@ -10,16 +10,17 @@ use lib.ListN.{length, getD, drop, drop-of-length-le}
 use borrow.Author.Tests.{eq-eqb, ne-eqb, eqb-true, ltb-true, not-true, not-false}
 use types.Run.{OneOf}
 use Rattle.scan.specs.declared.Place.{Place}
-use Rattle.scan.specs.declared.Class.the-variants.{TextByte}
-use Rattle.scan.specs.Scan.{isEol, isAt, inClass, Runs}
+use Rattle.scan.specs.declared.Class.the-variants.{TextByte, CodeByte}
+use Rattle.scan.specs.Scan.{isEol, isAt, begins, startsAt, inClass, Runs}
 use Rattle.scan.specs.Lines.{linesHere, linesAt}
-use Rattle.scan.proofs.Bytes.{drop-at, drop-key, ends, eol-yes, eol-no, at-below, at-here, at-next, le-or-lt, on-test, drop-below, drop-next, drop-byte, drop-ended}
-use Rattle.scan.proofs.Lines.{here-few}
+use Rattle.scan.proofs.Bytes.{drop-at, drop-key, ends, eol-yes, eol-no, at-below, at-here, at-true, at-yes, at-next, byte-below, starts-byte, le-or-lt, on-test, drop-below, drop-next, drop-byte, drop-ended}
+use Rattle.scan.proofs.Lines.{here-few, here-none}
 use Rattle.scan.proofs.Runs.{run-keeps}
 use Rattle.trim.specs.Trim.{trimmed}
 use Rattle.trim.proofs.Inside.{trim-inside}
 use Rattle.texts.specs.Colon.{Mode, plain, colon, single, singleFrom, singleAt, colonText, colonTextAt, Singled, ColonTexts}
 use Rattle.texts.specs.Action.{braced, bracedFrom, bracedAt, spanOf, acted, actionAt, Braced, Acted}
+use Rattle.texts.specs.Mark.{mark, marked, markedFrom, markedAt, MarkAt, Marked}
 use Rattle.texts.specs.declared.Colon.{Colon}
 use Rattle.texts.specs.declared.Colon.the-variants.{Single, NoSingle}
 use Rattle.texts.specs.declared.ColonText.{ColonText}
@@ -109,6 +110,59 @@ module _ (d : ℕ) (s : List ℕ) (j n : ℕ) (r : Brace) (inv : bracedFrom d s 
 pub b-run : (d : ℕ) (s : List ℕ) (j n e : ℕ) (r : Brace) → bracedFrom d s j n ≡ r → j < length s → Runs (inClass TextByte) s (j + 1) e → (OneOf ends (getD s j 0) → ⊥) → (getD s j 0 ≡ 123 → ⊥) → (getD s j 0 ≡ 125 → ⊥) → bracedFrom d s e n ≡ r
 b-run d s j n e r inv h x o f g = run-keeps (λ k. bracedFrom d s k n ≡ r) (inClass TextByte) s (j + 1) e x (λ k l t v. b-text d s k n r v l t) (b-on d s j n r inv h o f g)
 
+-- whether a mark stands at an index
+module _ (s : List ℕ) (k : ℕ) where
+  pub starts-mark : startsAt mark s k ≡ true → MarkAt s k
+  starts-mark t = let z : k + 0 ≡ k = omega arith in (rw z at (starts-byte mark s k t 0 (omega arith)), starts-byte mark s k t 1 (omega arith))
+
+  pub mark-starts : MarkAt s k → startsAt mark s k ≡ true
+  unfolding startsAt begins
+  mark-starts x = rw (drop-key s k 37 (byte-below s k 37 (omega arith) (x .0)) (x .0), drop-key s (k + 1) 125 (byte-below s (k + 1) 125 (omega arith) (x .1)) (x .1))
+
+  mark-no : (MarkAt s k → ⊥) → startsAt mark s k ≡ false
+  mark-no f = go (startsAt mark s k) refl
+    where
+      go : (b : Bool) → startsAt mark s k ≡ b → b ≡ false
+      go true e = absurd (f (starts-mark e))
+      go false e = refl
+
+module _ (s : List ℕ) (j n : ℕ) (r : Brace) (inv : markedFrom s j n ≡ r) where
+  pub m-end : length s ≤ j → NeverCloses ≡ r
+  unfolding marked markedFrom
+  m-end h = rw (drop-of-length-le s h) at inv
+
+  module _ (h : j < length s) where
+    m-stop : startsAt mark s j ≡ true → Closes j n ≡ r
+    unfolding marked markedFrom startsAt
+    m-stop t = let u = rw (drop-at s j h) at t in rw (drop-at s j h, u, marked) at inv
+
+    m-pass : startsAt mark s j ≡ false → markedFrom s (j + 1) (n + linesAt s j) ≡ r
+    unfolding marked markedFrom startsAt linesAt
+    m-pass t = let u = rw (drop-at s j h) at t in rw (drop-at s j h, u, marked) at inv
+
+    m-on : (MarkAt s j → ⊥) → isEol (getD s j 0) ≡ false → markedFrom s (j + 1) n ≡ r
+    unfolding linesAt
+    m-on f e = let x = m-pass (mark-no s j f) in let z : n + linesAt s j ≡ n = (let y = here-none (getD s j 0) (drop (j + 1) s) e in omega arith) in rw z at x
+
+    pub m-eol : (m : ℕ) → OneOf ends (getD s j 0) → m ≡ linesAt s j → markedFrom s (j + 1) (n + m) ≡ r
+    m-eol m o q = rw q (m-pass (mark-no s j (λ x. ⊎-elim (λ e. let y = x .0 in absurd (omega arith)) (λ e. let y = x .0 in absurd (omega arith)) o)))
+
+    module _ (e : getD s j 0 ≡ 37) (f : Bool) (q : f ≡ isAt 125 s (j + 1)) where
+      pub m-found : f ≡ true → Closes j n ≡ r
+      m-found t = m-stop (mark-starts s j (e, at-true s (j + 1) 125 (sym q ∙ t) .1))
+
+      pub m-percent : f ≡ false → markedFrom s (j + 1) n ≡ r
+      unfolding isEol
+      m-percent t = m-on (λ x. false≢true (sym t ∙ (q ∙ at-yes s (j + 1) 125 (omega arith) (x .1)))) (rw e)
+
+    m-code : inClass CodeByte (getD s j 0) ≡ true → markedFrom s (j + 1) n ≡ r
+    unfolding inClass
+    m-code t = let x = and-eq-true-iff _ _ .0 t in m-on (λ y. false≢true (sym (not-true _ (x .1)) ∙ eq-eqb _ _ (y .0))) (not-true _ (x .0))
+
+-- such a byte, and a run of the same behind it
+pub m-run : (s : List ℕ) (j n e : ℕ) (r : Brace) → markedFrom s j n ≡ r → j < length s → Runs (inClass CodeByte) s (j + 1) e → (OneOf ends (getD s j 0) → ⊥) → (getD s j 0 ≡ 37 → ⊥) → markedFrom s e n ≡ r
+m-run s j n e r inv h x o f = run-keeps (λ k. markedFrom s k n ≡ r) (inClass CodeByte) s (j + 1) e x (λ k l t v. m-code s k n r v l t) (m-on s j n r inv h (λ y. f (y .0)) (eol-no _ o))
+
 -- where the scans end
 module _ (s : List ℕ) (from : ℕ) where
   abbrev Ready : Mode → ℕ → ℕ → Type 0
@@ -143,6 +197,23 @@ module _ (s : List ℕ) (from : ℕ) where
       (λ f. on-test (Braced s from) (eqb c 125) _ _
       (λ e. on-test (Braced s from) (eqb d 0) _ _ (λ z. (x, y, drop-byte s i c cs q ∙ eqb-true c 125 e)) (λ z. on (d - 1) n (omega arith)))
       (λ g. on-test (Braced s from) (isEol c) _ _ (λ e. on d (n + linesHere c cs) (omega (arith, here-few c cs))) (λ e. on d n (omega arith))))
+
+  m-place : (l : List ℕ) (i n : ℕ) → drop i s ≡ l → from + n ≤ i → Marked s from (marked l i n)
+  unfolding marked startsAt
+  m-place [] i n q x = tt
+  m-place (c ∷ cs) i n q x =
+      on-test (Marked s from) (begins mark (c ∷ cs)) _ _ (λ t. here t)
+      (λ t. m-place cs (i + 1) (n + linesHere c cs) (drop-next s i c cs q) (omega (arith, here-few c cs)))
+    where
+      here : begins mark (c ∷ cs) ≡ true → Marked s from (Closes i n)
+      here t = let y = starts-mark s i (rw q t) in let k = byte-below s (i + 1) 125 (omega arith) (y .1) in (x, omega arith, y)
+
+  marks : Marked s from (markedAt s from)
+  unfolding markedFrom
+  marks = m-place (drop from s) from 0 refl (omega arith)
+
+  pub mark-placed : (r : Brace) → r ≡ markedAt s from → (r ≡ markedAt s from) × Marked s from r
+  mark-placed r e = (e, rw e marks)
 
   module _ (h : from ≤ length s) where
     pub singles : Singled s from (singleAt s from)

@@ -1,4 +1,4 @@
--- Texts to a single colon and actions tell how many lines they passed. Assumes nothing.
+-- Texts to a single colon, actions and texts to a mark tell how many lines they passed. Assumes nothing.
 use Prim.Native.Nat.{ℕ, _+_}
 use mathlib.Core.Path.{_≡_, refl}
 use mathlib.Core.List.{List, [], _∷_}
@@ -7,12 +7,13 @@ use native.Mathlib.Omega.{arith}
 use lib.Dec.{eqb}
 use lib.ListN.{drop}
 use Rattle.scan.specs.declared.Place.{Place}
-use Rattle.scan.specs.Scan.{isEol}
+use Rattle.scan.specs.Scan.{begins, isEol}
 use Rattle.scan.specs.Lines.{linesHere, linesTo}
 use Rattle.scan.proofs.Bytes.{on-test, told, drop-next}
 use Rattle.scan.proofs.Lines.{mark-plain, here-none, lines-next}
 use Rattle.texts.specs.Colon.{Mode, plain, colon, single, singleFrom, singleAt, colonText, colonTextAt}
 use Rattle.texts.specs.Action.{braced, bracedFrom, bracedAt}
+use Rattle.texts.specs.Mark.{mark, marked, markedFrom, markedAt}
 use Rattle.texts.specs.declared.Colon.{Colon}
 use Rattle.texts.specs.declared.Colon.the-variants.{Single, NoSingle}
 use Rattle.texts.specs.declared.ColonText.the-variants.{Upto}
@@ -66,6 +67,11 @@ module _ (s : List ℕ) (from : ℕ) where
       (λ e. on-test ToBrace (eqb d 0) _ _ (λ z. x) (λ z. on _ n (pass i n c cs q x (mark-plain c 125 refl e))))
       (λ g. on-test ToBrace (isEol c) _ _ (λ e. on d (n + linesHere c cs) (hit i n c cs q x)) (λ e. on d n (pass i n c cs q x e))))
 
+  to-mark : (l : List ℕ) (i n : ℕ) → drop i s ≡ l → Till i n → ToBrace (marked l i n)
+  unfolding marked
+  to-mark [] i n q x = tt
+  to-mark (c ∷ cs) i n q x = on-test ToBrace (begins mark (c ∷ cs)) _ _ (λ t. x) (λ t. to-mark cs (i + 1) (n + linesHere c cs) (drop-next s i c cs q) (hit i n c cs q x))
+
   -- Where a single colon is found, "how many lines" end before it is told,
   pub single-tells : (to n : ℕ) → singleAt s from ≡ Single to n → linesTo s from + n ≡ linesTo s to
   unfolding singleFrom
@@ -80,7 +86,12 @@ module _ (s : List ℕ) (from : ℕ) where
       go (Single j m) q e = let u : j ≡ to = cc in let v : m ≡ n = cc in let y = single-tells j m q in rw (u, v) at y
       go (NoSingle end) q e = let z : _≡_ {A = ℕ} 0 1 = cc in absurd (omega arith)
 
-  -- and where an action's closing brace is found, how many end inside.
+  -- where an action's closing brace is found, how many end inside,
   pub braced-tells : (to n : ℕ) → bracedAt s from ≡ Closes to n → linesTo s from + n ≡ linesTo s to
   unfolding bracedFrom
   braced-tells to n e = told ToBrace e (to-brace (drop from s) 0 from 0 refl (omega arith))
+
+  -- and where a mark is found, how many end before it.
+  pub mark-tells : (to n : ℕ) → markedAt s from ≡ Closes to n → linesTo s from + n ≡ linesTo s to
+  unfolding markedFrom
+  mark-tells to n e = told ToBrace e (to-mark (drop from s) from 0 refl (omega arith))

@@ -12,6 +12,7 @@ use Rattle.utf8.specs.Utf8.{leadOf, follow, begun, decode, decodeAt}
 use Rattle.trim.specs.Trim.{passed, passedAt, kept, moved, trimTurn, trimmed}
 use Rattle.texts.specs.Line.{lineEndAt}
 use Rattle.texts.specs.Colon.{single, singleFrom, colonText, colonTextAt, colonNumbers}
+use Rattle.texts.specs.Mark.{marked, markedFrom, markedAt, markNumbers}
 use Rattle.texts.specs.Action.{braced, bracedFrom, acted, actionAt, actionNumbers}
 
 -- a source, and the index where the text begins, or the action's brace stands
@@ -120,3 +121,39 @@ actions =
 pub actions-hold : all (λ x. actionNumbers (actionAt (x .src) (x .at))) actions ≡ true
 unfolding all same row actions actionNumbers actionAt acted bracedFrom braced isEol linesHere begins turns trimmed trimTurn moved kept passed passedAt isWhite decodeAt decode begun follow leadOf
 actions-hold = refl
+
+unfoldable pub marks : List (Case Input)
+marks =
+    -- nothing at 0
+    row [] 0 (51 ∷ [])
+    -- `%{` at 2
+    ∷ row (37 ∷ 123 ∷ []) 2 (51 ∷ [])
+    -- `%{%` at 2
+    ∷ row (37 ∷ 123 ∷ 37 ∷ []) 2 (51 ∷ [])
+    -- `%{%}%%s:;` at 2
+    ∷ row (37 ∷ 123 ∷ 37 ∷ 125 ∷ 37 ∷ 37 ∷ 115 ∷ 58 ∷ 59 ∷ []) 2 (0 ∷ 2 ∷ 0 ∷ [])
+    -- `%}` at 0
+    ∷ row (37 ∷ 125 ∷ []) 0 (0 ∷ 0 ∷ 0 ∷ [])
+    -- `%}%}` at 1
+    ∷ row (37 ∷ 125 ∷ 37 ∷ 125 ∷ []) 1 (0 ∷ 2 ∷ 0 ∷ [])
+    -- `%%}` at 0
+    ∷ row (37 ∷ 37 ∷ 125 ∷ []) 0 (0 ∷ 1 ∷ 0 ∷ [])
+    -- `% }` at 0
+    ∷ row (37 ∷ 32 ∷ 125 ∷ []) 0 (51 ∷ [])
+    -- `}%` at 0
+    ∷ row (125 ∷ 37 ∷ []) 0 (51 ∷ [])
+    -- `a\r\nb\n%}` at 0
+    ∷ row (97 ∷ 13 ∷ 10 ∷ 98 ∷ 10 ∷ 37 ∷ 125 ∷ []) 0 (0 ∷ 5 ∷ 2 ∷ [])
+    -- `\r%}` at 0
+    ∷ row (13 ∷ 37 ∷ 125 ∷ []) 0 (0 ∷ 1 ∷ 1 ∷ [])
+    -- `%\n}%}` at 0
+    ∷ row (37 ∷ 10 ∷ 125 ∷ 37 ∷ 125 ∷ []) 0 (0 ∷ 3 ∷ 1 ∷ [])
+    -- `"%}"%}` at 0
+    ∷ row (34 ∷ 37 ∷ 125 ∷ 34 ∷ 37 ∷ 125 ∷ []) 0 (0 ∷ 1 ∷ 0 ∷ [])
+    -- `{é}%}%}` at 0
+    ∷ row (123 ∷ 195 ∷ 169 ∷ 125 ∷ 37 ∷ 125 ∷ 37 ∷ 125 ∷ []) 0 (0 ∷ 4 ∷ 0 ∷ [])
+    ∷ []
+
+pub marks-hold : all (λ x. markNumbers (markedAt (x .src) (x .at))) marks ≡ true
+unfolding all same row marks markNumbers marked markedFrom begins linesHere
+marks-hold = refl

@@ -1,4 +1,4 @@
-// Texts: to the line end, to a single colon, and actions between braces; the last two with their trimmed places.
+// Texts: to the line end, to a single colon, to the mark `%}`, and actions between braces; to a colon and actions with their trimmed places.
 use scan::Class;
 use scan::Place;
 ghost use mathlib.Core.Path.{_≡_};
@@ -6,6 +6,7 @@ ghost use Prim.Native.Nat.{_≤_, _<_};
 ghost use lib.ListN.{length};
 ghost use Rattle.texts.specs.Colon.{singleAt, colonTextAt, Singled, ColonTexts};
 ghost use Rattle.texts.specs.Action.{bracedAt, actionAt, Braced, Acted};
+ghost use Rattle.texts.specs.Mark.{markedAt, Marked};
 ghost use Rattle.texts.specs.Line.{lineEndAt, Lined};
 
 pub enum Colon {
@@ -23,7 +24,7 @@ pub enum ColonText {
 }
 
 pub enum Brace {
-    // Where the closing brace stands, and the lines that end before it.
+    // Where the closing brace or mark stands, and the lines that end before it.
     Closes(usize, usize),
     NeverCloses,
 }
@@ -112,6 +113,35 @@ pub fn closing_brace(s: &[u8], from: usize) -> Brace
             }
             _ => {
                 j = scan::far_end(s, j + 1, Class::TextByte);
+            }
+        }
+    }
+    Brace::NeverCloses
+}
+
+// The first `%}` from `from` on: nothing else is looked at.
+pub fn closing_mark(s: &[u8], from: usize) -> Brace
+    requires { ⌜ from ≤ length (now s) ⌝ }
+    ensures { λ r. ⌜ r ≡ markedAt (now (s .entry)) from ⌝ }
+    ensures { λ r. ⌜ Marked (now (s .entry)) from r ⌝ }
+{
+    let mut j = from;
+    let mut n = 0;
+    while j < s.len() {
+        let c = s[j];
+        match c {
+            37 => {
+                if scan::is_at(s, j + 1, b'}') {
+                    return Brace::Closes(j, n);
+                }
+                j += 1;
+            }
+            10 | 13 => {
+                n += scan::lines_at(s, j);
+                j += 1;
+            }
+            _ => {
+                j = scan::far_end(s, j + 1, Class::CodeByte);
             }
         }
     }

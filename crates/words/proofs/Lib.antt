@@ -1,4 +1,5 @@
 pub mod Words
+pub mod Tags
 pub mod Numbers
 pub mod Strings
 pub mod Meaning

@@ -1,4 +1,4 @@
--- What names, tokens and integers are without a scan: the scan answers a place exactly where one stands. Assumes nothing.
+-- What names, tokens, tags and integers are without a scan: the scan answers a place exactly where one stands. Assumes nothing.
 use Prim.Native.Nat.{ℕ, _+_, _^_, _≤_, _<_}
 use mathlib.Core.Path.{_≡_, refl, sym, _∙_}
 use mathlib.Core.List.{List}
@@ -11,17 +11,20 @@ use lib.ListN.{length, getD}
 use borrow.Author.Tests.{leb-false, ltb-true, eqb-true, eqb-false, eq-eqb, ne-eqb}
 use Rattle.scan.specs.declared.Place.{Place}
 use Rattle.scan.specs.declared.Class.{Class}
-use Rattle.scan.specs.declared.Class.the-variants.{NameStart, NameByte, TokenStart, TokenByte, Digit, Unquoted}
-use Rattle.scan.specs.Scan.{isAt, isLetter, isDigit, inClass, runEndAt}
-use Rattle.scan.proofs.Bytes.{on-test, told, within-true, at-true, at-here}
+use Rattle.scan.specs.declared.Class.the-variants.{NameStart, NameByte, TokenStart, TokenByte, Digit, Unquoted, TagByte}
+use Rattle.scan.specs.Scan.{isAt, isLetter, isDigit, isEol, inClass, runEndAt, Runs}
+use Rattle.scan.proofs.Bytes.{on-test, told, within-true, at-true, at-here, at-yes}
 use Rattle.scan.proofs.Runs.{run-is, run-one}
 use Rattle.words.specs.Words.{wordAt, named, nameAt, isQuote, found, closed, quotedAt, bare, tokenAt, IsWord, IsQuoted, IsToken, bare-token, quoted-token}
+use Rattle.words.specs.Tags.{tagClosed, tagAt, IsTag}
 use Rattle.words.specs.Numbers.{decimalAt, counted, intAt, IsInt}
 use Rattle.words.specs.declared.Word.{Word}
 use Rattle.words.specs.declared.Word.the-variants.{WordTo, NoWord}
 use Rattle.words.specs.declared.Name.the-variants.{NameTo}
 use Rattle.words.specs.declared.Token.{Token}
 use Rattle.words.specs.declared.Token.the-variants.{Found, NoToken}
+use Rattle.words.specs.declared.Tag.{Tag}
+use Rattle.words.specs.declared.Tag.the-variants.{TagTo, OpenTag, NoTag}
 use Rattle.words.specs.declared.Int.{Int}
 use Rattle.words.specs.declared.Int.the-variants.{Value}
 use Rattle.words.proofs.Words.{word-to, quoted-found, token-quoted, token-bare}
@@ -170,6 +173,81 @@ token-no-dot s from p end e = go (token-iff s from p end false .0 e) refl
     go : {p : Place} {end : ℕ} {quoted : Bool} → IsToken s from p end quoted → quoted ≡ false → (k : ℕ) → p .from ≤ k → k < p .to → getD s k 0 ≡ 46 → ⊥
     go (bare-token x) f = λ k h l. no-dot s from _ k x h l
     go (quoted-token x) f = absurd (false≢true (sym f))
+
+-- the byte that closes a tag is none of its bytes
+bracket-no-byte : inClass TagByte 62 ≡ false
+unfolding inClass isEol
+bracket-no-byte = refl
+
+module _ (s : List ℕ) (from : ℕ) where
+  -- a tag's bytes are a run
+  tag-run : (p : Place) (end : ℕ) → IsTag s from p end → Runs (inClass TagByte) s (p .from) (p .to)
+  tag-run p end x = let h = x .inside in record { onward = x .onward; inside = omega arith; each = x .each; stops = λ k. rw (x .closes) bracket-no-byte }
+
+  -- A tag has one place and one end.
+  pub tag-one : (p p′ : Place) (end end′ : ℕ) → IsTag s from p end → IsTag s from p′ end′ → (p ≡ p′) × (end ≡ end′)
+  tag-one p p′ end end′ x y =
+      let a : p .from ≡ p′ .from = x .behind ∙ sym (y .behind) in
+      let b : p .to ≡ p′ .to = run-one (inClass TagByte) s (from + 1) _ _ (rw (x .behind) at (tag-run p end x)) (rw (y .behind) at (tag-run p′ end′ y)) in
+      let u = x .ended in
+      let v = y .ended in
+      (λ i. record { from = a i; to = b i }, omega arith)
+
+  -- what the answer tells
+  abbrev TagTold : Tag → Type 0
+  TagTold (TagTo p end) = IsTag s from p end
+  TagTold (OpenTag i) = (i ≡ from) × (getD s from 0 ≡ 60) × ((p : Place) (end : ℕ) → IsTag s from p end → ⊥)
+  TagTold (NoTag i) = (i ≡ from) × (getD s from 0 ≡ 60 → ⊥)
+
+  tag-tells : TagTold (tagAt s from)
+  unfolding tagAt tagClosed
+  tag-tells =
+      on-test TagTold (isAt 60 s from) _ _
+      (λ t. let o = at-true s from 60 t in
+      on-test TagTold (isAt 62 s to) _ _
+      (λ u. stands (o .0) (o .1) (at-true s to 62 u))
+      (λ u. (refl, o .1, λ p end x. false≢true (sym u ∙ shut (o .0) p end x))))
+      (λ f. (refl, λ e. false≢true (sym f ∙ at-yes s from 60 (omega arith) e)))
+    where
+      to : ℕ
+      to = runEndAt (inClass TagByte) s (from + 1)
+
+      stands : from < length s → getD s from 0 ≡ 60 → (to < length s) × (getD s to 0 ≡ 62) → IsTag s from (record { from = from + 1; to = to }) (to + 1)
+      stands l o c =
+          let r = run-is (inClass TagByte) s (from + 1) (omega arith) in
+          record { opens = o; behind = refl; onward = r .onward; each = r .each; inside = c .0; closes = c .1; ended = refl }
+
+      shut : from < length s → (p : Place) (end : ℕ) → IsTag s from p end → isAt 62 s to ≡ true
+      shut l p end x =
+          let e = run-one (inClass TagByte) s (from + 1) _ _ (rw (x .behind) at (tag-run p end x)) (run-is (inClass TagByte) s (from + 1) (omega arith)) in
+          rw (← e) (at-yes s (p .to) 62 (omega arith) (x .closes))
+
+  -- A tag is read exactly where one stands, with its place and its end,
+  pub tag-iff : (p : Place) (end : ℕ) → (tagAt s from ≡ TagTo p end) ↔ IsTag s from p end
+  tag-iff p end = (λ e. told TagTold e tag-tells, λ x. go (tagAt s from) tag-tells x)
+    where
+      go : (t : Tag) → TagTold t → IsTag s from p end → t ≡ TagTo p end
+      go (TagTo p′ end′) y x = let z = tag-one p′ p end′ end y x in rw (z .0, z .1)
+      go (OpenTag i) y x = absurd (y .2 p end x)
+      go (NoTag i) y x = absurd (y .1 (x .opens))
+
+  -- 50 is given at its `<` exactly where `<` stands and no tag,
+  pub open-tag-iff : (i : ℕ) → (tagAt s from ≡ OpenTag i) ↔ ((i ≡ from) × (getD s from 0 ≡ 60) × ((p : Place) (end : ℕ) → IsTag s from p end → ⊥))
+  open-tag-iff i = (λ e. told TagTold e tag-tells, λ x. go (tagAt s from) tag-tells x)
+    where
+      go : (t : Tag) → TagTold t → (i ≡ from) × (getD s from 0 ≡ 60) × ((p : Place) (end : ℕ) → IsTag s from p end → ⊥) → t ≡ OpenTag i
+      go (TagTo p end) y x = absurd (x .2 p end y)
+      go (OpenTag j) y x = rw (y .0, x .0)
+      go (NoTag j) y x = absurd (y .1 (x .1))
+
+  -- and there is none, where it was sought, exactly where no `<` stands.
+  pub no-tag-iff : (i : ℕ) → (tagAt s from ≡ NoTag i) ↔ ((i ≡ from) × (getD s from 0 ≡ 60 → ⊥))
+  no-tag-iff i = (λ e. told TagTold e tag-tells, λ x. go (tagAt s from) tag-tells x)
+    where
+      go : (t : Tag) → TagTold t → (i ≡ from) × (getD s from 0 ≡ 60 → ⊥) → t ≡ NoTag i
+      go (TagTo p end) y x = absurd (x .1 (y .opens))
+      go (OpenTag j) y x = absurd (x .1 (y .1))
+      go (NoTag j) y x = rw (y .0, x .0)
 
 module _ (s : List ℕ) (from to : ℕ) where
   -- An integer is read exactly where digits stand whose decimal value fits 64 bits.

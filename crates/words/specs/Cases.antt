@@ -6,6 +6,7 @@ use mathlib.Core.List.{List, [], _∷_}
 use Rattle.scan.specs.Scan.{isAt, isLetter, isDigit, isEol, inClass, runEnd, runEndAt}
 use Rattle.scan.specs.Table.{Case, same, all}
 use Rattle.words.specs.Words.{wordAt, named, nameAt, isQuote, closed, quotedAt, bare, tokenAt, nameNumbers, tokenNumbers}
+use Rattle.words.specs.Tags.{tagClosed, tagAt, tagNumbers}
 use Rattle.words.specs.Numbers.{decimal, decimalAt, counted, intAt, intNumbers}
 use Rattle.words.specs.Strings.{string, stringFrom, stringAt, stringNumbers}
 
@@ -94,6 +95,46 @@ tokens =
 pub tokens-hold : all (λ x. tokenNumbers (tokenAt (x .src) (x .at))) tokens ≡ true
 unfolding all same row tokens tokenNumbers tokenAt bare quotedAt closed isQuote isAt wordAt inClass isLetter isDigit runEnd runEndAt
 tokens-hold = refl
+
+unfoldable pub tags : List (Case Input)
+tags =
+    -- nothing at 0
+    row [] 0 (0 ∷ [])
+    -- `<` at 0
+    ∷ row (60 ∷ []) 0 (50 ∷ 0 ∷ [])
+    -- `A` at 0
+    ∷ row (65 ∷ []) 0 (0 ∷ [])
+    -- `<t>A` at 0
+    ∷ row (60 ∷ 116 ∷ 62 ∷ 65 ∷ []) 0 (0 ∷ 1 ∷ 2 ∷ 3 ∷ [])
+    -- `%token<t>A` at 6
+    ∷ row (37 ∷ 116 ∷ 111 ∷ 107 ∷ 101 ∷ 110 ∷ 60 ∷ 116 ∷ 62 ∷ 65 ∷ []) 6 (0 ∷ 7 ∷ 8 ∷ 9 ∷ [])
+    -- `<>` at 0
+    ∷ row (60 ∷ 62 ∷ []) 0 (0 ∷ 1 ∷ 1 ∷ 2 ∷ [])
+    -- `< t >` at 0
+    ∷ row (60 ∷ 32 ∷ 116 ∷ 32 ∷ 62 ∷ []) 0 (0 ∷ 1 ∷ 4 ∷ 5 ∷ [])
+    -- `<a<b>` at 0
+    ∷ row (60 ∷ 97 ∷ 60 ∷ 98 ∷ 62 ∷ []) 0 (0 ∷ 1 ∷ 4 ∷ 5 ∷ [])
+    -- `<a>>` at 0
+    ∷ row (60 ∷ 97 ∷ 62 ∷ 62 ∷ []) 0 (0 ∷ 1 ∷ 2 ∷ 3 ∷ [])
+    -- `%token<t` at 6
+    ∷ row (37 ∷ 116 ∷ 111 ∷ 107 ∷ 101 ∷ 110 ∷ 60 ∷ 116 ∷ []) 6 (50 ∷ 6 ∷ [])
+    -- `%token <t\r>A` at 7
+    ∷ row (37 ∷ 116 ∷ 111 ∷ 107 ∷ 101 ∷ 110 ∷ 32 ∷ 60 ∷ 116 ∷ 13 ∷ 62 ∷ 65 ∷ []) 7 (50 ∷ 7 ∷ [])
+    -- `<\nt>` at 0
+    ∷ row (60 ∷ 10 ∷ 116 ∷ 62 ∷ []) 0 (50 ∷ 0 ∷ [])
+    -- `<é>` at 0
+    ∷ row (60 ∷ 195 ∷ 169 ∷ 62 ∷ []) 0 (0 ∷ 1 ∷ 3 ∷ 4 ∷ [])
+    -- ` <t>` at 0
+    ∷ row (32 ∷ 60 ∷ 116 ∷ 62 ∷ []) 0 (0 ∷ [])
+    -- `%type ` at 6
+    ∷ row (37 ∷ 116 ∷ 121 ∷ 112 ∷ 101 ∷ 32 ∷ []) 6 (6 ∷ [])
+    -- `<t>` at 2
+    ∷ row (60 ∷ 116 ∷ 62 ∷ []) 2 (2 ∷ [])
+    ∷ []
+
+pub tags-hold : all (λ x. tagNumbers (tagAt (x .src) (x .at))) tags ≡ true
+unfolding all same row tags tagNumbers tagAt tagClosed isAt inClass isEol runEnd runEndAt
+tags-hold = refl
 
 unfoldable pub integers : List (Case Input)
 integers =

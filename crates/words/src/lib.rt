@@ -1,10 +1,11 @@
-// The words of a specification: names, tokens, integers, strings.
+// The words of a specification: names, tokens, tags, integers, strings.
 use scan::Class;
 use scan::Place;
 ghost use mathlib.Core.Path.{_≡_};
 ghost use Prim.Native.Nat.{_≤_};
 ghost use lib.ListN.{length};
 ghost use Rattle.words.specs.Words.{wordAt, nameAt, tokenAt, quotedAt, isQuote, Worded, Named, Tokened};
+ghost use Rattle.words.specs.Tags.{tagAt, Tagged};
 ghost use Rattle.words.specs.Numbers.{intAt, Counted};
 ghost use Rattle.words.specs.Strings.{stringAt, Stringed};
 
@@ -24,6 +25,15 @@ pub enum Token {
     // The place without quotes, the end behind the closing quote if there is one, quoted or not.
     Found(Place, usize, bool),
     NoToken(usize),
+}
+
+pub enum Tag {
+    // The place between the brackets, and the end behind `>`.
+    TagTo(Place, usize),
+    // No `>` closes it on its line: where its `<` stands.
+    OpenTag(usize),
+    // No `<` stands here.
+    NoTag(usize),
 }
 
 pub enum Int {
@@ -114,6 +124,23 @@ pub fn parse_token(s: &[u8], from: usize) -> Token
     match word_at(s, from, Class::TokenStart, Class::TokenByte) {
         Word::WordTo(to) => Token::Found(Place { from, to }, to, false),
         Word::NoWord => Token::NoToken(from),
+    }
+}
+
+pub fn parse_tag(s: &[u8], from: usize) -> Tag
+    requires { ⌜ from ≤ length (now s) ⌝ }
+    ensures { λ r. ⌜ r ≡ tagAt (now (s .entry)) from ⌝ }
+    ensures { λ r. ⌜ Tagged (now (s .entry)) from r ⌝ }
+{
+    if !scan::is_at(s, from, b'<') {
+        return Tag::NoTag(from);
+    }
+    let i = from + 1;
+    let to = scan::run_end(s, i, Class::TagByte);
+    if scan::is_at(s, to, b'>') {
+        Tag::TagTo(Place { from: i, to }, to + 1)
+    } else {
+        Tag::OpenTag(from)
     }
 }
 

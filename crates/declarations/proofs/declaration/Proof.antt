@@ -114,15 +114,15 @@ prec-decl-requires-3 c κs = (search needs, c .before .before .before .before .b
 enum-told-16 : tie.Need-enum-told-16
 enum-told-16 c = search needs
 
-cast-t82 : tie.Need-cast-t82
-cast-t82 c = search needs
+cast-t81 : tie.Need-cast-t81
+cast-t81 c = search needs
 
 returns : tie.Need-returns
 returns c =
     let l = c .before .before in
     let p = l .before .before .before .before .before .before .before .before .before .before .before .pre in
     let e = c .enum-told .given .1 in
-    (arm _ _ _ (tables l) _ (l .look .ensures .0) Percents _ e refl, (stays-put _ _ _ (p .0 .within) (λ z. clash (cc)), (p .1, p .2)))
+    (arm _ _ (tables l) _ (l .look .ensures .0) Percents _ e refl, (stays-put _ _ _ (p .0 .within) (λ z. clash (cc)), (p .1, p .2)))
 
 same-length : tie.Need-same-length
 same-length c = c .before .before .before .before .list-decl .kept .1 .1 .1 .0
@@ -137,7 +137,7 @@ returns-2 c =
     let l = k .before .before in
     let p = l .before .before .before .before .before .before .before .before .before .before .before .pre in
     let e = k .enum-told2 .given .1 in
-    (arm _ _ _ (tables l) _ (l .look .ensures .0) TokenWord _ e (ap (in1 (tables l)) (o .list-decl .ensures .0)), (further _ _ _ TokenWord _ _ (l .look .ensures .1) e (λ z. clash (cc)) (o .list-decl .ensures .1 .0), (o .list-decl .ensures .1 .1 .keeps refl, by-tokens _ _ _ _ _ _ _ _ (p .2) _ _ _ (o .list-decl .ensures .0))))
+    (arm _ _ (tables l) _ (l .look .ensures .0) TokenWord _ e (ap (in1 (tables l)) (o .list-decl .ensures .0)), (further _ _ _ TokenWord _ _ (l .look .ensures .1) e (λ z. clash (cc)) (o .list-decl .ensures .1 .0), (o .list-decl .ensures .1 .1 .keeps refl, by-tokens _ _ _ _ _ _ _ _ (p .2) _ _ _ (o .list-decl .ensures .0))))
 
 same-length-3 : tie.Need-same-length-3
 same-length-3 c = c .before .before .actiontype-decl .kept .1 .1 .0
@@ -149,7 +149,7 @@ returns-3 c =
     let l = k .before .before in
     let p = l .before .before .before .before .before .before .before .before .before .before .before .pre in
     let e = k .enum-told3 .given .1 in
-    (arm _ _ _ (tables l) _ (l .look .ensures .0) ActiontypeWord _ e (ap (in10 (tables l)) (o .actiontype-decl .ensures .0)), (further _ _ _ ActiontypeWord _ _ (l .look .ensures .1) e (λ z. clash (cc)) (o .actiontype-decl .ensures .1), by-actiontype _ _ _ _ _ _ _ _ _ (p .1) (p .2) _ _ _ _ (o .actiontype-decl .ensures .0)))
+    (arm _ _ (tables l) _ (l .look .ensures .0) ActiontypeWord _ e (ap (in10 (tables l)) (o .actiontype-decl .ensures .0)), (further _ _ _ ActiontypeWord _ _ (l .look .ensures .1) e (λ z. clash (cc)) (o .actiontype-decl .ensures .1), by-actiontype _ _ _ _ _ _ _ _ _ (p .1) (p .2) _ _ _ _ (o .actiontype-decl .ensures .0)))
 
 same-length-4 : tie.Need-same-length-4
 same-length-4 c = c .before .before .start-decl .kept .1 .1 .0
@@ -161,7 +161,7 @@ returns-4 c =
     let l = k .before .before in
     let p = l .before .before .before .before .before .before .before .before .before .before .before .pre in
     let e = k .enum-told4 .given .1 in
-    (arm _ _ _ (tables l) _ (l .look .ensures .0) StartWord _ e (ap (in10 (tables l)) (o .start-decl .ensures .0)), (further _ _ _ StartWord _ _ (l .look .ensures .1) e (λ z. clash (cc)) (o .start-decl .ensures .1), by-start _ _ _ _ _ _ _ _ _ (p .1) (p .2) _ _ _ _ (o .start-decl .ensures .0)))
+    (arm _ _ (tables l) _ (l .look .ensures .0) StartWord _ e (ap (in10 (tables l)) (o .start-decl .ensures .0)), (further _ _ _ StartWord _ _ (l .look .ensures .1) e (λ z. clash (cc)) (o .start-decl .ensures .1), by-start _ _ _ _ _ _ _ _ _ (p .1) (p .2) _ _ _ _ (o .start-decl .ensures .0)))
 
 same-length-5 : tie.Need-same-length-5
 same-length-5 c = c .before .before .before .before .before .before .epp-decl .kept .1 .1 .0
@@ -179,7 +179,7 @@ returns-5 c =
     let l = k .before .before in
     let p = l .before .before .before .before .before .before .before .before .before .before .before .pre in
     let e = k .enum-told5 .given .1 in
-    (arm _ _ _ (tables l) _ (l .look .ensures .0) EppWord _ e (ap (in5-10 (tables l)) (o .epp-decl .ensures .0)), (further _ _ _ EppWord _ _ (l .look .ensures .1) e (λ z. clash (cc)) (o .epp-decl .ensures .1 .0), by-epp _ _ _ _ _ _ _ _ _ (p .1) (p .2) _ _ _ _ _ _ (o .epp-decl .ensures .0) (o .epp-decl .ensures .1 .1)))
+    (arm _ _ (tables l) _ (l .look .ensures .0) EppWord _ e (ap (in5-10 (tables l)) (o .epp-decl .ensures .0)), (further _ _ _ EppWord _ _ (l .look .ensures .1) e (λ z. clash (cc)) (o .epp-decl .ensures .1 .0), by-epp _ _ _ _ _ _ _ _ _ (p .1) (p .2) _ _ _ _ _ _ (o .epp-decl .ensures .0) (o .epp-decl .ensures .1 .1)))
 
 same-length-8 : tie.Need-same-length-8
 same-length-8 c = c .before .before .expect-decl .kept .1 .1 .1 .0
@@ -191,7 +191,7 @@ returns-6 c =
     let l = k .before .before in
     let p = l .before .before .before .before .before .before .before .before .before .before .before .pre in
     let e = k .enum-told6 .given .1 in
-    (arm _ _ _ (tables l) _ (l .look .ensures .0) ExpectRrWord _ e (ap (in10 (tables l)) (o .expect-decl .ensures .0)), (further _ _ _ ExpectRrWord _ _ (l .look .ensures .1) e (λ z. clash (cc)) (o .expect-decl .ensures .1), by-expect _ _ _ _ _ _ _ _ _ (p .1) (p .2) _ _ _ _ _ (o .expect-decl .ensures .0)))
+    (arm _ _ (tables l) _ (l .look .ensures .0) ExpectRrWord _ e (ap (in10 (tables l)) (o .expect-decl .ensures .0)), (further _ _ _ ExpectRrWord _ _ (l .look .ensures .1) e (λ z. clash (cc)) (o .expect-decl .ensures .1), by-expect _ _ _ _ _ _ _ _ _ (p .1) (p .2) _ _ _ _ _ (o .expect-decl .ensures .0)))
 
 same-length-9 : tie.Need-same-length-9
 same-length-9 c = c .before .before .before .before .list-decl2 .kept .1 .1 .1 .0
@@ -206,7 +206,7 @@ returns-7 c =
     let l = k .before .before in
     let p = l .before .before .before .before .before .before .before .before .before .before .before .pre in
     let e = k .enum-told7 .given .1 in
-    (arm _ _ _ (tables l) _ (l .look .ensures .0) ExpectUnusedWord _ e (ap (in6 (tables l)) (o .list-decl2 .ensures .0)), (further _ _ _ ExpectUnusedWord _ _ (l .look .ensures .1) e (λ z. clash (cc)) (o .list-decl2 .ensures .1 .0), by-unused _ _ _ _ _ _ _ _ _ (p .1) (p .2) _ _ _ _ _ (o .list-decl2 .ensures .0) (o .list-decl2 .ensures .1 .1 .leaves refl)))
+    (arm _ _ (tables l) _ (l .look .ensures .0) ExpectUnusedWord _ e (ap (in6 (tables l)) (o .list-decl2 .ensures .0)), (further _ _ _ ExpectUnusedWord _ _ (l .look .ensures .1) e (λ z. clash (cc)) (o .list-decl2 .ensures .1 .0), by-unused _ _ _ _ _ _ _ _ _ (p .1) (p .2) _ _ _ _ _ (o .list-decl2 .ensures .0) (o .list-decl2 .ensures .1 .1 .leaves refl)))
 
 same-length-11 : tie.Need-same-length-11
 same-length-11 c = c .before .before .expect-decl2 .kept .1 .1 .1 .0
@@ -218,7 +218,7 @@ returns-8 c =
     let l = k .before .before in
     let p = l .before .before .before .before .before .before .before .before .before .before .before .pre in
     let e = k .enum-told8 .given .1 in
-    (arm _ _ _ (tables l) _ (l .look .ensures .0) ExpectWord _ e (ap (in10 (tables l)) (o .expect-decl2 .ensures .0)), (further _ _ _ ExpectWord _ _ (l .look .ensures .1) e (λ z. clash (cc)) (o .expect-decl2 .ensures .1), by-expect _ _ _ _ _ _ _ _ _ (p .1) (p .2) _ _ _ _ _ (o .expect-decl2 .ensures .0)))
+    (arm _ _ (tables l) _ (l .look .ensures .0) ExpectWord _ e (ap (in10 (tables l)) (o .expect-decl2 .ensures .0)), (further _ _ _ ExpectWord _ _ (l .look .ensures .1) e (λ z. clash (cc)) (o .expect-decl2 .ensures .1), by-expect _ _ _ _ _ _ _ _ _ (p .1) (p .2) _ _ _ _ _ (o .expect-decl2 .ensures .0)))
 
 same-length-12 : tie.Need-same-length-12
 same-length-12 c = c .before .before .before .before .before .before .before .before .before .before .avoid-decl .kept .1 .1 .1 .1 .0
@@ -242,7 +242,7 @@ returns-9 c =
     let l = k .before .before in
     let p = l .before .before .before .before .before .before .before .before .before .before .before .pre in
     let e = k .enum-told9 .given .1 in
-    (arm _ _ _ (tables l) _ (l .look .ensures .0) AvoidInsertWord _ e (ap (in1-3-10 (tables l)) (o .avoid-decl .ensures .0)), (further _ _ _ AvoidInsertWord _ _ (l .look .ensures .1) e (λ z. clash (cc)) (o .avoid-decl .ensures .1 .0), (o .avoid-decl .ensures .1 .1 .0, by-avoided _ _ _ _ _ _ _ _ (p .2) _ _ _ _ _ _ _ _ (o .avoid-decl .ensures .0) (o .avoid-decl .ensures .1 .1 .1))))
+    (arm _ _ (tables l) _ (l .look .ensures .0) AvoidInsertWord _ e (ap (in1-3-10 (tables l)) (o .avoid-decl .ensures .0)), (further _ _ _ AvoidInsertWord _ _ (l .look .ensures .1) e (λ z. clash (cc)) (o .avoid-decl .ensures .1 .0), (o .avoid-decl .ensures .1 .1 .0, by-avoided _ _ _ _ _ _ _ _ (p .2) _ _ _ _ _ _ _ _ (o .avoid-decl .ensures .0) (o .avoid-decl .ensures .1 .1 .1))))
 
 returns-10 : tie.Need-returns-10
 returns-10 c =
@@ -251,7 +251,7 @@ returns-10 c =
     let l = k .before .before in
     let p = l .before .before .before .before .before .before .before .before .before .before .before .pre in
     let e = k .enum-told10 .given .1 in
-    (arm _ _ _ (tables l) _ (l .look .ensures .0) ParseParamWord _ e (ap (in0 (tables l)) (o .param-decl .ensures .0)), (further _ _ _ ParseParamWord _ _ (l .look .ensures .1) e (λ z. clash (cc)) (o .param-decl .ensures .1), by-param _ _ _ _ _ _ _ _ _ (p .1) (p .2) _ _ (o .param-decl .ensures .0)))
+    (arm _ _ (tables l) _ (l .look .ensures .0) ParseParamWord _ e (ap (in0 (tables l)) (o .param-decl .ensures .0)), (further _ _ _ ParseParamWord _ _ (l .look .ensures .1) e (λ z. clash (cc)) (o .param-decl .ensures .1), by-param _ _ _ _ _ _ _ _ _ (p .1) (p .2) _ _ (o .param-decl .ensures .0)))
 
 returns-11 : tie.Need-returns-11
 returns-11 c =
@@ -260,7 +260,7 @@ returns-11 c =
     let l = k .before .before in
     let p = l .before .before .before .before .before .before .before .before .before .before .before .pre in
     let e = k .enum-told11 .given .1 in
-    (arm _ _ _ (tables l) _ (l .look .ensures .0) ParseGenericsWord _ e (ap (in0 (tables l)) (o .generics-decl .ensures .0)), (further _ _ _ ParseGenericsWord _ _ (l .look .ensures .1) e (λ z. clash (cc)) (o .generics-decl .ensures .1), by-generics _ _ _ _ _ _ _ _ _ (p .1) (p .2) _ _ (o .generics-decl .ensures .0)))
+    (arm _ _ (tables l) _ (l .look .ensures .0) ParseGenericsWord _ e (ap (in0 (tables l)) (o .generics-decl .ensures .0)), (further _ _ _ ParseGenericsWord _ _ (l .look .ensures .1) e (λ z. clash (cc)) (o .generics-decl .ensures .1), by-generics _ _ _ _ _ _ _ _ _ (p .1) (p .2) _ _ (o .generics-decl .ensures .0)))
 
 same-length-17 : tie.Need-same-length-17
 same-length-17 c = c .before .before .before .before .before .before .before .before .before .before .avoid-decl2 .kept .1 .1 .1 .1 .0
@@ -284,7 +284,7 @@ returns-12 c =
     let l = k .before .before in
     let p = l .before .before .before .before .before .before .before .before .before .before .before .pre in
     let e = k .enum-told12 .given .1 in
-    (arm _ _ _ (tables l) _ (l .look .ensures .0) ImplicitTokensWord _ e (ap (in1-4-10 (tables l)) (o .avoid-decl2 .ensures .0)), (further _ _ _ ImplicitTokensWord _ _ (l .look .ensures .1) e (λ z. clash (cc)) (o .avoid-decl2 .ensures .1 .0), (o .avoid-decl2 .ensures .1 .1 .0, by-implicit _ _ _ _ _ _ _ _ (p .2) _ _ _ _ _ _ _ _ (o .avoid-decl2 .ensures .0) (o .avoid-decl2 .ensures .1 .1 .1))))
+    (arm _ _ (tables l) _ (l .look .ensures .0) ImplicitTokensWord _ e (ap (in1-4-10 (tables l)) (o .avoid-decl2 .ensures .0)), (further _ _ _ ImplicitTokensWord _ _ (l .look .ensures .1) e (λ z. clash (cc)) (o .avoid-decl2 .ensures .1 .0), (o .avoid-decl2 .ensures .1 .1 .0, by-implicit _ _ _ _ _ _ _ _ (p .2) _ _ _ _ _ _ _ _ (o .avoid-decl2 .ensures .0) (o .avoid-decl2 .ensures .1 .1 .1))))
 
 same-length-22 : tie.Need-same-length-22
 same-length-22 c = c .before .before .before .before .before .before .prec-decl .kept .1 .1 .1 .0
@@ -302,7 +302,7 @@ returns-13 c =
     let l = k .before .before in
     let p = l .before .before .before .before .before .before .before .before .before .before .before .pre in
     let e = k .enum-told13 .given .1 in
-    (arm _ _ _ (tables l) _ (l .look .ensures .0) LeftWord _ e (ap (in2-10 (tables l)) (o .prec-decl .ensures .0)), (further _ _ _ LeftWord _ _ (l .look .ensures .1) e (λ z. clash (cc)) (o .prec-decl .ensures .1 .0), by-prec _ _ _ _ _ _ _ _ _ (p .1) (p .2) _ _ _ _ _ _ _ (o .prec-decl .ensures .0) (o .prec-decl .ensures .1 .1)))
+    (arm _ _ (tables l) _ (l .look .ensures .0) LeftWord _ e (ap (in2-10 (tables l)) (o .prec-decl .ensures .0)), (further _ _ _ LeftWord _ _ (l .look .ensures .1) e (λ z. clash (cc)) (o .prec-decl .ensures .1 .0), by-prec _ _ _ _ _ _ _ _ _ (p .1) (p .2) _ _ _ _ _ _ _ (o .prec-decl .ensures .0) (o .prec-decl .ensures .1 .1)))
 
 same-length-25 : tie.Need-same-length-25
 same-length-25 c = c .before .before .before .before .before .before .prec-decl2 .kept .1 .1 .1 .0
@@ -320,7 +320,7 @@ returns-14 c =
     let l = k .before .before in
     let p = l .before .before .before .before .before .before .before .before .before .before .before .pre in
     let e = k .enum-told14 .given .1 in
-    (arm _ _ _ (tables l) _ (l .look .ensures .0) RightWord _ e (ap (in2-10 (tables l)) (o .prec-decl2 .ensures .0)), (further _ _ _ RightWord _ _ (l .look .ensures .1) e (λ z. clash (cc)) (o .prec-decl2 .ensures .1 .0), by-prec _ _ _ _ _ _ _ _ _ (p .1) (p .2) _ _ _ _ _ _ _ (o .prec-decl2 .ensures .0) (o .prec-decl2 .ensures .1 .1)))
+    (arm _ _ (tables l) _ (l .look .ensures .0) RightWord _ e (ap (in2-10 (tables l)) (o .prec-decl2 .ensures .0)), (further _ _ _ RightWord _ _ (l .look .ensures .1) e (λ z. clash (cc)) (o .prec-decl2 .ensures .1 .0), by-prec _ _ _ _ _ _ _ _ _ (p .1) (p .2) _ _ _ _ _ _ _ (o .prec-decl2 .ensures .0) (o .prec-decl2 .ensures .1 .1)))
 
 same-length-28 : tie.Need-same-length-28
 same-length-28 c = c .before .before .before .before .before .before .prec-decl3 .kept .1 .1 .1 .0
@@ -338,14 +338,14 @@ returns-15 c =
     let l = k .before .before in
     let p = l .before .before .before .before .before .before .before .before .before .before .before .pre in
     let e = k .enum-told15 .given .1 in
-    (arm _ _ _ (tables l) _ (l .look .ensures .0) NonassocWord _ e (ap (in2-10 (tables l)) (o .prec-decl3 .ensures .0)), (further _ _ _ NonassocWord _ _ (l .look .ensures .1) e (λ z. clash (cc)) (o .prec-decl3 .ensures .1 .0), by-prec _ _ _ _ _ _ _ _ _ (p .1) (p .2) _ _ _ _ _ _ _ (o .prec-decl3 .ensures .0) (o .prec-decl3 .ensures .1 .1)))
+    (arm _ _ (tables l) _ (l .look .ensures .0) NonassocWord _ e (ap (in2-10 (tables l)) (o .prec-decl3 .ensures .0)), (further _ _ _ NonassocWord _ _ (l .look .ensures .1) e (λ z. clash (cc)) (o .prec-decl3 .ensures .1 .0), by-prec _ _ _ _ _ _ _ _ _ (p .1) (p .2) _ _ _ _ _ _ _ (o .prec-decl3 .ensures .0) (o .prec-decl3 .ensures .1 .1)))
 
 returns-16 : tie.Need-returns-16
 returns-16 c =
     let l = c .before .before in
     let p = l .before .before .before .before .before .before .before .before .before .before .before .pre in
     let e = c .enum-told16 .given .1 in
-    (arm _ _ _ (tables l) _ (l .look .ensures .0) NoKeyword _ e refl, (stays-put _ _ _ (p .0 .within) (λ z. clash (cc)), (p .1, p .2)))
+    (arm _ _ (tables l) _ (l .look .ensures .0) NoKeyword _ e refl, (stays-put _ _ _ (p .0 .within) (λ z. clash (cc)), (p .1, p .2)))
 
 pub declaration-spec : {M : Type 1} → statement M
 declaration-spec =
@@ -382,7 +382,7 @@ declaration-spec =
     enum-told-15
     prec-decl-requires-3
     enum-told-16
-    cast-t82
+    cast-t81
     returns
     same-length
     same-length-2

@@ -14,20 +14,20 @@ use Rattle.declarations.proofs.declaration_run.Statement.{statement}
 use Rattle.declarations.proofs.declaration_run.Tie as tie
 
 abbrev Inv-loop : tie.InvT-loop
-Inv-loop src kind t1₀ t2₀ t3₀ t4₀ t5₀ t6₀ t10₀ i1₀ fx₀ st₀ t1 t2 t3 t4 t5 t6 t10 i1 fx st =
+Inv-loop src t1₀ t2₀ t3₀ t4₀ t5₀ t6₀ t10₀ i1₀ fx₀ st₀ t1 t2 t3 t4 t5 t6 t10 i1 fx st =
     (length t1 ≡ length t1₀) × (length t2 ≡ length t2₀) × (length t3 ≡ length t3₀) × (length t4 ≡ length t4₀) × (length t5 ≡ length t5₀) × (length t6 ≡ length t6₀) × (length t10 ≡ length t10₀) × (length i1 ≡ length i1₀) × (length fx ≡ length fx₀) × Tokens src (st .counts) t1 i1 × Givens src (st .counts) t2 t3 t4 t5 fx × (st₀ .at ≤ st .at) × (st .at ≤ length src) ×
-    Left (declTurn src kind) (record { answer = Going; state = st₀; tables = record { t1 = t1₀; t2 = t2₀; t3 = t3₀; t4 = t4₀; t5 = t5₀; t6 = t6₀; t10 = t10₀ } }) (suc (length src)) (length src - st .at) (record { answer = Going; state = st; tables = record { t1 = t1; t2 = t2; t3 = t3; t4 = t4; t5 = t5; t6 = t6; t10 = t10 } })
+    Left (declTurn src) (record { answer = Going; state = st₀; tables = record { t1 = t1₀; t2 = t2₀; t3 = t3₀; t4 = t4₀; t5 = t5₀; t6 = t6₀; t10 = t10₀ } }) (suc (length src)) (length src - st .at) (record { answer = Going; state = st; tables = record { t1 = t1; t2 = t2; t3 = t3; t4 = t4; t5 = t5; t6 = t6; t10 = t10 } })
 
 abbrev μ-loop : tie.MeasureT-loop
-μ-loop src kind t1₀ t2₀ t3₀ t4₀ t5₀ t6₀ t10₀ i1₀ fx₀ st₀ t1 t2 t3 t4 t5 t6 t10 i1 fx st = length src - st .at
+μ-loop src t1₀ t2₀ t3₀ t4₀ t5₀ t6₀ t10₀ i1₀ fx₀ st₀ t1 t2 t3 t4 t5 t6 t10 i1 fx st = length src - st .at
 
 loop-holds : tie.Need-loop-holds Inv-loop μ-loop
 loop-holds c =
     let p = c .before .before .before .before .before .before .before .before .before .before .pre in
     (refl, refl, refl, refl, refl, refl, refl, refl, refl, p .1, p .2, omega arith, p .0 .within, left-start _ _ _ _ (omega arith))
 
-cast-t21 : tie.Need-cast-t21 Inv-loop μ-loop
-cast-t21 c =
+cast-t20 : tie.Need-cast-t20 Inv-loop μ-loop
+cast-t20 c =
     let l = c .before .loop in
     omega (arith, l .inv .12, c .before .before .before .before .before .before .before .before .before .before .before .before .pre .0 .short)
 
@@ -62,7 +62,7 @@ returns : tie.Need-returns Inv-loop μ-loop
 unfolding declRun
 returns c =
     let l = c .before .loop in
-    (sym (left-stop (declTurn _ _) _ (l .inv .13) (turn-end _ _ (l .st) _ (c .if1 .taken))), (record { onward = l .inv .11; inside = l .inv .12 }, (l .inv .9, l .inv .10)))
+    (sym (left-stop (declTurn _) _ (l .inv .13) (turn-end _ (l .st) _ (c .if1 .taken))), (record { onward = l .inv .11; inside = l .inv .12 }, (l .inv .9, l .inv .10)))
 
 declaration-requires : tie.Need-declaration-requires Inv-loop μ-loop
 declaration-requires c κs =
@@ -89,7 +89,7 @@ loop-again c =
     let n = i .declaration .ensures .1 .0 .inside in
     let x = i .declaration .ensures .1 .1 in
     let g = l .inv .11 in
-    (i .declaration .kept .1 .1 .1 .0 ∙ l .inv .0, i .declaration .kept .1 .1 .1 .1 .0 ∙ l .inv .1, i .declaration .kept .1 .1 .1 .1 .1 .0 ∙ l .inv .2, i .declaration .kept .1 .1 .1 .1 .1 .1 .0 ∙ l .inv .3, i .declaration .kept .1 .1 .1 .1 .1 .1 .1 .0 ∙ l .inv .4, i .declaration .kept .1 .1 .1 .1 .1 .1 .1 .1 .0 ∙ l .inv .5, i .declaration .kept .1 .1 .1 .1 .1 .1 .1 .1 .1 .0 ∙ l .inv .6, i .declaration .kept .1 .1 .1 .1 .1 .1 .1 .1 .1 .1 .0 ∙ l .inv .7, i .declaration .kept .1 .1 .1 .1 .1 .1 .1 .1 .1 .1 .1 .0 ∙ l .inv .8, x .0, x .1, omega arith, n, left-more (declTurn _ _) _ (l .inv .13) _ (turn-more _ _ (l .st) _ (f .if1 .left) _ _ _ (i .declaration .ensures .0) e) (omega arith))
+    (i .declaration .kept .1 .1 .0 ∙ l .inv .0, i .declaration .kept .1 .1 .1 .0 ∙ l .inv .1, i .declaration .kept .1 .1 .1 .1 .0 ∙ l .inv .2, i .declaration .kept .1 .1 .1 .1 .1 .0 ∙ l .inv .3, i .declaration .kept .1 .1 .1 .1 .1 .1 .0 ∙ l .inv .4, i .declaration .kept .1 .1 .1 .1 .1 .1 .1 .0 ∙ l .inv .5, i .declaration .kept .1 .1 .1 .1 .1 .1 .1 .1 .0 ∙ l .inv .6, i .declaration .kept .1 .1 .1 .1 .1 .1 .1 .1 .1 .0 ∙ l .inv .7, i .declaration .kept .1 .1 .1 .1 .1 .1 .1 .1 .1 .1 .0 ∙ l .inv .8, x .0, x .1, omega arith, n, left-more (declTurn _) _ (l .inv .13) _ (turn-more _ (l .st) _ (f .if1 .left) _ _ _ (i .declaration .ensures .0) e) (omega arith))
 
 enum-told-2 : tie.Need-enum-told-2 Inv-loop μ-loop
 enum-told-2 c = search needs
@@ -97,47 +97,47 @@ enum-told-2 c = search needs
 same-length-10 : tie.Need-same-length-10 Inv-loop μ-loop
 same-length-10 c =
     let i = c .before .before .before .before .before .before .before .before .before .before .before .before .before .before .before .before .before .before .before .before in
-    i .declaration .kept .1 .1 .1 .0 ∙ i .before .before .before .before .before .before .before .before .before .before .before .loop .inv .0
+    i .declaration .kept .1 .1 .0 ∙ i .before .before .before .before .before .before .before .before .before .before .before .loop .inv .0
 
 same-length-11 : tie.Need-same-length-11 Inv-loop μ-loop
 same-length-11 c =
     let i = c .before .before .before .before .before .before .before .before .before .before .before .before .before .before .before .before .before .before .before .before in
-    i .declaration .kept .1 .1 .1 .1 .0 ∙ i .before .before .before .before .before .before .before .before .before .before .before .loop .inv .1
+    i .declaration .kept .1 .1 .1 .0 ∙ i .before .before .before .before .before .before .before .before .before .before .before .loop .inv .1
 
 same-length-12 : tie.Need-same-length-12 Inv-loop μ-loop
 same-length-12 c =
     let i = c .before .before .before .before .before .before .before .before .before .before .before .before .before .before .before .before .before .before .before .before in
-    i .declaration .kept .1 .1 .1 .1 .1 .0 ∙ i .before .before .before .before .before .before .before .before .before .before .before .loop .inv .2
+    i .declaration .kept .1 .1 .1 .1 .0 ∙ i .before .before .before .before .before .before .before .before .before .before .before .loop .inv .2
 
 same-length-13 : tie.Need-same-length-13 Inv-loop μ-loop
 same-length-13 c =
     let i = c .before .before .before .before .before .before .before .before .before .before .before .before .before .before .before .before .before .before .before .before in
-    i .declaration .kept .1 .1 .1 .1 .1 .1 .0 ∙ i .before .before .before .before .before .before .before .before .before .before .before .loop .inv .3
+    i .declaration .kept .1 .1 .1 .1 .1 .0 ∙ i .before .before .before .before .before .before .before .before .before .before .before .loop .inv .3
 
 same-length-14 : tie.Need-same-length-14 Inv-loop μ-loop
 same-length-14 c =
     let i = c .before .before .before .before .before .before .before .before .before .before .before .before .before .before .before .before .before .before .before .before in
-    i .declaration .kept .1 .1 .1 .1 .1 .1 .1 .0 ∙ i .before .before .before .before .before .before .before .before .before .before .before .loop .inv .4
+    i .declaration .kept .1 .1 .1 .1 .1 .1 .0 ∙ i .before .before .before .before .before .before .before .before .before .before .before .loop .inv .4
 
 same-length-15 : tie.Need-same-length-15 Inv-loop μ-loop
 same-length-15 c =
     let i = c .before .before .before .before .before .before .before .before .before .before .before .before .before .before .before .before .before .before .before .before in
-    i .declaration .kept .1 .1 .1 .1 .1 .1 .1 .1 .0 ∙ i .before .before .before .before .before .before .before .before .before .before .before .loop .inv .5
+    i .declaration .kept .1 .1 .1 .1 .1 .1 .1 .0 ∙ i .before .before .before .before .before .before .before .before .before .before .before .loop .inv .5
 
 same-length-16 : tie.Need-same-length-16 Inv-loop μ-loop
 same-length-16 c =
     let i = c .before .before .before .before .before .before .before .before .before .before .before .before .before .before .before .before .before .before .before .before in
-    i .declaration .kept .1 .1 .1 .1 .1 .1 .1 .1 .1 .0 ∙ i .before .before .before .before .before .before .before .before .before .before .before .loop .inv .6
+    i .declaration .kept .1 .1 .1 .1 .1 .1 .1 .1 .0 ∙ i .before .before .before .before .before .before .before .before .before .before .before .loop .inv .6
 
 same-length-17 : tie.Need-same-length-17 Inv-loop μ-loop
 same-length-17 c =
     let i = c .before .before .before .before .before .before .before .before .before .before .before .before .before .before .before .before .before .before .before .before in
-    i .declaration .kept .1 .1 .1 .1 .1 .1 .1 .1 .1 .1 .0 ∙ i .before .before .before .before .before .before .before .before .before .before .before .loop .inv .7
+    i .declaration .kept .1 .1 .1 .1 .1 .1 .1 .1 .1 .0 ∙ i .before .before .before .before .before .before .before .before .before .before .before .loop .inv .7
 
 same-length-18 : tie.Need-same-length-18 Inv-loop μ-loop
 same-length-18 c =
     let i = c .before .before .before .before .before .before .before .before .before .before .before .before .before .before .before .before .before .before .before .before in
-    i .declaration .kept .1 .1 .1 .1 .1 .1 .1 .1 .1 .1 .1 .0 ∙ i .before .before .before .before .before .before .before .before .before .before .before .loop .inv .8
+    i .declaration .kept .1 .1 .1 .1 .1 .1 .1 .1 .1 .1 .0 ∙ i .before .before .before .before .before .before .before .before .before .before .before .loop .inv .8
 
 returns-2 : tie.Need-returns-2 Inv-loop μ-loop
 unfolding declRun
@@ -147,7 +147,7 @@ returns-2 c =
     let l = f .before .loop in
     let m = i .declaration .ensures .1 .0 .onward in
     let g = l .inv .11 in
-    (sym (left-stop (declTurn _ _) _ (l .inv .13) (turn-done _ _ (l .st) _ (f .if1 .left) _ _ _ (i .declaration .ensures .0) (c .enum-told2 .given .1))), (record { onward = omega arith; inside = i .declaration .ensures .1 .0 .inside }, i .declaration .ensures .1 .1))
+    (sym (left-stop (declTurn _) _ (l .inv .13) (turn-done _ (l .st) _ (f .if1 .left) _ _ _ (i .declaration .ensures .0) (c .enum-told2 .given .1))), (record { onward = omega arith; inside = i .declaration .ensures .1 .0 .inside }, i .declaration .ensures .1 .1))
 
 enum-told-3 : tie.Need-enum-told-3 Inv-loop μ-loop
 enum-told-3 c = search needs
@@ -155,47 +155,47 @@ enum-told-3 c = search needs
 same-length-19 : tie.Need-same-length-19 Inv-loop μ-loop
 same-length-19 c =
     let i = c .before .before .before .before .before .before .before .before .before .before .before .before .before .before .before .before .before .before .before .before in
-    i .declaration .kept .1 .1 .1 .0 ∙ i .before .before .before .before .before .before .before .before .before .before .before .loop .inv .0
+    i .declaration .kept .1 .1 .0 ∙ i .before .before .before .before .before .before .before .before .before .before .before .loop .inv .0
 
 same-length-20 : tie.Need-same-length-20 Inv-loop μ-loop
 same-length-20 c =
     let i = c .before .before .before .before .before .before .before .before .before .before .before .before .before .before .before .before .before .before .before .before in
-    i .declaration .kept .1 .1 .1 .1 .0 ∙ i .before .before .before .before .before .before .before .before .before .before .before .loop .inv .1
+    i .declaration .kept .1 .1 .1 .0 ∙ i .before .before .before .before .before .before .before .before .before .before .before .loop .inv .1
 
 same-length-21 : tie.Need-same-length-21 Inv-loop μ-loop
 same-length-21 c =
     let i = c .before .before .before .before .before .before .before .before .before .before .before .before .before .before .before .before .before .before .before .before in
-    i .declaration .kept .1 .1 .1 .1 .1 .0 ∙ i .before .before .before .before .before .before .before .before .before .before .before .loop .inv .2
+    i .declaration .kept .1 .1 .1 .1 .0 ∙ i .before .before .before .before .before .before .before .before .before .before .before .loop .inv .2
 
 same-length-22 : tie.Need-same-length-22 Inv-loop μ-loop
 same-length-22 c =
     let i = c .before .before .before .before .before .before .before .before .before .before .before .before .before .before .before .before .before .before .before .before in
-    i .declaration .kept .1 .1 .1 .1 .1 .1 .0 ∙ i .before .before .before .before .before .before .before .before .before .before .before .loop .inv .3
+    i .declaration .kept .1 .1 .1 .1 .1 .0 ∙ i .before .before .before .before .before .before .before .before .before .before .before .loop .inv .3
 
 same-length-23 : tie.Need-same-length-23 Inv-loop μ-loop
 same-length-23 c =
     let i = c .before .before .before .before .before .before .before .before .before .before .before .before .before .before .before .before .before .before .before .before in
-    i .declaration .kept .1 .1 .1 .1 .1 .1 .1 .0 ∙ i .before .before .before .before .before .before .before .before .before .before .before .loop .inv .4
+    i .declaration .kept .1 .1 .1 .1 .1 .1 .0 ∙ i .before .before .before .before .before .before .before .before .before .before .before .loop .inv .4
 
 same-length-24 : tie.Need-same-length-24 Inv-loop μ-loop
 same-length-24 c =
     let i = c .before .before .before .before .before .before .before .before .before .before .before .before .before .before .before .before .before .before .before .before in
-    i .declaration .kept .1 .1 .1 .1 .1 .1 .1 .1 .0 ∙ i .before .before .before .before .before .before .before .before .before .before .before .loop .inv .5
+    i .declaration .kept .1 .1 .1 .1 .1 .1 .1 .0 ∙ i .before .before .before .before .before .before .before .before .before .before .before .loop .inv .5
 
 same-length-25 : tie.Need-same-length-25 Inv-loop μ-loop
 same-length-25 c =
     let i = c .before .before .before .before .before .before .before .before .before .before .before .before .before .before .before .before .before .before .before .before in
-    i .declaration .kept .1 .1 .1 .1 .1 .1 .1 .1 .1 .0 ∙ i .before .before .before .before .before .before .before .before .before .before .before .loop .inv .6
+    i .declaration .kept .1 .1 .1 .1 .1 .1 .1 .1 .0 ∙ i .before .before .before .before .before .before .before .before .before .before .before .loop .inv .6
 
 same-length-26 : tie.Need-same-length-26 Inv-loop μ-loop
 same-length-26 c =
     let i = c .before .before .before .before .before .before .before .before .before .before .before .before .before .before .before .before .before .before .before .before in
-    i .declaration .kept .1 .1 .1 .1 .1 .1 .1 .1 .1 .1 .0 ∙ i .before .before .before .before .before .before .before .before .before .before .before .loop .inv .7
+    i .declaration .kept .1 .1 .1 .1 .1 .1 .1 .1 .1 .0 ∙ i .before .before .before .before .before .before .before .before .before .before .before .loop .inv .7
 
 same-length-27 : tie.Need-same-length-27 Inv-loop μ-loop
 same-length-27 c =
     let i = c .before .before .before .before .before .before .before .before .before .before .before .before .before .before .before .before .before .before .before .before in
-    i .declaration .kept .1 .1 .1 .1 .1 .1 .1 .1 .1 .1 .1 .0 ∙ i .before .before .before .before .before .before .before .before .before .before .before .loop .inv .8
+    i .declaration .kept .1 .1 .1 .1 .1 .1 .1 .1 .1 .1 .0 ∙ i .before .before .before .before .before .before .before .before .before .before .before .loop .inv .8
 
 returns-3 : tie.Need-returns-3 Inv-loop μ-loop
 unfolding declRun
@@ -205,7 +205,7 @@ returns-3 c =
     let l = f .before .loop in
     let m = i .declaration .ensures .1 .0 .onward in
     let g = l .inv .11 in
-    (sym (left-stop (declTurn _ _) _ (l .inv .13) (turn-refused _ _ (l .st) _ (f .if1 .left) _ _ _ (i .declaration .ensures .0) _ (c .enum-told3 .given .1))), (record { onward = omega arith; inside = i .declaration .ensures .1 .0 .inside }, i .declaration .ensures .1 .1))
+    (sym (left-stop (declTurn _) _ (l .inv .13) (turn-refused _ (l .st) _ (f .if1 .left) _ _ _ (i .declaration .ensures .0) _ (c .enum-told3 .given .1))), (record { onward = omega arith; inside = i .declaration .ensures .1 .0 .inside }, i .declaration .ensures .1 .1))
 
 pub declaration-run-spec : {M : Type 1} → statement M
 declaration-run-spec =
@@ -214,7 +214,7 @@ declaration-run-spec =
     Inv-loop
     μ-loop
     loop-holds
-    cast-t21
+    cast-t20
     same-length
     same-length-2
     same-length-3

@@ -21,44 +21,44 @@ enum-known-f : tie.Need-enum-known-f
 enum-known-f c = search needs
 
 same-length : tie.Need-same-length
-same-length c = c .before .before .before .before .before .before .before .before .before .before .before .before .before .before .before .before .before .before .declaration-run .kept .1 .1 .1 .0
+same-length c = c .before .before .before .before .before .before .before .before .before .before .before .before .before .before .before .before .before .before .declaration-run .kept .1 .1 .0
 
 same-length-2 : tie.Need-same-length-2
-same-length-2 c = c .before .before .before .before .before .before .before .before .before .before .before .before .before .before .before .before .before .before .declaration-run .kept .1 .1 .1 .1 .0
+same-length-2 c = c .before .before .before .before .before .before .before .before .before .before .before .before .before .before .before .before .before .before .declaration-run .kept .1 .1 .1 .0
 
 same-length-3 : tie.Need-same-length-3
-same-length-3 c = c .before .before .before .before .before .before .before .before .before .before .before .before .before .before .before .before .before .before .declaration-run .kept .1 .1 .1 .1 .1 .0
+same-length-3 c = c .before .before .before .before .before .before .before .before .before .before .before .before .before .before .before .before .before .before .declaration-run .kept .1 .1 .1 .1 .0
 
 same-length-4 : tie.Need-same-length-4
-same-length-4 c = c .before .before .before .before .before .before .before .before .before .before .before .before .before .before .before .before .before .before .declaration-run .kept .1 .1 .1 .1 .1 .1 .0
+same-length-4 c = c .before .before .before .before .before .before .before .before .before .before .before .before .before .before .before .before .before .before .declaration-run .kept .1 .1 .1 .1 .1 .0
 
 same-length-5 : tie.Need-same-length-5
-same-length-5 c = c .before .before .before .before .before .before .before .before .before .before .before .before .before .before .before .before .before .before .declaration-run .kept .1 .1 .1 .1 .1 .1 .1 .0
+same-length-5 c = c .before .before .before .before .before .before .before .before .before .before .before .before .before .before .before .before .before .before .declaration-run .kept .1 .1 .1 .1 .1 .1 .0
 
 same-length-6 : tie.Need-same-length-6
-same-length-6 c = c .before .before .before .before .before .before .before .before .before .before .before .before .before .before .before .before .before .before .declaration-run .kept .1 .1 .1 .1 .1 .1 .1 .1 .0
+same-length-6 c = c .before .before .before .before .before .before .before .before .before .before .before .before .before .before .before .before .before .before .declaration-run .kept .1 .1 .1 .1 .1 .1 .1 .0
 
 same-length-7 : tie.Need-same-length-7
-same-length-7 c = c .before .before .before .before .before .before .before .before .before .before .before .before .before .before .before .before .before .before .declaration-run .kept .1 .1 .1 .1 .1 .1 .1 .1 .1 .0
+same-length-7 c = c .before .before .before .before .before .before .before .before .before .before .before .before .before .before .before .before .before .before .declaration-run .kept .1 .1 .1 .1 .1 .1 .1 .1 .0
 
 same-length-8 : tie.Need-same-length-8
-same-length-8 c = c .before .before .before .before .before .before .before .before .before .before .before .before .before .before .before .before .before .before .declaration-run .kept .1 .1 .1 .1 .1 .1 .1 .1 .1 .1 .0
+same-length-8 c = c .before .before .before .before .before .before .before .before .before .before .before .before .before .before .before .before .before .before .declaration-run .kept .1 .1 .1 .1 .1 .1 .1 .1 .1 .0
 
 same-length-9 : tie.Need-same-length-9
-same-length-9 c = c .before .before .before .before .before .before .before .before .before .before .before .before .before .before .before .before .before .before .declaration-run .kept .1 .1 .1 .1 .1 .1 .1 .1 .1 .1 .1 .0
+same-length-9 c = c .before .before .before .before .before .before .before .before .before .before .before .before .before .before .before .before .before .before .declaration-run .kept .1 .1 .1 .1 .1 .1 .1 .1 .1 .1 .0
 
 returns : tie.Need-returns
 returns c =
     let o = c .before .before .before .before .before .before .before .before .before .before .before .before .before .before .before .before .before .before in
     let g = o .before .before .before .before .before .before .before .before .before .before .before .before .before in
     let e = o .before .before .before .before .before .before .before .before .before .before .before .i .given .1 in
-    (all-from _ _ _ _ _ (g .pass-gap .ensures .0) _ _ _ e (o .declaration-run .ensures .0), (passed-on _ _ _ _ (gap-passed _ _ _ _ _ (g .pass-gap .ensures .1) e) (o .declaration-run .ensures .1 .0), o .declaration-run .ensures .1 .1))
+    (all-from _ _ _ _ (g .pass-gap .ensures .0) _ _ _ e (o .declaration-run .ensures .0), (passed-on _ _ _ _ (gap-passed _ _ _ _ _ (g .pass-gap .ensures .1) e) (o .declaration-run .ensures .1 .0), o .declaration-run .ensures .1 .1))
 
 returns-2 : tie.Need-returns-2
 returns-2 c =
     let g = c .before .before .before in
     let p = g .before .before .before .before .before .before .before .before .before .before .before .pre in
-    (all-refused _ _ _ _ _ (g .pass-gap .ensures .0) _ (c .before .f .given .1), (still _ _ (p .0), (p .1, p .2)))
+    (all-refused _ _ _ _ (g .pass-gap .ensures .0) _ (c .before .f .given .1), (still _ _ (p .0), (p .1, p .2)))
 
 pub declarations-spec : {M : Type 1} → statement M
 declarations-spec =

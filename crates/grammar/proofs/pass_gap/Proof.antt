@@ -5,13 +5,13 @@ use Rattle.grammar.proofs.Steps.{gap-to, gap-line, gap-comment, gap-mov
 use Rattle.grammar.proofs.pass_gap.Statement.{statement}
 use Rattle.grammar.proofs.pass_gap.Tie as tie
 
-cast-line : tie.Need-cast-t11
+cast-line : tie.Need-cast-t12
 cast-line c =
     let p = c .before .before .before in
     let h = line-inside _ _ _ (p .parse-ws .ensures .1) _ (c .before .i2 .given .1) in
     omega (arith, p .before .before .pre .short)
 
-cast-comment : tie.Need-cast-t14
+cast-comment : tie.Need-cast-t15
 cast-comment c =
     let p = c .before .before .before in
     let h = comment-inside _ _ _ (p .parse-ws .ensures .1) _ (c .before .i3 .given .1) in

@@ -25,7 +25,7 @@ cast-to c =
     let t = k .before .before in
     passed-fits _ _ _ (t .before .before .before .before .before .pre .0) (to-passed _ _ _ (t .parse-token .ensures .1) _ _ _ (k .p .given .1))
 
-cast-end : tie.Need-cast-t25
+cast-end : tie.Need-cast-t26
 cast-end c =
     let k = c .before .before .before .before .before .before .before .before .before .before .before .before .before .before in
     let t = k .before .before in
@@ -40,7 +40,7 @@ read c =
     let k = g .before .before in
     let t = k .before .before in
     let x = t .before .before .before .before .before in (
-      bare-reads _ _ _ _ _ _ _ (t .parse-token .ensures .0) _ _ _ (k .p .given .1) _ (g .pass-gap .ensures .0) _ _ (j .j .given .1) (t .parse-token .ensures .1) (g .pass-gap .ensures .1) (x .pre .2) _ (y .symbol-kind .ensures) _ _ (a .add-row .ensures) (c .if1 .taken),
+      bare-reads _ _ _ _ _ _ _ _ (t .parse-token .ensures .0) _ _ _ (k .p .given .1) _ (g .pass-gap .ensures .0) _ _ (j .j .given .1) (t .parse-token .ensures .1) (g .pass-gap .ensures .1) (x .pre .2) _ (y .symbol-kind .ensures) _ _ (a .add-row .ensures) (c .if1 .taken),
       x .pre .1,
     )
 

@@ -26,7 +26,7 @@ cast-to c =
     let t = k .before .before in
     passed-fits _ _ _ (t .before .before .before .before .before .before .before .before .pre .0) (to-passed _ _ _ (t .parse-token .ensures .1) _ _ _ (k .p .given .1))
 
-cast-end : tie.Need-cast-t34
+cast-end : tie.Need-cast-t35
 cast-end c =
     let k = c .before .before .before .before .before .before .before .before .before .before .before .before .before .before .before .before .before .before .before .before .before .before in
     let t = k .before .before in
@@ -43,7 +43,7 @@ read c =
     let t = k .before .before in
     let i = t .before in
     let x = i .before .before .before .before .before .before .before in (
-      quoted-reads _ _ _ _ _ _ _ (t .parse-token .ensures .0) _ _ _ (k .p .given .1) _ (g .pass-gap .ensures .0) _ _ (j .j .given .1) (t .parse-token .ensures .1) (g .pass-gap .ensures .1) (x .pre .2) _ _ (y .enter-token .ensures .0) _ (m .k .given .1) _ _ (a .add-row .ensures) (added-in _ _ _ _ _ (a .add-row .ensures) (sym (i .before .symbol-room .ensures) ∙ not-false _ (i .if1 .left))),
+      quoted-reads _ _ _ _ _ _ _ _ (t .parse-token .ensures .0) _ _ _ (k .p .given .1) _ (g .pass-gap .ensures .0) _ _ (j .j .given .1) (t .parse-token .ensures .1) (g .pass-gap .ensures .1) (x .pre .2) _ _ (y .enter-token .ensures .0) _ (m .k .given .1) _ _ (a .add-row .ensures) (added-in _ _ _ _ _ (a .add-row .ensures) (sym (i .before .symbol-room .ensures) ∙ not-false _ (i .if1 .left))),
       entered-held _ _ _ _ _ _ (m .k .given .1) (y .enter-token .ensures .1 .0),
     )
 

@@ -1,5 +1,6 @@
 -- `items::quoted_rows` meets its contract. Assumes nothing.
 use mathlib.Core.Path.{sym, _∙_}
+use native.Mathlib.Omega.{arith}
 use borrow.Author.Needs.{needs}
 use Rattle.items.proofs.Spares.{carried-tracked}
 use Rattle.scan.proofs.Bytes.{told}
@@ -8,6 +9,12 @@ use Rattle.grammar.proofs.Steps.{gap-onward, refused-stays}
 use Rattle.items.proofs.Symbols.{carried2, carried-onward, quoted-spaced, quoted-gap}
 use Rattle.items.proofs.quoted_rows.Statement.{statement}
 use Rattle.items.proofs.quoted_rows.Tie as tie
+
+-- the word ends in the source
+cast-end : tie.Need-cast-made
+cast-end c =
+    let h = c .before .before .before .before .before .before .before .before .before .before .before .before .before .before .before .before .before .before .pre .0 in
+    omega (arith, h .within, h .short)
 
 spaced : tie.Need-returns
 spaced c =
@@ -33,7 +40,7 @@ quoted-rows-spec =
     (λ c κs. search needs)
     (λ c. search needs)
     (λ c κs. c .before .before .before .before .before .before .before .before .before .before .before .pre .1)
-    (λ c. search needs)
+    cast-end
     (λ c κs. search needs)
     (λ c. search needs)
     (λ c. search needs)

@@ -11,7 +11,7 @@ sectioned c = c .before .before .before .before .before .before .before .before 
 here : tie.Need-sections-requires
 here c κs =
     let b = c .before .before .before .before .before .before .before .before .before .before .before .before .before .before .before .before .begin .ensures in
-    (fit-here _ _ (c .before .before .before .before .before .before .before .before .before .before .before .before .before .before .before .admit .ensures .1) (c .before .before .before .before .before .before .before .before .before .before .before .before .before .enum-told .given .1) _ b, none-tracked _ 0 3 0 _ _ _ refl b, none-tracked _ 6 5 0 _ _ _ refl b, none-given _ _ _ _ _ _ _ b)
+    (fit-here _ _ (c .before .before .before .before .before .before .before .before .before .before .before .before .before .before .before .admit .ensures .1) (c .before .before .before .before .before .before .before .before .before .before .before .before .before .enum-told .given .1) _ _ b, none-tracked _ 0 3 0 _ _ _ _ refl b, none-tracked _ 6 5 0 _ _ _ _ refl b, none-given _ _ _ _ _ _ _ _ b)
 
 fit : tie.Need-returns
 fit c =
@@ -24,7 +24,7 @@ unfit : tie.Need-returns-2
 unfit c =
     let b = c .before .before .before .before .begin .ensures in (
       attempt-unfit _ _ _ _ b _ _ refl _ (c .before .before .before .admit .ensures .0) _ (c .before .a .given .1),
-      (begun-near _ b, (none-tracked _ 0 3 0 _ _ _ refl b, none-tracked _ 6 5 0 _ _ _ refl b)),
+      (begun-near _ _ b, (none-tracked _ 0 3 0 _ _ _ _ refl b, none-tracked _ 6 5 0 _ _ _ _ refl b)),
     )
 
 pub attempt-spec : {M : Type 1} → statement M
@@ -36,6 +36,7 @@ attempt-spec =
     (λ c. c .match .keys1)
     here
     (λ c. c .match .keys2)
+    (λ c. sectioned c .sections .kept .1 .1 .0)
     (λ c. sectioned c .sections .kept .1 .1 .1 .0)
     (λ c. sectioned c .sections .kept .1 .1 .1 .1 .0)
     (λ c. sectioned c .sections .kept .1 .1 .1 .1 .1 .0)
@@ -48,6 +49,5 @@ attempt-spec =
     (λ c. sectioned c .sections .kept .1 .1 .1 .1 .1 .1 .1 .1 .1 .1 .1 .1 .0)
     (λ c. sectioned c .sections .kept .1 .1 .1 .1 .1 .1 .1 .1 .1 .1 .1 .1 .1 .0)
     (λ c. sectioned c .sections .kept .1 .1 .1 .1 .1 .1 .1 .1 .1 .1 .1 .1 .1 .1 .0)
-    (λ c. sectioned c .sections .kept .1 .1 .1 .1 .1 .1 .1 .1 .1 .1 .1 .1 .1 .1 .1 .0)
     fit
     unfit)

@@ -6,4 +6,4 @@ use Rattle.reader.proofs.begin.Statement.{statement}
 use Rattle.reader.proofs.begin.Tie as tie
 
 pub begin-spec : {M : Type 1} → statement M
-begin-spec = tie.close (tie.spec (λ c κs. search needs) (λ c. ap (withSingles fresh) (c .no-singles .ensures)))
+begin-spec = tie.close (tie.spec (λ c κs. search needs) (λ c. ap (withSingles (fresh _)) (c .no-singles .ensures)))

@@ -21,7 +21,7 @@ going : tie.Need-returns
 going c =
     let k = c .before in
     let r = ruled (c .before .before .before) in (
-      rest-going _ _ _ _ _ _ _ _ (r .rules .ensures .0) _ (k .enum-told .given .1) (c .programs .ensures .0),
+      rest-going _ _ _ _ _ _ _ (r .rules .ensures .0) _ (k .enum-told .given .1) (c .programs .ensures .0),
       (
         passed-on _ _ _ _ (r .rules .ensures .1 .0) (c .programs .ensures .1),
         (by-programs _ _ _ _ _ _ 0 3 0 (c .programs .ensures .0) (r .rules .ensures .1 .1 .0), by-programs _ _ _ _ _ _ 6 5 0 (c .programs .ensures .0) (r .rules .ensures .1 .1 .1)),
@@ -31,12 +31,12 @@ going c =
 done : tie.Need-returns-2
 done c =
     let r = ruled (c .before .before) in
-    (rest-done _ _ _ _ _ _ _ _ (r .rules .ensures .0) (c .enum-told2 .given .1), r .rules .ensures .1)
+    (rest-done _ _ _ _ _ _ _ (r .rules .ensures .0) (c .enum-told2 .given .1), r .rules .ensures .1)
 
 refused : tie.Need-returns-3
 refused c =
     let r = ruled (c .before .before .before) in
-    (rest-refused _ _ _ _ _ _ _ _ (r .rules .ensures .0) _ (c .before .a .given .1), r .rules .ensures .1)
+    (rest-refused _ _ _ _ _ _ _ (r .rules .ensures .0) _ (c .before .a .given .1), r .rules .ensures .1)
 
 pub rest-spec : {M : Type 1} → statement M
 rest-spec =
@@ -47,24 +47,24 @@ rest-spec =
     here
     (λ c. c .match .keys2)
     (λ c. c .match .keys3)
+    (λ c. ruled (c .before .before .before) .rules .kept .1 .1 .0)
     (λ c. ruled (c .before .before .before) .rules .kept .1 .1 .1 .0)
     (λ c. ruled (c .before .before .before) .rules .kept .1 .1 .1 .1 .0)
     (λ c. ruled (c .before .before .before) .rules .kept .1 .1 .1 .1 .1 .0)
     (λ c. ruled (c .before .before .before) .rules .kept .1 .1 .1 .1 .1 .1 .0)
     (λ c. ruled (c .before .before .before) .rules .kept .1 .1 .1 .1 .1 .1 .1 .0)
-    (λ c. ruled (c .before .before .before) .rules .kept .1 .1 .1 .1 .1 .1 .1 .1 .0)
     going
+    (λ c. ruled (c .before .before) .rules .kept .1 .1 .0)
     (λ c. ruled (c .before .before) .rules .kept .1 .1 .1 .0)
     (λ c. ruled (c .before .before) .rules .kept .1 .1 .1 .1 .0)
     (λ c. ruled (c .before .before) .rules .kept .1 .1 .1 .1 .1 .0)
     (λ c. ruled (c .before .before) .rules .kept .1 .1 .1 .1 .1 .1 .0)
     (λ c. ruled (c .before .before) .rules .kept .1 .1 .1 .1 .1 .1 .1 .0)
-    (λ c. ruled (c .before .before) .rules .kept .1 .1 .1 .1 .1 .1 .1 .1 .0)
     done
+    (λ c. ruled (c .before .before .before) .rules .kept .1 .1 .0)
     (λ c. ruled (c .before .before .before) .rules .kept .1 .1 .1 .0)
     (λ c. ruled (c .before .before .before) .rules .kept .1 .1 .1 .1 .0)
     (λ c. ruled (c .before .before .before) .rules .kept .1 .1 .1 .1 .1 .0)
     (λ c. ruled (c .before .before .before) .rules .kept .1 .1 .1 .1 .1 .1 .0)
     (λ c. ruled (c .before .before .before) .rules .kept .1 .1 .1 .1 .1 .1 .1 .0)
-    (λ c. ruled (c .before .before .before) .rules .kept .1 .1 .1 .1 .1 .1 .1 .1 .0)
     refused)

@@ -22,25 +22,25 @@ before c = declared (c .before .before .before .before .before .before .before .
 here : tie.Need-rest-requires
 here c κs =
     let d = declared (c .before .before .before .before .before .before .before .before) in
-    (passed-here _ _ _ (begun d .pre .0) (d .declarations .ensures .1 .0), d .declarations .ensures .1 .1 .0, by-declarations _ _ _ _ _ _ _ _ _ (d .declarations .ensures .0) (begun d .pre .2))
+    (passed-here _ _ _ (begun d .pre .0) (d .declarations .ensures .1 .0), d .declarations .ensures .1 .1 .0, by-declarations _ _ _ _ _ _ _ _ (d .declarations .ensures .0) (begun d .pre .2))
 
 going : tie.Need-returns
 going c =
     let d = declared (c .before .before .before) in
-    (sections-going _ _ _ _ _ (d .declarations .ensures .0) (c .before .enum-told .given .1), (d .declarations .ensures .1 .0, (d .declarations .ensures .1 .1 .0, by-declarations _ _ _ _ _ _ _ _ _ (d .declarations .ensures .0) (begun d .pre .2))))
+    (sections-going _ _ _ _ (d .declarations .ensures .0) (c .before .enum-told .given .1), (d .declarations .ensures .1 .0, (d .declarations .ensures .1 .1 .0, by-declarations _ _ _ _ _ _ _ _ (d .declarations .ensures .0) (begun d .pre .2))))
 
 done : tie.Need-returns-2
 done c =
     let r = ran c in
     let d = before c in (
-      sections-done _ _ _ _ _ (d .declarations .ensures .0) _ (c .before .before .before .before .before .before .before .before .before .before .before .before .before .before .before .before .before .before .before .enum-told2 .given .1) (r .rest .ensures .0),
+      sections-done _ _ _ _ (d .declarations .ensures .0) _ (c .before .before .before .before .before .before .before .before .before .before .before .before .before .before .before .before .before .before .before .enum-told2 .given .1) (r .rest .ensures .0),
       (passed-on _ _ _ _ (d .declarations .ensures .1 .0) (r .rest .ensures .1 .0), r .rest .ensures .1 .1),
     )
 
 refused : tie.Need-returns-3
 refused c =
     let d = declared (c .before .before .before) in
-    (sections-refused _ _ _ _ _ (d .declarations .ensures .0) _ (c .before .a .given .1), (d .declarations .ensures .1 .0, (d .declarations .ensures .1 .1 .0, by-declarations _ _ _ _ _ _ _ _ _ (d .declarations .ensures .0) (begun d .pre .2))))
+    (sections-refused _ _ _ _ (d .declarations .ensures .0) _ (c .before .a .given .1), (d .declarations .ensures .1 .0, (d .declarations .ensures .1 .1 .0, by-declarations _ _ _ _ _ _ _ _ (d .declarations .ensures .0) (begun d .pre .2))))
 
 pub sections-spec : {M : Type 1} → statement M
 sections-spec =
@@ -52,6 +52,7 @@ sections-spec =
     (λ c. c .match .keys2)
     here
     (λ c. c .match .keys3)
+    (λ c. declared (c .before .before .before) .declarations .kept .1 .1 .0)
     (λ c. declared (c .before .before .before) .declarations .kept .1 .1 .1 .0)
     (λ c. declared (c .before .before .before) .declarations .kept .1 .1 .1 .1 .0)
     (λ c. declared (c .before .before .before) .declarations .kept .1 .1 .1 .1 .1 .0)
@@ -60,22 +61,22 @@ sections-spec =
     (λ c. declared (c .before .before .before) .declarations .kept .1 .1 .1 .1 .1 .1 .1 .1 .0)
     (λ c. declared (c .before .before .before) .declarations .kept .1 .1 .1 .1 .1 .1 .1 .1 .1 .0)
     (λ c. declared (c .before .before .before) .declarations .kept .1 .1 .1 .1 .1 .1 .1 .1 .1 .1 .0)
-    (λ c. declared (c .before .before .before) .declarations .kept .1 .1 .1 .1 .1 .1 .1 .1 .1 .1 .1 .0)
     going
-    (λ c. ran c .rest .kept .1 .1 .1 .0 ∙ before c .declarations .kept .1 .1 .1 .0)
+    (λ c. ran c .rest .kept .1 .1 .0 ∙ before c .declarations .kept .1 .1 .0)
+    (λ c. before c .declarations .kept .1 .1 .1 .0)
     (λ c. before c .declarations .kept .1 .1 .1 .1 .0)
     (λ c. before c .declarations .kept .1 .1 .1 .1 .1 .0)
     (λ c. before c .declarations .kept .1 .1 .1 .1 .1 .1 .0)
     (λ c. before c .declarations .kept .1 .1 .1 .1 .1 .1 .1 .0)
-    (λ c. before c .declarations .kept .1 .1 .1 .1 .1 .1 .1 .1 .0)
+    (λ c. ran c .rest .kept .1 .1 .1 .0)
     (λ c. ran c .rest .kept .1 .1 .1 .1 .0)
     (λ c. ran c .rest .kept .1 .1 .1 .1 .1 .0)
-    (λ c. ran c .rest .kept .1 .1 .1 .1 .1 .1 .0)
-    (λ c. before c .declarations .kept .1 .1 .1 .1 .1 .1 .1 .1 .1 .0)
-    (λ c. ran c .rest .kept .1 .1 .1 .1 .1 .1 .1 .0 ∙ before c .declarations .kept .1 .1 .1 .1 .1 .1 .1 .1 .1 .1 .0)
-    (λ c. ran c .rest .kept .1 .1 .1 .1 .1 .1 .1 .1 .0)
-    (λ c. before c .declarations .kept .1 .1 .1 .1 .1 .1 .1 .1 .1 .1 .1 .0)
+    (λ c. before c .declarations .kept .1 .1 .1 .1 .1 .1 .1 .1 .0)
+    (λ c. ran c .rest .kept .1 .1 .1 .1 .1 .1 .0 ∙ before c .declarations .kept .1 .1 .1 .1 .1 .1 .1 .1 .1 .0)
+    (λ c. ran c .rest .kept .1 .1 .1 .1 .1 .1 .1 .0)
+    (λ c. before c .declarations .kept .1 .1 .1 .1 .1 .1 .1 .1 .1 .1 .0)
     done
+    (λ c. declared (c .before .before .before) .declarations .kept .1 .1 .0)
     (λ c. declared (c .before .before .before) .declarations .kept .1 .1 .1 .0)
     (λ c. declared (c .before .before .before) .declarations .kept .1 .1 .1 .1 .0)
     (λ c. declared (c .before .before .before) .declarations .kept .1 .1 .1 .1 .1 .0)
@@ -84,5 +85,4 @@ sections-spec =
     (λ c. declared (c .before .before .before) .declarations .kept .1 .1 .1 .1 .1 .1 .1 .1 .0)
     (λ c. declared (c .before .before .before) .declarations .kept .1 .1 .1 .1 .1 .1 .1 .1 .1 .0)
     (λ c. declared (c .before .before .before) .declarations .kept .1 .1 .1 .1 .1 .1 .1 .1 .1 .1 .0)
-    (λ c. declared (c .before .before .before) .declarations .kept .1 .1 .1 .1 .1 .1 .1 .1 .1 .1 .1 .0)
     refused)

@@ -15,7 +15,7 @@ here c κs =
 spaced : tie.Need-returns
 spaced c =
     let r = c .before .before .before .before .before .before .before .before .before .before .before .before .before .before in
-    (rule-spaced _ _ _ _ _ _ _ _ _ (r .rule .ensures .0) (c .pass-on .ensures .0), (spaced-moves _ _ _ _ _ _ (r .rule .ensures .1 .0) (c .pass-on .ensures .1) (went _ _ _ _ _ (c .pass-on .ensures .0)), (tracked-passed (now (c .before .before .before .before .before .before .before .before .before .before .before .before .before .before .before .before .before .before .before .before .before .before .before .before .before .before .before .before .args .src)) 0 3 0 false (r .rule .result .state .at) (r .rule .result .answer) (r .rule .result .state) _ _ _ _ (c .pass-on .ensures .0) (r .rule .ensures .1 .1 .0), tracked-passed (now (c .before .before .before .before .before .before .before .before .before .before .before .before .before .before .before .before .before .before .before .before .before .before .before .before .before .before .before .before .args .src)) 6 5 0 false (r .rule .result .state .at) (r .rule .result .answer) (r .rule .result .state) _ _ _ _ (c .pass-on .ensures .0) (r .rule .ensures .1 .1 .1))))
+    (rule-spaced _ _ _ _ _ _ _ _ (r .rule .ensures .0) (c .pass-on .ensures .0), (spaced-moves _ _ _ _ _ _ (r .rule .ensures .1 .0) (c .pass-on .ensures .1) (went _ _ _ _ _ (c .pass-on .ensures .0)), (tracked-passed (now (c .before .before .before .before .before .before .before .before .before .before .before .before .before .before .before .before .before .before .before .before .before .before .before .before .before .before .before .before .args .src)) 0 3 0 false (r .rule .result .state .at) (r .rule .result .answer) (r .rule .result .state) _ _ _ _ (c .pass-on .ensures .0) (r .rule .ensures .1 .1 .0), tracked-passed (now (c .before .before .before .before .before .before .before .before .before .before .before .before .before .before .before .before .before .before .before .before .before .before .before .before .before .before .before .before .args .src)) 6 5 0 false (r .rule .result .state .at) (r .rule .result .answer) (r .rule .result .state) _ _ _ _ (c .pass-on .ensures .0) (r .rule .ensures .1 .1 .1))))
 
 pub next-rule-spec : {M : Type 1} → statement M
 next-rule-spec =

@@ -13,12 +13,12 @@ named c =
     let h = c .before .before .before .before in
     let k = h .before .before .before .before in
     let p = k .before .before in
-    (head-named _ _ _ _ _ (p .parse-name .ensures .0) _ _ (k .j .given .1) (h .named-head .ensures .0), (named-moves _ _ _ _ _ _ (p .parse-name .ensures .1) (k .j .given .1) (h .named-head .ensures .1 .0), h .named-head .ensures .1 .1))
+    (head-named _ _ _ _ (p .parse-name .ensures .0) _ _ (k .j .given .1) (h .named-head .ensures .0), (named-moves _ _ _ _ _ _ (p .parse-name .ensures .1) (k .j .given .1) (h .named-head .ensures .1 .0), h .named-head .ensures .1 .1))
 
 none : tie.Need-returns-2
 none c =
     let p = c .before .before .before in
-    (head-none _ _ _ _ _ (p .parse-name .ensures .0) _ (c .before .k .given .1), (refused-put _ _ _ (p .before .before .before .before .pre .0 .within), c .before .before .before .before .before .before .before .pre .1))
+    (head-none _ _ _ _ (p .parse-name .ensures .0) _ (c .before .k .given .1), (refused-put _ _ _ (p .before .before .before .before .pre .0 .within), c .before .before .before .before .before .before .before .pre .1))
 
 pub rule-head-spec : {M : Type 1} → statement M
 rule-head-spec =

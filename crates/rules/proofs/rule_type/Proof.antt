@@ -11,5 +11,5 @@ rule-type-spec =
     tie.close
     (tie.spec
     (λ c κs. search needs)
-    (λ c. (type-arrow _ _ _ _ (eq-eqb _ _ (c .before .if1 .taken)) (c .arrow-type .ensures .0), c .arrow-type .ensures .1))
-    (λ c. (type-given _ _ _ (ne-eqb _ _ (c .if1 .left)), still _ _ (c .before .before .pre))))
+    (λ c. (type-arrow _ _ _ (eq-eqb _ _ (c .before .if1 .taken)) (c .arrow-type .ensures .0), c .arrow-type .ensures .1))
+    (λ c. (type-given _ _ (ne-eqb _ _ (c .if1 .left)), still _ _ (c .before .before .before .pre))))

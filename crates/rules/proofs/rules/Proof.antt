@@ -11,13 +11,13 @@ going c =
     let r = c .before .before .before .before .before .before .before .before .before .before .before .before in
     let k = r .before .before .before .before .before .before .before in
     let m = k .before .before .before in
-    (all-going _ _ _ _ _ _ _ _ (m .pass-mark .ensures .0) _ (k .enum-told .given .1) (r .rules-run .ensures .0), (passed-on _ _ _ _ (m .pass-mark .ensures .1) (r .rules-run .ensures .1 .0), r .rules-run .ensures .1 .1))
+    (all-going _ _ _ _ _ _ _ (m .pass-mark .ensures .0) _ (k .enum-told .given .1) (r .rules-run .ensures .0), (passed-on _ _ _ _ (m .pass-mark .ensures .1) (r .rules-run .ensures .1 .0), r .rules-run .ensures .1 .1))
 
 done : tie.Need-returns-2
-done c = let m = c .before .before .before in (all-done _ _ _ _ _ _ _ _ (m .pass-mark .ensures .0) (c .enum-told2 .given .1), (m .pass-mark .ensures .1, (by-mark _ _ _ _ _ _ 0 3 0 _ _ (c .before .before .before .pass-mark .ensures .0) (c .before .before .before .before .before .before .before .before .before .before .before .before .pre .1), by-mark _ _ _ _ _ _ 6 5 0 _ _ (c .before .before .before .pass-mark .ensures .0) (c .before .before .before .before .before .before .before .before .before .before .before .before .pre .2))))
+done c = let m = c .before .before .before in (all-done _ _ _ _ _ _ _ (m .pass-mark .ensures .0) (c .enum-told2 .given .1), (m .pass-mark .ensures .1, (by-mark _ _ _ _ _ _ 0 3 0 _ _ (c .before .before .before .pass-mark .ensures .0) (c .before .before .before .before .before .before .before .before .before .before .before .before .pre .1), by-mark _ _ _ _ _ _ 6 5 0 _ _ (c .before .before .before .pass-mark .ensures .0) (c .before .before .before .before .before .before .before .before .before .before .before .before .pre .2))))
 
 refused : tie.Need-returns-3
-refused c = let m = c .before .before .before .before in (all-refused _ _ _ _ _ _ _ _ (m .pass-mark .ensures .0) _ (c .before .a .given .1), (m .pass-mark .ensures .1, (by-mark _ _ _ _ _ _ 0 3 0 _ _ (c .before .before .before .before .pass-mark .ensures .0) (c .before .before .before .before .before .before .before .before .before .before .before .before .before .pre .1), by-mark _ _ _ _ _ _ 6 5 0 _ _ (c .before .before .before .before .pass-mark .ensures .0) (c .before .before .before .before .before .before .before .before .before .before .before .before .before .pre .2))))
+refused c = let m = c .before .before .before .before in (all-refused _ _ _ _ _ _ _ (m .pass-mark .ensures .0) _ (c .before .a .given .1), (m .pass-mark .ensures .1, (by-mark _ _ _ _ _ _ 0 3 0 _ _ (c .before .before .before .before .pass-mark .ensures .0) (c .before .before .before .before .before .before .before .before .before .before .before .before .before .pre .1), by-mark _ _ _ _ _ _ 6 5 0 _ _ (c .before .before .before .before .pass-mark .ensures .0) (c .before .before .before .before .before .before .before .before .before .before .before .before .before .pre .2))))
 
 pub rules-spec : {M : Type 1} → statement M
 rules-spec =

@@ -6,23 +6,23 @@ use borrow.Author.Needs.{needs}
 use mathlib.Core.Bool.{false}
 use Rattle.scan.proofs.Bytes.{at-next}
 use Rattle.spacing.specs.Spacing.{gap, comment, spacingAt, spacesAt}
-use Rattle.spacing.proofs.Laws.{a-blank, a-comment, a-end, c-end, a-eol, a-line-last, a-line-counted, a-other, a-refused, a-slash-end, a-slash-other, c-eol-close, c-eol-on, c-run, c-refused, c-star-close, c-star-on}
+use Rattle.spacing.proofs.Laws.{a-blank, a-comment, a-end, c-end, a-eol, a-line-last, a-line-counted, a-other, a-refused, a-slash-end, a-slash-other, c-eol-close, c-eol-next, c-eol-on, c-run, c-refused, c-star-close, c-star-on}
 use Rattle.spacing.proofs.Places.{placed}
 use Rattle.spacing.proofs.parse_ws.Statement.{statement}
 use Rattle.spacing.proofs.parse_ws.Tie as tie
 
 abbrev Inv-comment : tie.InvT-comment
-Inv-comment s from ends-allowed i n₀ c j d k₀ n k =
-    (k₀ ≤ k) × (k ≤ length s) × (n ≤ k) × (spacingAt ends-allowed (comment i false) s k n ≡ spacesAt ends-allowed s from)
+Inv-comment s kind from ends-allowed i n₀ c j d k₀ n k =
+    (k₀ ≤ k) × (k ≤ length s) × (n ≤ k) × (spacingAt kind ends-allowed (comment i false) s k n ≡ spacesAt kind ends-allowed s from)
 
 abbrev μ-comment : tie.MeasureT-comment
-μ-comment s from ends-allowed i n₀ c j d k₀ n k = length s - k
+μ-comment s kind from ends-allowed i n₀ c j d k₀ n k = length s - k
 
 abbrev Inv-gap : tie.InvT-gap
-Inv-gap s from ends-allowed i₀ n₀ i n = (i ≤ length s) × (n ≤ i) × (spacingAt ends-allowed gap s i n ≡ spacesAt ends-allowed s from)
+Inv-gap s kind from ends-allowed i₀ n₀ i n = (i ≤ length s) × (n ≤ i) × (spacingAt kind ends-allowed gap s i n ≡ spacesAt kind ends-allowed s from)
 
 abbrev μ-gap : tie.MeasureT-gap
-μ-gap s from ends-allowed i₀ n₀ i n = length s - i
+μ-gap s kind from ends-allowed i₀ n₀ i n = length s - i
 
 gap-holds : tie.Need-gap-holds Inv-comment μ-comment Inv-gap μ-gap
 gap-holds c = search needs
@@ -40,7 +40,7 @@ gap-again : tie.Need-gap-again Inv-comment μ-comment Inv-gap μ-gap
 gap-again c = search (a-blank, needs)
 
 returns : tie.Need-returns Inv-comment μ-comment Inv-gap μ-gap
-returns c = placed _ _ _ _ (search needs) (search (a-refused, needs))
+returns c = placed _ _ _ _ _ (search needs) (search (a-refused, needs))
 
 lines-at-requires : tie.Need-lines-at-requires Inv-comment μ-comment Inv-gap μ-gap
 lines-at-requires c κs = search needs
@@ -94,7 +94,7 @@ comment-holds : tie.Need-comment-holds Inv-comment μ-comment Inv-gap μ-gap
 comment-holds c = search (a-comment, needs)
 
 returns-2 : tie.Need-returns-2 Inv-comment μ-comment Inv-gap μ-gap
-returns-2 c = placed _ _ _ _ (search needs) (search (c-end, needs))
+returns-2 c = placed _ _ _ _ _ (search needs) (search (c-end, needs))
 
 shared-slice-read-e : tie.Need-shared-slice-read-e Inv-comment μ-comment Inv-gap μ-gap
 shared-slice-read-e c = search needs
@@ -104,7 +104,7 @@ add-k-2 c = search needs
 
 returns-3 : tie.Need-returns-3 Inv-comment μ-comment Inv-gap μ-gap
 returns-3 c =
-    placed _ _ _ _ (search needs) (c-refused _ _ _ _ _ _ (c .before .before .before .before .comment .inv .3) (c .before .before .before .if4 .left) (c .before .match3 .keys1) (c .if5 .taken))
+    placed _ _ _ _ _ (search needs) (c-refused _ _ _ _ _ _ _ (c .before .before .before .before .comment .inv .3) (c .before .before .before .if4 .left) (c .before .match3 .keys1) (c .if5 .taken))
 
 lines-at-requires-3 : tie.Need-lines-at-requires-3 Inv-comment μ-comment Inv-gap μ-gap
 lines-at-requires-3 c κs = search needs
@@ -150,10 +150,11 @@ gap-less-5 c = search needs
 
 gap-again-5 : tie.Need-gap-again-5 Inv-comment μ-comment Inv-gap μ-gap
 gap-again-5 c =
-    let w = c .before .before .before .before .before .before in (
-      at-next _ _ _ _ (c .before .is-at .ensures) (c .if6 .taken),
+    let w = c .before .before .before .before .before .before in
+    let g = w .before .comment .inv .3 in (
+      c-eol-next _ _ _ _ _ _ _ g (w .if4 .left) _ (c .before .is-at .ensures) (c .if6 .taken),
       search needs,
-      c-eol-close _ _ _ _ _ _ (w .before .comment .inv .3) (w .if4 .left) _ (c .before .is-at .ensures) _ (c .before .before .before .before .match3 .keys1) (c .before .before .before .if5 .left) (c .if6 .taken) (c .before .before .lines-at3 .ensures .0),
+      c-eol-close _ _ _ _ _ _ _ g (w .if4 .left) _ (c .before .is-at .ensures) _ (c .before .before .before .before .match3 .keys1) (c .before .before .before .if5 .left) (c .if6 .taken) (c .before .before .lines-at3 .ensures .0),
     )
 
 gap-less-6 : tie.Need-gap-less-6 Inv-comment μ-comment Inv-gap μ-gap
@@ -161,19 +162,19 @@ gap-less-6 c = search needs
 
 gap-again-6 : tie.Need-gap-again-6 Inv-comment μ-comment Inv-gap μ-gap
 gap-again-6 c =
-    (at-next _ _ _ _ (c .before .is-at2 .ensures) (c .if7 .taken), search needs, c-star-close _ _ _ _ _ _ (c .before .before .before .before .before .comment .inv .3) (c .before .before .before .before .if4 .left) _ (c .before .is-at2 .ensures) (c .before .before .match3 .keys2) (c .if7 .taken))
+    (at-next _ _ _ _ (c .before .is-at2 .ensures) (c .if7 .taken), search needs, c-star-close _ _ _ _ _ _ _ (c .before .before .before .before .before .comment .inv .3) (c .before .before .before .before .if4 .left) _ (c .before .is-at2 .ensures) (c .before .before .match3 .keys2) (c .if7 .taken))
 
 returns-4 : tie.Need-returns-4 Inv-comment μ-comment Inv-gap μ-gap
-returns-4 c = placed _ _ _ _ (search needs) (search (a-end, needs))
+returns-4 c = placed _ _ _ _ _ (search needs) (search (a-end, needs))
 
 returns-5 : tie.Need-returns-5 Inv-comment μ-comment Inv-gap μ-gap
-returns-5 c = placed _ _ _ _ (search needs) (search (a-slash-end, needs))
+returns-5 c = placed _ _ _ _ _ (search needs) (search (a-slash-end, needs))
 
 returns-6 : tie.Need-returns-6 Inv-comment μ-comment Inv-gap μ-gap
-returns-6 c = placed _ _ _ _ (search needs) (search (a-slash-other, needs))
+returns-6 c = placed _ _ _ _ _ (search needs) (search (a-slash-other, needs))
 
 returns-7 : tie.Need-returns-7 Inv-comment μ-comment Inv-gap μ-gap
-returns-7 c = placed _ _ _ _ (search needs) (search (a-other, needs))
+returns-7 c = placed _ _ _ _ _ (search needs) (search (a-other, needs))
 
 pub parse-ws-spec : {M : Type 1} → statement M
 parse-ws-spec =
