@@ -22,11 +22,11 @@ use Rattle.grammar.specs.declared.Gap.the-variants.{GapTo, GapRefused}
 use Rattle.grammar.specs.declared.Repeat.the-variants.{RepeatedEpp}
 use Rattle.grammar.specs.Cells.{eppCells}
 use Rattle.grammar.specs.State.{Passed, count, gapAt, Gapped}
-use Rattle.grammar.specs.Sound.{Tables, Far}
+use Rattle.grammar.specs.Sound.{AllTables, Far}
 use Rattle.grammar.proofs.Kept.{gapped, Far2, once-held, behind2-far}
 use Rattle.epps.specs.Epps.{eppGiven, eppString, eppText, eppGap, eppValue, eppKey, eppFrom, eppDecl}
 
-module _ {src : List ℕ} {done : ℕ} {s : State} {T : Tables} (f : Far src done s T) where
+module _ {src : List ℕ} {done : ℕ} {s : State} {T : AllTables} (f : Far src done s T) where
   -- the key of an earlier row
   first : (r : ℕ) → r < count s epps → Passed src (cell (width epps) (T .t5) r 0) (cell (width epps) (T .t5) r 1)
   first r l = rw (← row-cell (width epps) (T .t5) r 0 (omega arith), ← row-cell (width epps) (T .t5) r 1 (omega arith)) (f .tables epps .each r l .key)

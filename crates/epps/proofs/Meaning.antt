@@ -26,7 +26,8 @@ use Rattle.grammar.specs.declared.Repeat.the-variants.{RepeatedEpp}
 use Rattle.grammar.specs.Cells.{eppCells, repeatCells}
 use Rattle.grammar.specs.State.{Out0, Out2, count, gapAt, listRepeat, onceFound, onceStep}
 use Rattle.grammar.proofs.SameKind.{once-kind}
-use Rattle.grammar.proofs.Touch.{refused-going, push-apart, push-more, pass-counts, pass-going, push-goes, pass-to}
+use Rattle.grammar.proofs.Counting.{same-low}
+use Rattle.grammar.proofs.Touch.{refused-going, push-apart, push-more, pass-counts, pass-count, pass-going, push-goes, pass-to}
 use Rattle.epps.specs.Epps.{eppGiven, eppString, eppText, eppGap, eppValue, eppKey, eppFrom, eppDecl}
 use Rattle.epps.specs.Given.{Keyed, New, Again, Given}
 
@@ -57,12 +58,12 @@ module _ (src : List ℕ) (s : State) (t5 t10 : List ℕ) (ten : length (s .coun
           row = r;
           first = record { inside = l; named = e; earlier = earlier };
           stays = refl;
-          rows = push-more s repeats (again r) t10 (rw ten (omega arith)) g .rows;
+          rows = push-more s repeats (again r) t10 (same-low s repeats _ (omega arith) (rw ten (omega arith))) g .rows;
           others = push-apart s repeats (again r) t10 .count;
         }))
         (λ none g. inl (record {
           none = none;
-          rows = push-more s epps row t5 (rw ten (omega arith)) g .rows;
+          rows = push-more s epps row t5 (same-low s epps _ (omega arith) (rw ten (omega arith))) g .rows;
           repeats = refl;
           others = push-apart s epps row t5 .count;
         }))
@@ -75,9 +76,9 @@ module _ (src : List ℕ) (s : State) (t5 t10 : List ℕ) (ten : length (s .coun
         (λ none. push-goes s epps row t5 r)
 
     -- spacing behind it changes neither rows nor counts
-    moved : (o : Out2) (a : Answer) (u : State) → u .counts ≡ o .state .counts → Entry o → Entry (record { answer = a; state = u; a = o .a; b = o .b })
-    moved o a u c (inl x) = inl (record { none = x .none; rows = rw c (x .rows); repeats = x .repeats; others = λ k d. rw c (x .others k d) })
-    moved o a u c (inr x) = inr (record { row = x .row; first = x .first; stays = x .stays; rows = rw c (x .rows); others = λ k d. rw c (x .others k d) })
+    moved : (o : Out2) (a : Answer) (u : State) → u .counts ≡ o .state .counts → ((k : ℕ) → count u k ≡ count (o .state) k) → Entry o → Entry (record { answer = a; state = u; a = o .a; b = o .b })
+    moved o a u c n (inl x) = inl (record { none = x .none; rows = rw c (x .rows); repeats = x .repeats; others = λ k d. n k ∙ x .others k d })
+    moved o a u c n (inr x) = inr (record { row = x .row; first = x .first; stays = x .stays; rows = rw c (x .rows); others = λ k d. n k ∙ x .others k d })
 
     given : Keyed (s .kind) src (s .at) key name value → eppGiven src s (key .from) (key .to) (name .from) (name .to) (value .from) (value .to) t5 t10 .answer ≡ Going
         → Given src s t5 t10 (eppGiven src s (key .from) (key .to) (name .from) (name .to) (value .from) (value .to) t5 t10)
@@ -91,7 +92,7 @@ module _ (src : List ℕ) (s : State) (t5 t10 : List ℕ) (ten : length (s .coun
           value = value;
           lines = y .lines;
           stand = k;
-          entry = moved once _ _ (pass-counts src false (value .to) (once .answer) (once .state)) (once-entry (y .went));
+          entry = moved once _ _ (pass-counts src false (value .to) (once .answer) (once .state)) (pass-count src false (value .to) (once .answer) (once .state)) (once-entry (y .went));
           behind = rw (y .at) (ap (λ (q : ℕ). gapAt q true src (value .to)) (sym same) ∙ y .gap);
         }
 

@@ -10,7 +10,7 @@ use Rattle.tables.proofs.Rows.{rows-set}
 use Rattle.symbols.specs.Symbols.{Lexicon, rowFor, filledRows}
 use Rattle.grammar.specs.declared.State.{State}
 use Rattle.grammar.specs.State.{count}
-use Rattle.grammar.specs.Sound.{Tables, tab, setTab, View, view, KindRow, Table, Far}
+use Rattle.grammar.specs.Sound.{AllTables, cellsOf, setTab, View, view, KindRow, Table, Far}
 use Rattle.grammar.proofs.Far.{far-cells}
 
 -- a symbol's kind and place stand before its row number
@@ -27,5 +27,5 @@ filled-table src v g n t R (suc m) h =
     rows-set (width symbols) n m knownRow (rowFor g t m) (filledRows g t m) (omega arith) (omega arith) (filled-table src v g n t R m (omega arith))
     (λ x w p. filled-row src x (rowFor g t m) p) (λ x y w q. q) (λ x y w q. q)
 
-pub far-filled : {src : List ℕ} {done : ℕ} {s : State} {T : Tables} → Far src done s T → (g : Lexicon) → Far src done s (setTab T symbols (filledRows g (T .t9) (count s symbols)))
+pub far-filled : {src : List ℕ} {done : ℕ} {s : State} {T : AllTables} → Far src done s T → (g : Lexicon) → Far src done s (setTab T symbols (filledRows g (T .t9) (count s symbols)))
 far-filled {src} {done} {s} {T} f g = far-cells f symbols (omega arith) (λ e. omega arith) _ (filled-table src (view s) g (count s symbols) (T .t9) (f .tables symbols) (count s symbols) (omega arith))

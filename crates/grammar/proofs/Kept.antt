@@ -25,7 +25,7 @@ use Rattle.grammar.specs.declared.Answer.the-variants.{Going, Done, Refu
 use Rattle.grammar.specs.declared.Gap.{Gap}
 use Rattle.grammar.specs.declared.Gap.the-variants.{GapTo, GapRefused}
 use Rattle.grammar.specs.State.{Out1, Out2, Out3, Passed, count, withCount, gapOf, gapAt, Gapped, pushed, pushRow, listRepeat, entered, enterStep, first2, second2, onceFound, onceStep, past, pastGap, passOn, onward, behind1, behind2}
-use Rattle.grammar.specs.Sound.{Tables, tab, setTab, each, pairs, view, Table, TokenRow, RepeatRow, Differ, Far}
+use Rattle.grammar.specs.Sound.{AllTables, cellsOf, setTab, each, pairs, view, Table, TokenRow, RepeatRow, Differ, Far}
 use Rattle.grammar.proofs.Repeats.{repeat-least, repeat-most}
 use Rattle.grammar.proofs.Far.{set-tab, tab-other, far-at, far-add, far-table}
 
@@ -40,22 +40,22 @@ gapped kind ok src at h = go (spacesAt kind ok src at) (spaces kind ok src at h)
     go (OpenComment i) x = tt
 
 -- a step on table k keeps soundness so far, on two tables, on three
-abbrev pub Far1 : List ℕ → ℕ → Tables → ℕ → Out1 → Type 0
+abbrev pub Far1 : List ℕ → ℕ → AllTables → ℕ → Out1 → Type 0
 Far1 src done T k o = Far src done (o .state) (setTab T k (o .a))
 
-abbrev pub Far2 : List ℕ → ℕ → Tables → ℕ → ℕ → Out2 → Type 0
+abbrev pub Far2 : List ℕ → ℕ → AllTables → ℕ → ℕ → Out2 → Type 0
 Far2 src done T k l o = Far src done (o .state) (setTab (setTab T k (o .a)) l (o .b))
 
-abbrev pub Far3 : List ℕ → ℕ → Tables → ℕ → ℕ → ℕ → Out3 → Type 0
+abbrev pub Far3 : List ℕ → ℕ → AllTables → ℕ → ℕ → ℕ → Out3 → Type 0
 Far3 src done T k l m o = Far src done (o .state) (setTab (setTab (setTab T k (o .a)) l (o .b)) m (o .c))
 
 -- and stays where the state stood, at its level
-pub record Held (src : List ℕ) (done : ℕ) (T : Tables) (k : ℕ) (s : State) (o : Out1) : Type 0 where
+pub record Held (src : List ℕ) (done : ℕ) (T : AllTables) (k : ℕ) (s : State) (o : Out1) : Type 0 where
   pub far : Far1 src done T k o
   pub stays : o .state .at ≡ s .at
   pub level : o .state .level ≡ s .level
 
-pub record Held2 (src : List ℕ) (done : ℕ) (T : Tables) (k l : ℕ) (s : State) (o : Out2) : Type 0 where
+pub record Held2 (src : List ℕ) (done : ℕ) (T : AllTables) (k l : ℕ) (s : State) (o : Out2) : Type 0 where
   pub far : Far2 src done T k l o
   pub stays : o .state .at ≡ s .at
   pub level : o .state .level ≡ s .level
@@ -83,12 +83,12 @@ flag-low : (d : Bool) → flag d ≤ 1
 flag-low true = omega arith
 flag-low false = omega arith
 
-module _ {src : List ℕ} {done : ℕ} {s : State} {T : Tables} (f : Far src done s T) where
+module _ {src : List ℕ} {done : ℕ} {s : State} {T : AllTables} (f : Far src done s T) where
   -- a row more,
-  pub push-held : (k : ℕ) → k < 10 → (k ≡ productions → ⊥) → (row : List ℕ) → length row ≡ width k → each src (view s) k row → ((r : ℕ) → r < count s k → pairs src k (rowAt (width k) (tab T k) r) row) → Held src done T k s (pushRow s k row (tab T k))
+  pub push-held : (k : ℕ) → k < 13 → (k ≡ productions → ⊥) → (row : List ℕ) → length row ≡ width k → each src (view s) k row → ((r : ℕ) → r < count s k → pairs src k (rowAt (width k) (cellsOf T k) r) row) → Held src done T k s (pushRow s k row (cellsOf T k))
   unfolding pushRow
   push-held k h d row wide p q =
-      add-cases (λ (o : Added). Held src done T k s (pushed (o .ok) s k row (o .cells))) (count s k) row (tab T k)
+      add-cases (λ (o : Added). Held src done T k s (pushed (o .ok) s k row (o .cells))) (count s k) row (cellsOf T k)
       (λ room low. record { far = rw wide (far-add f k h d row wide (rw wide at room) low p q); stays = refl; level = refl })
       (λ full. record { far = rw (set-tab T k) f; stays = refl; level = refl })
 
@@ -119,21 +119,21 @@ module _ {src : List ℕ} {done : ℕ} {s : State} {T : Tables} (f : Far src don
       (λ none full. record { far = f; stays = refl; level = refl })
 
   -- what may be given once to a name,
-  pub once-held : (k : ℕ) → k < repeats → (k ≡ productions → ⊥) → (name : ℕ) (what : Repeat) (row : List ℕ) → length row ≡ width k → each src (view s) k row → ((r : ℕ) → r < count s k → pairs src k (rowAt (width k) (tab T k) r) row) → ((r : ℕ) → r < count s k → Passed src (cell (width k) (tab T k) r (rowPlace k)) (cell (width k) (tab T k) r (rowPlace k + 1))) → Passed src (getD row (rowPlace k) 0) (getD row (rowPlace k + 1) 0) → Held2 src done T k repeats s (onceStep src s k (width k) name what row (tab T k) (T .t10))
+  pub once-held : (k : ℕ) → k < repeats → (k ≡ productions → ⊥) → (name : ℕ) (what : Repeat) (row : List ℕ) → length row ≡ width k → each src (view s) k row → ((r : ℕ) → r < count s k → pairs src k (rowAt (width k) (cellsOf T k) r) row) → ((r : ℕ) → r < count s k → Passed src (cell (width k) (cellsOf T k) r (rowPlace k)) (cell (width k) (cellsOf T k) r (rowPlace k + 1))) → Passed src (getD row (rowPlace k) 0) (getD row (rowPlace k + 1) 0) → Held2 src done T k repeats s (onceStep src s k (width k) name what row (cellsOf T k) (T .t10))
   unfolding onceStep
   once-held k h d name what row wide p q first z =
-      find-cases (λ (x : Found). Held2 src done T k repeats s (onceFound x s k (width k) what row (tab T k) (T .t10))) src (width k) name (count s k) (tab T k) (getD row name 0) (getD row (name + 1) 0)
+      find-cases (λ (x : Found). Held2 src done T k repeats s (onceFound x s k (width k) what row (cellsOf T k) (T .t10))) src (width k) name (count s k) (cellsOf T k) (getD row name 0) (getD row (name + 1) 0)
       (λ r l e none. found _ (repeat-held what _ _ _ _ (first r l) z))
       (λ none. new _ (push-held k (omega arith) d row wide p q))
     where
       other : (x : List ℕ) → setTab (setTab T k x) repeats (T .t10) ≡ setTab T k x
       other x = ap (λ (y : List ℕ). setTab (setTab T k x) repeats y) (sym (tab-other T k repeats x (λ e. omega arith))) ∙ set-tab (setTab T k x) repeats
 
-      found : (o : Out1) → Held src done T repeats s o → Held2 src done T k repeats s (second2 (tab T k) o)
-      found o y = record { far = subst (λ (U : Tables). Far src done (o .state) (setTab U repeats (o .a))) (sym (set-tab T k)) (y .far); stays = y .stays; level = y .level }
+      found : (o : Out1) → Held src done T repeats s o → Held2 src done T k repeats s (second2 (cellsOf T k) o)
+      found o y = record { far = subst (λ (U : AllTables). Far src done (o .state) (setTab U repeats (o .a))) (sym (set-tab T k)) (y .far); stays = y .stays; level = y .level }
 
       new : (o : Out1) → Held src done T k s o → Held2 src done T k repeats s (first2 o (T .t10))
-      new o y = record { far = subst (λ (U : Tables). Far src done (o .state) U) (sym (other (o .a))) (y .far); stays = y .stays; level = y .level }
+      new o y = record { far = subst (λ (U : AllTables). Far src done (o .state) U) (sym (other (o .a))) (y .far); stays = y .stays; level = y .level }
 
   -- spacing passed.
   pub past-far : (line : Bool) (j : ℕ) → s .at ≤ j → j ≤ length src → Far src done (pastGap src line j s .state) T
@@ -156,10 +156,10 @@ onward-keep I Done x i = i
 onward-keep I (Refused f) x i = i
 
 -- spacing behind a step that stayed where it stood
-pub behind1-far : {src : List ℕ} {done : ℕ} {T : Tables} {k : ℕ} {s : State} (line : Bool) (j : ℕ) (o : Out1) → s .at ≤ j → j ≤ length src → Held src done T k s o → Far1 src done T k (behind1 src line j o)
+pub behind1-far : {src : List ℕ} {done : ℕ} {T : AllTables} {k : ℕ} {s : State} (line : Bool) (j : ℕ) (o : Out1) → s .at ≤ j → j ≤ length src → Held src done T k s o → Far1 src done T k (behind1 src line j o)
 behind1-far line j o h l x = let e = x .stays in pass-far (x .far) line j (o .answer) (omega arith) l
 
-pub behind2-far : {src : List ℕ} {done : ℕ} {T : Tables} {k l : ℕ} {s : State} (line : Bool) (j : ℕ) (o : Out2) → s .at ≤ j → j ≤ length src → Held2 src done T k l s o → Far2 src done T k l (behind2 src line j o)
+pub behind2-far : {src : List ℕ} {done : ℕ} {T : AllTables} {k l : ℕ} {s : State} (line : Bool) (j : ℕ) (o : Out2) → s .at ≤ j → j ≤ length src → Held2 src done T k l s o → Far2 src done T k l (behind2 src line j o)
 behind2-far line j o h m x = let e = x .stays in pass-far (x .far) line j (o .answer) (omega arith) m
 
 -- spacing keeps the level

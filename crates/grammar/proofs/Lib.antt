@@ -1,3 +1,4 @@
+pub mod Counting
 pub mod Steps
 pub mod Far
 pub mod Repeats

@@ -1,23 +1,26 @@
 -- What leaves the count of a table alone leaves its finder. Assumes nothing.
 use Prim.Native.Nat.{ℕ, _+_, _<_}
-use mathlib.Core.Path.{_≡_, refl, sym, ap, _∙_}
+use mathlib.Core.Path.{_≡_, refl, sym, ap, subst, _∙_}
 use mathlib.Core.List.{List}
 use mathlib.Core.Bool.{Bool, true, false}
+use mathlib.Core.Logic.{⊎-elim}
 use native.Mathlib.Omega.{arith}
 use lib.ListN.{length, length-set, getD}
 use lib.Seq.{getD-set-other}
+use Rattle.scan.proofs.Bytes.{le-or-lt}
 use Rattle.tables.specs.Table.{addRow, enterToken, findName, flag}
 use Rattle.tables.specs.declared.Found.{Found}
 use Rattle.tables.specs.declared.Found.the-variants.{RowAt, NoRow}
 use Rattle.tables.specs.declared.Entered.{Entered}
 use Rattle.tables.specs.declared.Entered.the-variants.{Rows, Full}
-use Rattle.tables.specs.Layout.{tokens, repeats}
+use Rattle.tables.specs.Layout.{tokens, repeats, posixFrom}
 use Rattle.grammar.specs.declared.Counts.{Counts}
 use Rattle.grammar.specs.declared.State.{State}
 use Rattle.grammar.specs.declared.Repeat.{Repeat}
 use Rattle.grammar.specs.declared.Answer.{Answer}
 use Rattle.grammar.specs.Cells.{tokenCells}
 use Rattle.grammar.specs.State.{Out0, Out1, Tracked, count, withCount, gapAt, pushed, pushRow, listRepeat, entered, enterStep, onceFound, onceStep, past, pastGap, passOn}
+use Rattle.grammar.proofs.Counting.{with-low, with-high}
 use Rattle.grammar.proofs.Touch.{pass-counts}
 
 -- counts that have the same number of rows in table k + 1
@@ -36,7 +39,10 @@ pub spared : {src : List ℕ} {k w name : ℕ} {c d : Counts} {t ix : List ℕ} 
 spared x I = record { ten = x .long ∙ I .ten; held = rw (x .same) (I .held) }
 
 pub spares-count : (k : ℕ) (s : State) (j n : ℕ) → (j ≡ k → ⊥) → Spares k (s .counts) (withCount s j n .counts)
-spares-count k s j n d = record { long = length-set (s .counts .n) j n; same = getD-set-other (s .counts .n) j k n 0 (λ e. d (sym e)) }
+spares-count k s j n d =
+    ⊎-elim (λ h. subst (λ (u : State). Spares k (s .counts) (u .counts)) (sym (with-high s j n h)) (spares-none k (s .counts)))
+    (λ h. subst (λ (u : State). Spares k (s .counts) (u .counts)) (sym (with-low s j n h)) (record { long = length-set (s .counts .n) j n; same = getD-set-other (s .counts .n) j k n 0 (λ e. d (sym e)) }))
+    (le-or-lt posixFrom j)
 
 -- a row of another table
 pub spares-push : (k : ℕ) (s : State) (j : ℕ) (row t : List ℕ) → (j ≡ k → ⊥) → Spares k (s .counts) (pushRow s j row t .state .counts)

@@ -16,7 +16,7 @@ use borrow.Author.Tests.{lt-ltb, le-ltb}
 use Rattle.spacing.specs.declared.Spaced.{Spaced}
 use Rattle.spacing.specs.declared.Spaced.the-variants.{To, LineEnd, OpenComment}
 use Rattle.spacing.specs.Spacing.{spacesAt, Spaces}
-use Rattle.tables.specs.Layout.{tokens, rowPlace}
+use Rattle.tables.specs.Layout.{tokens, rowPlace, posixFrom}
 use Rattle.tables.specs.Table.{addRow, enterToken, cell, findName}
 use Rattle.tables.specs.declared.Found.{Found}
 use Rattle.tables.specs.declared.Found.the-variants.{RowAt, NoRow}
@@ -32,14 +32,7 @@ use Rattle.grammar.specs.declared.Repeat.{Repeat}
 use Rattle.grammar.specs.declared.Gap.{Gap}
 use Rattle.grammar.specs.declared.Gap.the-variants.{GapTo, GapRefused}
 use Rattle.grammar.specs.State.{count, withCount, noRoom, Here, gapOf, gapAt, Gapped, pushRow, enterStep, nextLevel, withAt, Out0, Out1, Out2, pastGap, passOn, tied1, tied2, behind1, behind2, Onward, Moves, listRepeat, first2, second2, onceStep, Passed, Tokens, Tracked, Enters}
-
--- past the tenth table there is nothing to count
-module _ (s : State) (k : ℕ) (ten : length (s .counts .n) ≡ 10) (h : 10 ≤ k) where
-  pub count-past : 0 ≡ count s k
-  count-past = sym (List·getD-eq-default (s .counts .n) 0 {n = k} (omega arith))
-
-  pub with-past : (n : ℕ) → s ≡ withCount s k n
-  with-past n = rw (set-out (s .counts .n) k n (omega arith))
+use Rattle.grammar.proofs.Counting.{count-low, with-low}
 
 module _ (kind : ℕ) (ok : Bool) (src : List ℕ) (at : ℕ) (r : Spaced) (q : r ≡ spacesAt kind ok src at) where
   pub gap-to : (i n : ℕ) → r ≡ To i n → GapTo i n ≡ gapAt kind ok src at
@@ -69,7 +62,9 @@ module _ (src : List ℕ) (at : ℕ) (r : Spaced) (x : Spaces src at r) where
 module _ (s : State) (k n : ℕ) (row t cells : List ℕ) (q : Bool) (c : n ≡ count s k) (e : record { ok = q; cells = cells } ≡ addRow n row t) where
   pub push-ok : (next : State) → q ≡ true → next ≡ withCount s k (n + 1) → record { answer = Going; state = next; a = cells } ≡ pushRow s k row t
   unfolding pushRow
-  push-ok next h w = let o = rw c at e in rw (w, c, ← o, h)
+  push-ok next h w =
+      let o = rw c at e in
+      ap (λ (u : State). record { answer = Going; state = u; a = cells }) (w ∙ ap (λ (m : ℕ). withCount s k (m + 1)) c) ∙ rw (← o, h)
 
   pub push-full : (f : Refusal) → q ≡ false → f ≡ noRoom k row → record { answer = Refused f; state = s; a = cells } ≡ pushRow s k row t
   unfolding pushRow
@@ -83,15 +78,19 @@ name-new src s k w name n a b row t f c x y e h = rw (← c, ← x, ← y) (sym 
 module _ (src : List ℕ) (s : State) (k w name n : ℕ) (row t cells ix : List ℕ) (q : Bool) (c : n ≡ count s k) (e : record { ok = q; cells = cells } ≡ addRow n row t) (x : Enters k w name row) (I : Tracked src k w name (s .counts) t ix) where
   pub push-tracked : (next : State) → q ≡ true → next ≡ withCount s k (n + 1) → findName src w name (count s k) t (getD row name 0) (getD row (name + 1) 0) ≡ NoRow → (jx : List ℕ) → Grown ix jx → LeadsTo src w name cells jx n → Tracked src k w name (next .counts) cells jx
   push-tracked next h f none jx g l =
-      let b : k < length (s .counts .n) = rw (I .ten) (let l = x .table in omega arith) in
-      rw f
+      let low : k < posixFrom = let z = x .table in omega arith in
+      let b : k < length (s .counts .n) = rw (I .ten) low in
+      let m : n ≡ getD (s .counts .n) k 0 = c ∙ count-low s k low in
+      rw (f ∙ with-low s k (n + 1) low)
       (record {
         ten = length-set (s .counts .n) k (n + 1) ∙ I .ten;
-        held = rw (getD-set-same (s .counts .n) k (n + 1) 0 b) (held-new src w name n t ix (rw c (I .held)) row (x .wide) q cells e (x .named) (rw c none) h jx g l);
+        held = rw (getD-set-same (s .counts .n) k (n + 1) 0 b) (held-new src w name n t ix (rw m (I .held)) row (x .wide) q cells e (x .named) (rw c none) h jx g l);
       })
 
   pub push-untracked : q ≡ false → Tracked src k w name (s .counts) cells ix
-  push-untracked h = record { ten = I .ten; held = rw (← c) (held-full src w name n t ix (rw c (I .held)) row (x .wide) q cells e h) }
+  push-untracked h =
+      let m : n ≡ getD (s .counts .n) k 0 = c ∙ count-low s k (let z = x .table in omega arith) in
+      record { ten = I .ten; held = rw (← m) (held-full src w name n t ix (rw m (I .held)) row (x .wide) q cells e h) }
 
 -- a token entered
 module _ (src : List ℕ) (s : State) (a b n : ℕ) (d : Bool) (t cells : List ℕ) (o : Entered) (c : n ≡ count s 0) (e : record { entered = o; cells = cells } ≡ enterToken src n a b d t) where

@@ -1,12 +1,12 @@
 -- What the shared steps touch and what they leave: a row more changes one table and its count, spacing changes the position alone. Assumes nothing.
-use Prim.Native.Nat.{ℕ, _+_, _<_}
+use Prim.Native.Nat.{ℕ, _+_, _≤_, _<_}
 use mathlib.Core.Path.{_≡_, refl, sym, ap}
 use mathlib.Core.List.{List, [], _∷_, _++_}
 use mathlib.Core.Bool.{Bool, true, false}
 use native.Mathlib.Omega.{arith}
 use native.Mathlib.Numerals.{add-one}
-use lib.ListN.{length, length-set}
-use lib.Seq.{getD-set-same, getD-set-other}
+use lib.ListN.{length}
+use Rattle.tables.specs.Layout.{posixFrom}
 use Rattle.tables.specs.Table.{Added, addRow, room}
 use Rattle.tables.specs.Rows.{rowsOf}
 use Rattle.tables.proofs.Rows.{rows-of-add}
@@ -18,6 +18,7 @@ use Rattle.grammar.specs.declared.Refusal.{Refusal}
 use Rattle.grammar.specs.declared.Gap.{Gap}
 use Rattle.grammar.specs.declared.Gap.the-variants.{GapTo, GapRefused}
 use Rattle.grammar.specs.State.{count, withAt, withCount, gapAt, pushed, pushRow, past, pastGap, passOn}
+use Rattle.grammar.proofs.Counting.{with-high, with-ten, with-three, count-other}
 use Rattle.grammar.proofs.Steps.{past-going, on-going}
 
 -- answers differ
@@ -30,6 +31,7 @@ done-going e = let z : _≡_ {A = ℕ} 0 1 = cc in omega arith
 -- a step on table k + 1 touches no other table's count
 pub record Apart (k : ℕ) (s u : State) : Type 0 where
   pub ten : length (u .counts .n) ≡ length (s .counts .n)
+  pub three : length (u .posix .n) ≡ length (s .posix .n)
   pub level : u .level ≡ s .level
   pub count : (j : ℕ) → (j ≡ k → ⊥) → count u j ≡ count s j
 
@@ -43,19 +45,24 @@ module _ (s : State) (k : ℕ) (row : List ℕ) (t : List ℕ) where
   unfolding pushRow
   push-apart =
       add-cases (λ (o : Added). Apart k s (pushed (o .ok) s k row (o .cells) .state)) (count s k) row t
-      (λ room low. record { ten = length-set (s .counts .n) k (count s k + 1); level = refl; count = λ j d. getD-set-other (s .counts .n) k j (count s k + 1) 0 d })
-      (λ full. record { ten = refl; level = refl; count = λ j d. refl })
+      (λ room low. record { ten = with-ten s k (count s k + 1); three = with-three s k (count s k + 1); level = refl; count = λ j d. count-other s k (count s k + 1) j d })
+      (λ full. record { ten = refl; three = refl; level = refl; count = λ j d. refl })
 
-  -- where it goes on, there is that row more
-  pub push-more : k < length (s .counts .n) → pushRow s k row t .answer ≡ Going → More k row s t (pushRow s k row t .state) (pushRow s k row t .a)
+  -- where it goes on, there is that row more, if the table is one that is counted
+  pub push-more : count (withCount s k (count s k + 1)) k ≡ count s k + 1 → pushRow s k row t .answer ≡ Going → More k row s t (pushRow s k row t .state) (pushRow s k row t .a)
   unfolding pushRow
-  push-more h =
+  push-more same =
       add-cases (λ (o : Added). pushed (o .ok) s k row (o .cells) .answer ≡ Going → More k row s t (pushed (o .ok) s k row (o .cells) .state) (pushed (o .ok) s k row (o .cells) .a)) (count s k) row t
       (λ room low g. record { counted = same; rows = rw (same, add-one) (rows-of-add (length row) (count s k) row t refl room) })
       (λ full g. absurd (refused-going _ g))
-    where
-      same : count (withCount s k (count s k + 1)) k ≡ count s k + 1
-      same = getD-set-same (s .counts .n) k (count s k + 1) 0 h
+
+  -- a row behind the ten leaves their counts
+  pub push-ten : posixFrom ≤ k → pushRow s k row t .state .counts ≡ s .counts
+  unfolding pushRow
+  push-ten h =
+      add-cases (λ (o : Added). pushed (o .ok) s k row (o .cells) .state .counts ≡ s .counts) (count s k) row t
+      (λ room low. ap (λ (u : State). u .counts) (with-high s k (count s k + 1) h))
+      (λ full. refl)
 
   -- and it goes on where there is room
   pub push-goes : room (length row) (count s k) t ≡ true → pushRow s k row t .answer ≡ Going
@@ -73,6 +80,16 @@ module _ (src : List ℕ) (line : Bool) (j : ℕ) where
       go (GapRefused e) = refl
   pass-counts Done s = refl
   pass-counts (Refused f) s = refl
+
+  pub pass-count : (a : Answer) (s : State) (k : ℕ) → count (passOn src line j a s .state) k ≡ count s k
+  unfolding pastGap
+  pass-count Going s k = go (gapAt (s .kind) true src j)
+    where
+      go : (g : Gap) → count (past line g s .state) k ≡ count s k
+      go (GapTo i n) = refl
+      go (GapRefused e) = refl
+  pass-count Done s k = refl
+  pass-count (Refused f) s k = refl
 
   -- where it goes on, the step before it did, and there is spacing to the new position
   pub record Passes (a : Answer) (s : State) : Type 0 where

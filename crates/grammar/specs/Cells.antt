@@ -1,4 +1,4 @@
--- The rows of tables 1 to 7, 9 and 10: which cell is which. Those of table 8 are in `productions`.
+-- The rows of tables 1 to 7, 9, 10 and 15 to 17: which cell is which. Those of table 8 are in `productions`.
 use Prim.Native.Nat.{ℕ}
 use mathlib.Core.List.{List, [], _∷_}
 use Rattle.grammar.specs.declared.Part.{Part}
@@ -35,3 +35,13 @@ ruleCells from to type = from ∷ to ∷ partNumbers type
 -- "10 repeats (number, first place, repeated place)"
 abbrev pub repeatCells : ℕ → ℕ → ℕ → ℕ → ℕ → List ℕ
 repeatCells number a b c d = number ∷ a ∷ b ∷ c ∷ d ∷ []
+
+-- document 02, request Nine: "15 takes tags (name, tag), 16 numbers (name, number [..]), 17 bodies (1 for `%{`, 2 for union; place)"
+abbrev pub tagCells : ℕ → ℕ → ℕ → ℕ → List ℕ
+tagCells from to tagFrom tagTo = from ∷ to ∷ tagFrom ∷ tagTo ∷ []
+
+abbrev pub numberCells : ℕ → ℕ → ℕ → List ℕ
+numberCells from to number = from ∷ to ∷ number ∷ []
+
+abbrev pub bodyCells : ℕ → ℕ → ℕ → List ℕ
+bodyCells sort from to = sort ∷ from ∷ to ∷ []

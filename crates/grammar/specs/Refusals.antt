@@ -4,7 +4,7 @@ use mathlib.Core.List.{List, [], _∷_}
 use mathlib.Core.Bool.{true, false}
 use lib.Dec.{eqb}
 use Rattle.grammar.specs.declared.Cause.{Cause}
-use Rattle.grammar.specs.declared.Cause.the-variants.{IntegerEmpty, IntegerTooLarge, IllegalName, IllegalString, IncompleteRule, IncompleteComment, IncompleteAction, MissingColon, MissingRightArrow, NonEmptyProduction, PrematureEnd, NotTerminated, UnknownDeclaration, ReachedEol, ReachedEnd, StringNotOpened, StringLineEnd, StringEscape, StringNotClosed, UnknownSymbol, NotUtf8}
+use Rattle.grammar.specs.declared.Cause.the-variants.{IntegerEmpty, IntegerTooLarge, IllegalName, IllegalString, IncompleteRule, IncompleteComment, IncompleteAction, MissingColon, MissingRightArrow, NonEmptyProduction, PrematureEnd, NotTerminated, UnknownDeclaration, ReachedEol, ReachedEnd, StringNotOpened, StringLineEnd, StringEscape, StringNotClosed, UnknownSymbol, TagNotClosed, TagMissing, PrologueNotClosed, UnionNotOpened, UnionNotClosed, NotUtf8}
 use Rattle.grammar.specs.declared.Refusal.{Refusal}
 use Rattle.grammar.specs.declared.Refusal.the-variants.{Fault, Repeated, NoRoom, TooLong, BadKind, BadIndex}
 use Rattle.grammar.specs.declared.Repeat.{Repeat}
@@ -12,7 +12,8 @@ use Rattle.grammar.specs.declared.Repeat.the-variants.{RepeatedPrecedenc
 use Rattle.grammar.specs.declared.Told.{Told}
 
 -- "1 IllegalInteger, 2 IllegalName, 3 IllegalString", and so on; and by document 02, request Four, "16 where no single colon follows", "17 is a line end
--- inside, 18 a backslash before anything but a quote or at the end, 19 a string that isn't closed"
+-- inside, 18 a backslash before anything but a quote or at the end, 19 a string that isn't closed"; by request Nine, "50 tag not closed on its line, at `<`, or
+-- none after `%type`, where it was sought; 51 `%{` not closed, at `%{`; 52 union not opened or not closed, at `%union`"
 abbrev pub numberOfCause : Cause → ℕ
 numberOfCause IntegerEmpty = 1
 numberOfCause IntegerTooLarge = 1
@@ -34,6 +35,11 @@ numberOfCause StringLineEnd = 17
 numberOfCause StringEscape = 18
 numberOfCause StringNotClosed = 19
 numberOfCause UnknownSymbol = 15
+numberOfCause TagNotClosed = 50
+numberOfCause TagMissing = 50
+numberOfCause PrologueNotClosed = 51
+numberOfCause UnionNotOpened = 52
+numberOfCause UnionNotClosed = 52
 numberOfCause NotUtf8 = 40
 
 -- "20 Precedence, 21 AvoidInsert, 22 ImplicitTokens, 23 Expect, 24 ExpectRR, 25 Start, 26 Actiontype, 27 EPP repeated"

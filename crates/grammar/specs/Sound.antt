@@ -11,7 +11,7 @@ use Rattle.tables.specs.Table.{samePart, zeroed}
 use Rattle.tables.specs.Rows.{Clean, rowAt, Rows, Chained}
 use Rattle.index.specs.Index.{Indexed, Sized}
 use Rattle.symbols.specs.Symbols.{Lexicon, lexicon, Knows}
-use Rattle.tables.specs.Layout.{tokens, precedences, rules, productions, symbols, declared, level, association, keyName, value, typed, ruleRow, place, symbolsFrom, symbolsTo, prec, action, kindName, width}
+use Rattle.tables.specs.Layout.{tokens, precedences, rules, productions, symbols, declared, level, association, keyName, value, typed, ruleRow, place, symbolsFrom, symbolsTo, prec, action, kindName, posixFrom, tagPlace, bodyPlace, width}
 use Rattle.grammar.specs.declared.Part.{Part}
 use Rattle.grammar.specs.declared.Part.the-variants.{Absent, At}
 use Rattle.grammar.specs.declared.Expect.{Expect}
@@ -19,11 +19,12 @@ use Rattle.grammar.specs.declared.Expect.the-variants.{NotExpected, Expe
 use Rattle.grammar.specs.declared.Param.{Param}
 use Rattle.grammar.specs.declared.Param.the-variants.{NoParam, ParamAt}
 use Rattle.grammar.specs.declared.Counts.{Counts}
+use Rattle.grammar.specs.declared.PosixCounts.{PosixCounts}
 use Rattle.grammar.specs.declared.Singles.{Singles}
 use Rattle.grammar.specs.declared.State.{State}
 use Rattle.grammar.specs.State.{Passed, count}
 
--- the ten tables, by number, and with one of them replaced
+-- the ten tables, and by number
 pub record Tables : Type 0 where
   pub t1 : List ℕ
   pub t2 : List ℕ
@@ -36,20 +37,42 @@ pub record Tables : Type 0 where
   pub t9 : List ℕ
   pub t10 : List ℕ
 
-abbrev pub listOf : Tables → List (List ℕ)
-listOf T = T .t1 ∷ T .t2 ∷ T .t3 ∷ T .t4 ∷ T .t5 ∷ T .t6 ∷ T .t7 ∷ T .t8 ∷ T .t9 ∷ T .t10 ∷ []
-
-abbrev pub ofList : List (List ℕ) → Tables
-ofList l = record { t1 = getD l 0 []; t2 = getD l 1 []; t3 = getD l 2 []; t4 = getD l 3 []; t5 = getD l 4 []; t6 = getD l 5 []; t7 = getD l 6 []; t8 = getD l 7 []; t9 = getD l 8 []; t10 = getD l 9 [] }
-
 abbrev pub tab : Tables → ℕ → List ℕ
-tab T k = getD (listOf T) k []
+tab T k = getD (T .t1 ∷ T .t2 ∷ T .t3 ∷ T .t4 ∷ T .t5 ∷ T .t6 ∷ T .t7 ∷ T .t8 ∷ T .t9 ∷ T .t10 ∷ []) k []
 
-abbrev pub setTab : Tables → ℕ → List ℕ → Tables
+-- the thirteen that a read fills: behind the ten those of kind 4; by index, and with one of them replaced
+pub record AllTables : Type 0 where
+  pub t1 : List ℕ
+  pub t2 : List ℕ
+  pub t3 : List ℕ
+  pub t4 : List ℕ
+  pub t5 : List ℕ
+  pub t6 : List ℕ
+  pub t7 : List ℕ
+  pub t8 : List ℕ
+  pub t9 : List ℕ
+  pub t10 : List ℕ
+  pub t15 : List ℕ
+  pub t16 : List ℕ
+  pub t17 : List ℕ
+
+abbrev pub tenOf : AllTables → Tables
+tenOf T = record { t1 = T .t1; t2 = T .t2; t3 = T .t3; t4 = T .t4; t5 = T .t5; t6 = T .t6; t7 = T .t7; t8 = T .t8; t9 = T .t9; t10 = T .t10 }
+
+abbrev pub listOf : AllTables → List (List ℕ)
+listOf T = T .t1 ∷ T .t2 ∷ T .t3 ∷ T .t4 ∷ T .t5 ∷ T .t6 ∷ T .t7 ∷ T .t8 ∷ T .t9 ∷ T .t10 ∷ T .t15 ∷ T .t16 ∷ T .t17 ∷ []
+
+abbrev pub ofList : List (List ℕ) → AllTables
+ofList l = record { t1 = getD l 0 []; t2 = getD l 1 []; t3 = getD l 2 []; t4 = getD l 3 []; t5 = getD l 4 []; t6 = getD l 5 []; t7 = getD l 6 []; t8 = getD l 7 []; t9 = getD l 8 []; t10 = getD l 9 []; t15 = getD l 10 []; t16 = getD l 11 []; t17 = getD l 12 [] }
+
+abbrev pub cellsOf : AllTables → ℕ → List ℕ
+cellsOf T k = getD (listOf T) k []
+
+abbrev pub setTab : AllTables → ℕ → List ℕ → AllTables
 setTab T k x = ofList (set (listOf T) k x)
 
-abbrev pub zeroAll : Tables → Tables
-zeroAll T = record { t1 = zeroed (T .t1); t2 = zeroed (T .t2); t3 = zeroed (T .t3); t4 = zeroed (T .t4); t5 = zeroed (T .t5); t6 = zeroed (T .t6); t7 = zeroed (T .t7); t8 = zeroed (T .t8); t9 = zeroed (T .t9); t10 = zeroed (T .t10) }
+abbrev pub zeroAll : AllTables → AllTables
+zeroAll T = record { t1 = zeroed (T .t1); t2 = zeroed (T .t2); t3 = zeroed (T .t3); t4 = zeroed (T .t4); t5 = zeroed (T .t5); t6 = zeroed (T .t6); t7 = zeroed (T .t7); t8 = zeroed (T .t8); t9 = zeroed (T .t9); t10 = zeroed (T .t10); t15 = zeroed (T .t15); t16 = zeroed (T .t16); t17 = zeroed (T .t17) }
 
 -- the names that symbols are known by
 abbrev pub lexiconOf : List ℕ → Counts → Tables → Lexicon
@@ -123,6 +146,16 @@ pub record RepeatRow (src x : List ℕ) : Type 0 where
   pub first : Passed src (getD x 1 0) (getD x 2 0)
   pub again : Passed src (getD x 3 0) (getD x 4 0)
 
+-- of tables 15, 16 and 17, with the sorts of a body: "1 for `%{`, 2 for union"
+pub record TagRow (src x : List ℕ) : Type 0 where
+  pub name : Passed src (getD x 0 0) (getD x 1 0)
+  pub tag : Passed src (getD x tagPlace 0) (getD x (tagPlace + 1) 0)
+
+pub record BodyRow (src x : List ℕ) : Type 0 where
+  pub least : 1 ≤ getD x 0 0
+  pub most : getD x 0 0 ≤ 2
+  pub text : Passed src (getD x bodyPlace 0) (getD x (bodyPlace + 1) 0)
+
 -- "names in 1 and in 7 are pairwise different"
 pub record Differ (src x y : List ℕ) : Type 0 where
   pub differ : samePart src (getD x 0 0) (getD x 1 0) (getD y 0 0) (getD y 1 0) ≡ false
@@ -136,7 +169,7 @@ any₂ x y = Unit
 -- the rows of each table in number order, and what two rows of one are to each other
 abbrev pub each : List ℕ → View → ℕ → List ℕ → Type 0
 each src v k =
-    getD (TokenRow src ∷ PrecRow src v ∷ NameRow src ∷ NameRow src ∷ EppRow src v ∷ KindRow src ∷ RuleRow src ∷ ProductionRow src v ∷ KindRow src ∷ RepeatRow src ∷ []) k any
+    getD (TokenRow src ∷ PrecRow src v ∷ NameRow src ∷ NameRow src ∷ EppRow src v ∷ KindRow src ∷ RuleRow src ∷ ProductionRow src v ∷ KindRow src ∷ RepeatRow src ∷ TagRow src ∷ NameRow src ∷ BodyRow src ∷ []) k any
 
 abbrev pub pairs : List ℕ → ℕ → List ℕ → List ℕ → Type 0
 pairs src k = getD (Differ src ∷ any₂ ∷ any₂ ∷ any₂ ∷ any₂ ∷ any₂ ∷ Differ src ∷ []) k any₂
@@ -191,19 +224,24 @@ pub record Sound (src : List ℕ) (c : Counts) (g : Singles) (T : Tables) (X : I
   -- document 02, request Five: "Soundness includes it, 4294967295 being the one row number allowed outside the counts."
   pub known : Knows (lexiconOf src c T) (getD (c .n) symbols 0) (T .t9)
 
+-- The same of tables 15 to 17, which no operation but the catalogue's tests: counts fit, cells past them are zero, and each place lies in the source.
+pub record PosixSound (src : List ℕ) (c : Counts) (p : PosixCounts) (T : AllTables) : Type 0 where
+  pub tables : (k : ℕ) → k < 3 → Table src (soundView c) (posixFrom + k) (getD (p .n) k 0) (cellsOf T (posixFrom + k))
+
 -- levels that were given are below the next one, and values are strings
 abbrev pub view : State → View
 view s = record { low = λ n. n < s .level; whole = λ src a b. stringAt src a ≡ Closed b; rules = count s rules; symbols = count s symbols }
 
 -- Sound so far: what holds between any two steps of a reading, whatever their answers. The productions' ranges end at `done`; the symbols behind it are
 -- those of the production that is being read.
-pub record Far (src : List ℕ) (done : ℕ) (s : State) (T : Tables) : Type 0 where
+pub record Far (src : List ℕ) (done : ℕ) (s : State) (T : AllTables) : Type 0 where
   pub here : s .at ≤ length src
   pub short : length src ≤ 65536
   pub ten : length (s .counts .n) ≡ 10
+  pub three : length (s .posix .n) ≡ 3
   pub risen : s .level ≤ s .at
-  pub tables : (k : ℕ) → Table src (view s) k (count s k) (tab T k)
-  pub ranges : Chained (width productions) symbolsFrom symbolsTo (count s productions) (tab T productions) done
+  pub tables : (k : ℕ) → Table src (view s) k (count s k) (cellsOf T k)
+  pub ranges : Chained (width productions) symbolsFrom symbolsTo (count s productions) (cellsOf T productions) done
   pub since : done ≤ count s symbols
   pub singles : Lie src (s .singles)
   pub actiontype : Lies src (s .actiontype)

@@ -1,5 +1,5 @@
 -- The state that a reading step takes and gives, and the steps that add a row.
-use Prim.Native.Nat.{ℕ, _+_, _≤_, _<_}
+use Prim.Native.Nat.{ℕ, _+_, _-_, _≤_, _<_}
 use mathlib.Core.Path.{_≡_}
 use mathlib.Core.List.{List, [], _∷_}
 use mathlib.Core.Bool.{Bool, true, false, _&&_, not}
@@ -16,6 +16,7 @@ use Rattle.tables.specs.declared.Found.{Found}
 use Rattle.tables.specs.declared.Found.the-variants.{RowAt, NoRow}
 use Rattle.tables.specs.Table.{Added, addRow, Inserted, flag, enterToken, cell, findName}
 use Rattle.grammar.specs.declared.Counts.{Counts}
+use Rattle.grammar.specs.declared.PosixCounts.{PosixCounts}
 use Rattle.grammar.specs.declared.Singles.{Singles}
 use Rattle.grammar.specs.declared.State.{State}
 use Rattle.grammar.specs.declared.Part.{Part}
@@ -30,12 +31,12 @@ use Rattle.grammar.specs.declared.Answer.the-variants.{Going, Done, Refu
 use Rattle.grammar.specs.declared.Repeat.{Repeat}
 use Rattle.grammar.specs.declared.Gap.{Gap}
 use Rattle.grammar.specs.declared.Gap.the-variants.{GapTo, GapRefused}
-use Rattle.tables.specs.Layout.{tokens, rules, repeats, rowPlace, width}
+use Rattle.tables.specs.Layout.{tokens, rules, repeats, posixFrom, tableNumber, rowPlace, width}
 use Rattle.finder.specs.Finder.{Held, Grown}
 use Rattle.grammar.specs.Refusals.{numberOfRepeat}
 use Rattle.grammar.specs.Cells.{tokenCells, repeatCells}
 
--- what a step on no table, on one, on two and on three gives
+-- what a step on no table, on one, on two, on three and on four gives
 pub record Out0 : Type 0 where
   pub answer : Answer
   pub state : State
@@ -58,28 +59,48 @@ pub record Out3 : Type 0 where
   pub b : List ℕ
   pub c : List ℕ
 
+pub record Out4 : Type 0 where
+  pub answer : Answer
+  pub state : State
+  pub a : List ℕ
+  pub b : List ℕ
+  pub c : List ℕ
+  pub d : List ℕ
+
 -- the state with one part changed
 abbrev pub withAt : State → ℕ → State
-withAt s i = record { kind = s .kind; at = i; level = s .level; counts = s .counts; singles = s .singles; actiontype = s .actiontype }
+withAt s i = record { kind = s .kind; at = i; level = s .level; counts = s .counts; posix = s .posix; singles = s .singles; actiontype = s .actiontype }
 
 abbrev pub withLevel : State → ℕ → State
-withLevel s n = record { kind = s .kind; at = s .at; level = n; counts = s .counts; singles = s .singles; actiontype = s .actiontype }
+withLevel s n = record { kind = s .kind; at = s .at; level = n; counts = s .counts; posix = s .posix; singles = s .singles; actiontype = s .actiontype }
 
 abbrev pub withCounts : State → Counts → State
-withCounts s c = record { kind = s .kind; at = s .at; level = s .level; counts = c; singles = s .singles; actiontype = s .actiontype }
+withCounts s c = record { kind = s .kind; at = s .at; level = s .level; counts = c; posix = s .posix; singles = s .singles; actiontype = s .actiontype }
+
+abbrev pub withPosix : State → PosixCounts → State
+withPosix s p = record { kind = s .kind; at = s .at; level = s .level; counts = s .counts; posix = p; singles = s .singles; actiontype = s .actiontype }
 
 abbrev pub withSingles : State → Singles → State
-withSingles s g = record { kind = s .kind; at = s .at; level = s .level; counts = s .counts; singles = g; actiontype = s .actiontype }
+withSingles s g = record { kind = s .kind; at = s .at; level = s .level; counts = s .counts; posix = s .posix; singles = g; actiontype = s .actiontype }
 
 abbrev pub withActiontype : State → Part → State
-withActiontype s p = record { kind = s .kind; at = s .at; level = s .level; counts = s .counts; singles = s .singles; actiontype = p }
+withActiontype s p = record { kind = s .kind; at = s .at; level = s .level; counts = s .counts; posix = s .posix; singles = s .singles; actiontype = p }
 
--- the count of table k + 1, and the state with another
+-- the count of the table of index k, of the ten or of the three, and the state with another
 abbrev pub count : State → ℕ → ℕ
-count s k = getD (s .counts .n) k 0
+count s k = elim (ltb k posixFrom) [ true ↦ getD (s .counts .n) k 0 | false ↦ getD (s .posix .n) (k - posixFrom) 0 ]
 
 abbrev pub withCount : State → ℕ → ℕ → State
-withCount s k n = withCounts s (record { n = set (s .counts .n) k n })
+withCount s k n =
+    record {
+      kind = s .kind;
+      at = s .at;
+      level = s .level;
+      counts = record { n = elim (ltb k posixFrom) [ true ↦ set (s .counts .n) k n | false ↦ s .counts .n ] };
+      posix = record { n = elim (ltb k posixFrom) [ true ↦ s .posix .n | false ↦ set (s .posix .n) (k - posixFrom) n ] };
+      singles = s .singles;
+      actiontype = s .actiontype;
+    }
 
 -- the finder of table k + 1, whose rows are w wide and have their names in the cells `name` and `name + 1`, leads to the rows that are counted
 pub record Tracked (src : List ℕ) (k w name : ℕ) (c : Counts) (t ix : List ℕ) : Type 0 where
@@ -133,13 +154,13 @@ Gapped src from (GapRefused f) = Unit {0}
 
 -- "42 no room: first place of the row that didn't fit, for 10 its repeated one, and table number": all of it comes from the table and the row
 abbrev pub noRoom : ℕ → List ℕ → Refusal
-noRoom k row = NoRoom (k + 1) (getD row (rowPlace k) 0) (getD row (rowPlace k + 1) 0)
+noRoom k row = NoRoom (tableNumber k) (getD row (rowPlace k) 0) (getD row (rowPlace k + 1) 0)
 
 abbrev pub pushed : Bool → State → ℕ → List ℕ → List ℕ → Out1
 pushed true s k row t = record { answer = Going; state = withCount s k (count s k + 1); a = t }
 pushed false s k row t = record { answer = Refused (noRoom k row); state = s; a = t }
 
--- a row is added to table k + 1
+-- a row is added to the table of index k
 unfoldable pub pushRow : State → ℕ → List ℕ → List ℕ → Out1
 pushRow s k row t = pushed (addRow (count s k) row t .ok) s k row (addRow (count s k) row t .cells)
 
@@ -167,8 +188,11 @@ noSingles = record { start = Absent; expect = NotExpected; «expect_rr» = NotEx
 abbrev pub noCounts : Counts
 noCounts = record { n = replicate 10 0 }
 
+abbrev pub noPosix : PosixCounts
+noPosix = record { n = replicate 3 0 }
+
 abbrev pub fresh : ℕ → State
-fresh kind = record { kind = kind; at = 0; level = 0; counts = noCounts; singles = noSingles; actiontype = Absent }
+fresh kind = record { kind = kind; at = 0; level = 0; counts = noCounts; posix = noPosix; singles = noSingles; actiontype = Absent }
 
 -- what spacing makes of a state; a list that ends with its line is done "until a line end was counted"
 abbrev pub past : Bool → Gap → State → Out0
@@ -200,6 +224,9 @@ tied2 o a b = record { answer = o .answer; state = o .state; a = a; b = b }
 
 abbrev pub tied3 : Out0 → List ℕ → List ℕ → List ℕ → Out3
 tied3 o a b c = record { answer = o .answer; state = o .state; a = a; b = b; c = c }
+
+abbrev pub tied4 : Out0 → List ℕ → List ℕ → List ℕ → List ℕ → Out4
+tied4 o a b c d = record { answer = o .answer; state = o .state; a = a; b = b; c = c; d = d }
 
 -- behind a step on tables, spacing
 abbrev pub behind1 : List ℕ → Bool → ℕ → Out1 → Out1

@@ -17,6 +17,11 @@ pub struct Counts {
     pub n: [u32; 10],
 }
 
+// The rows of tables 15 to 17, which kind 4 fills.
+pub struct PosixCounts {
+    pub n: [u32; 3],
+}
+
 // A place that is given or not: the start, the generics, the programs, the action type of kind 1.
 pub enum Part {
     Absent,
@@ -50,6 +55,7 @@ pub struct State {
     pub at: usize,
     pub level: u32,
     pub counts: Counts,
+    pub posix: PosixCounts,
     pub singles: Singles,
     pub actiontype: Part,
 }
@@ -78,6 +84,12 @@ pub enum Cause {
     StringEscape,
     StringNotClosed,
     UnknownSymbol,
+    // Kind 4: a `<tag>` that its line does not close, and none behind `%type`.
+    TagNotClosed,
+    TagMissing,
+    PrologueNotClosed,
+    UnionNotOpened,
+    UnionNotClosed,
     NotUtf8,
 }
 
@@ -155,6 +167,11 @@ pub fn cause_number(c: Cause) -> u32
         Cause::StringEscape => 18,
         Cause::StringNotClosed => 19,
         Cause::UnknownSymbol => 15,
+        Cause::TagNotClosed => 50,
+        Cause::TagMissing => 50,
+        Cause::PrologueNotClosed => 51,
+        Cause::UnionNotOpened => 52,
+        Cause::UnionNotClosed => 52,
         Cause::NotUtf8 => 40,
     }
 }
@@ -259,13 +276,18 @@ pub fn pass_gap(src: &[u8], kind: u32, at: usize, ends_allowed: bool) -> Gap
     }
 }
 
-// The count of table `k + 1`.
+// The count of the table of index `k`.
 pub fn count_of(s: State, k: u8) -> u32
     ensures { λ r. ⌜ r ≡ count s k ⌝ }
 {
     let c = s.counts;
+    let p = s.posix;
     let i = k as usize;
-    if i < 10 { c.n[i] } else { 0 }
+    if i < 10 {
+        return c.n[i];
+    }
+    let j = i - 10;
+    if j < 3 { p.n[j] } else { 0 }
 }
 
 pub fn with_count(s: State, k: u8, n: u32) -> State
@@ -279,22 +301,30 @@ pub fn with_count(s: State, k: u8, n: u32) -> State
         next.counts = c;
         return next;
     }
+    let j = i - 10;
+    if j < 3 {
+        let mut p = s.posix;
+        p.n[j] = n;
+        let mut next = s;
+        next.posix = p;
+        return next;
+    }
     s
 }
 
-// No room for this row of table `k + 1`.
+// No room for this row of the table of index `k`.
 pub fn no_room(k: u8, row: &[u32]) -> Refusal
     ensures { λ r. ⌜ r ≡ noRoom k (now (row .entry)) ⌝ }
 {
     let p = tables::row_place(k);
     Refusal::NoRoom(
-        k as u32 + 1,
+        tables::table_number(k),
         tables::cell_in_row(row, p),
         tables::cell_in_row(row, p + 1),
     )
 }
 
-// A row is added to table `k + 1`, or there is no room for it.
+// A row is added to the table of index `k`, or there is no room for it.
 pub fn push(s: State, k: u8, row: &[u32], t: &mut [u32]) -> Step
     ensures is { λ r. ⌜ _≡_ {A = Out1} (record { answer = r .answer; state = r .state; a = now (t .exit) }) (pushRow s k (now (row .entry)) (now (t .entry))) ⌝ }
     ensures kept { λ r. ⌜ r .state .at ≡ s .at ⌝ }

@@ -34,9 +34,10 @@ use Rattle.grammar.specs.declared.Gap.{Gap}
 use Rattle.grammar.specs.declared.Gap.the-variants.{GapTo, GapRefused}
 use Rattle.grammar.specs.Cells.{symbolCells, tokenCells}
 use Rattle.grammar.specs.State.{Out1, Out2, Passed, Onward, count, withAt, gapAt, Gapped, pushed, pushRow, entered, enterStep, past, pastGap, passOn}
-use Rattle.grammar.specs.Sound.{Tables, setTab, Given, GivenAction, Far}
+use Rattle.grammar.specs.Sound.{AllTables, setTab, Given, GivenAction, Far}
 use Rattle.grammar.proofs.Far.{far-at, far-production}
 use Rattle.grammar.proofs.Steps.{gap-onward, stays, refused-stays}
+use Rattle.grammar.proofs.Counting.{count-other}
 use Rattle.grammar.proofs.Touch.{pass-counts}
 use Rattle.grammar.proofs.Kept.{gapped, Held, Held2, push-held, enter-held, pass-far}
 use Rattle.productions.specs.declared.Prec.{Prec}
@@ -101,7 +102,7 @@ unfolding pushRow
 quiet-push s k row t h = go (addRow (count s k) row t .ok) (addRow (count s k) row t .cells)
   where
     go : (q : Bool) (x : List ℕ) → Quiet s (pushed q s k row x .answer) (pushed q s k row x .state)
-    go true x = record { rules = getD-set-other (s .counts .n) k rules (count s k + 1) 0 h; undone = going-undone }
+    go true x = record { rules = count-other s k (count s k + 1) rules h; undone = going-undone }
     go false x = record { rules = refl; undone = refused-undone _ }
 
 quiet-enter : (src : List ℕ) (s : State) (a b : ℕ) (d : Bool) (t : List ℕ) → Quiet s (enterStep src s a b d t .answer) (enterStep src s a b d t .state)
@@ -141,31 +142,31 @@ module _ (src : List ℕ) (j : ℕ) (s : State) where
 
 -- An item that does not end its production: sound so far, the ranges end where they did, the production is still a draft, the rule isn't done; and behind
 -- `least` if the reading goes on.
-pub record Item (src : List ℕ) (done : ℕ) (T : Tables) (least : ℕ) (a : Answer) (s : State) (d : Production) : Type 0 where
+pub record Item (src : List ℕ) (done : ℕ) (T : AllTables) (least : ℕ) (a : Answer) (s : State) (d : Production) : Type 0 where
   pub far : Far src done s T
   pub draft : Draft src done s d
   pub undone : a ≡ Done → ⊥
   pub beyond : a ≡ Going → least ≤ s .at
 
 -- on no table, on table k + 1, and on tables 1 and 9
-abbrev pub Item0 : List ℕ → ℕ → Tables → ℕ → Made0 → Type 0
+abbrev pub Item0 : List ℕ → ℕ → AllTables → ℕ → Made0 → Type 0
 Item0 src done T least o = Item src done T least (o .answer) (o .state) (o .draft)
 
-abbrev pub Item1 : List ℕ → ℕ → Tables → ℕ → ℕ → Made1 → Type 0
+abbrev pub Item1 : List ℕ → ℕ → AllTables → ℕ → ℕ → Made1 → Type 0
 Item1 src done T k least o = Item src done (setTab T k (o .a)) least (o .answer) (o .state) (o .draft)
 
-abbrev pub Item2 : List ℕ → ℕ → Tables → ℕ → Made2 → Type 0
+abbrev pub Item2 : List ℕ → ℕ → AllTables → ℕ → Made2 → Type 0
 Item2 src done T least o = Item src done (setTab (setTab T tokens (o .a)) symbols (o .b)) least (o .answer) (o .state) (o .draft)
 
-item-sooner : {src : List ℕ} {done : ℕ} {T : Tables} {least : ℕ} {a : Answer} {s : State} {d : Production} (m : ℕ) → m ≤ least → Item src done T least a s d → Item src done T m a s d
+item-sooner : {src : List ℕ} {done : ℕ} {T : AllTables} {least : ℕ} {a : Answer} {s : State} {d : Production} (m : ℕ) → m ≤ least → Item src done T least a s d → Item src done T m a s d
 item-sooner m h i = record { far = i .far; draft = i .draft; undone = i .undone; beyond = λ e. let l = i .beyond e in omega arith }
 
 -- a refusal keeps all
-item-refused : {src : List ℕ} {done : ℕ} {T : Tables} {s : State} {d : Production} (least : ℕ) (f : Refusal) → Far src done s T → Draft src done s d → Item src done T least (Refused f) s d
+item-refused : {src : List ℕ} {done : ℕ} {T : AllTables} {s : State} {d : Production} (least : ℕ) (f : Refusal) → Far src done s T → Draft src done s d → Item src done T least (Refused f) s d
 item-refused least f x y = record { far = x; draft = y; undone = refused-undone f; beyond = λ e. let z : _≡_ {A = ℕ} 0 1 = cc in absurd (omega arith) }
 
 -- spacing behind a step that stayed where it stood
-item-behind : {src : List ℕ} {done : ℕ} {T : Tables} {s : State} {d : Production} (end : ℕ) (a : Answer) (u : State) → Far src done u T → u .at ≡ s .at → Quiet s a u → Draft src done s d → s .at ≤ end → end ≤ length src → Item src done T end (passOn src false end a u .answer) (passOn src false end a u .state) d
+item-behind : {src : List ℕ} {done : ℕ} {T : AllTables} {s : State} {d : Production} (end : ℕ) (a : Answer) (u : State) → Far src done u T → u .at ≡ s .at → Quiet s a u → Draft src done s d → s .at ≤ end → end ≤ length src → Item src done T end (passOn src false end a u .answer) (passOn src false end a u .state) d
 item-behind {src} end a u f e q x h k =
     let o = pass-onward src end u a k in
     let l = o .forth (omega arith) in
@@ -182,14 +183,14 @@ kind-listed src n t1 from to = go (findName src (width tokens) 0 n t1 from to)
     go NoRow = (omega arith, omega arith)
 
 -- a quoted symbol's rows
-pub record Rowed (src : List ℕ) (done : ℕ) (T : Tables) (s : State) (o : Out2) : Type 0 where
+pub record Rowed (src : List ℕ) (done : ℕ) (T : AllTables) (s : State) (o : Out2) : Type 0 where
   pub held : Held2 src done T tokens symbols s o
   pub quiet : Quiet s (o .answer) (o .state)
 
-symbol-held : {src : List ℕ} {done : ℕ} {s : State} {T : Tables} → Far src done s T → (kind from to : ℕ) → 1 ≤ kind → kind ≤ 2 → Passed src from to → Held src done T symbols s (pushRow s symbols (symbolCells kind from to) (T .t9))
+symbol-held : {src : List ℕ} {done : ℕ} {s : State} {T : AllTables} → Far src done s T → (kind from to : ℕ) → 1 ≤ kind → kind ≤ 2 → Passed src from to → Held src done T symbols s (pushRow s symbols (symbolCells kind from to) (T .t9))
 symbol-held f kind from to l m p = push-held f symbols (omega arith) (λ e. omega arith) (symbolCells kind from to) refl (record { least = l; most = m; name = p }) (λ r l. tt)
 
-pub token-symbol-far : {src : List ℕ} {done : ℕ} {s : State} {T : Tables} → Far src done s T → (from to : ℕ) → Passed src from to → Rowed src done T s (tokenSymbol src s from to (T .t1) (T .t9))
+pub token-symbol-far : {src : List ℕ} {done : ℕ} {s : State} {T : AllTables} → Far src done s T → (from to : ℕ) → Passed src from to → Rowed src done T s (tokenSymbol src s from to (T .t1) (T .t9))
 unfolding tokenSymbol
 token-symbol-far {src} {done} {s} {T} f from to p =
     let q = quiet-enter src s from to false (T .t1) in
@@ -203,7 +204,7 @@ token-symbol-far {src} {done} {s} {T} f from to p =
     go Done o x q h = absurd (h refl)
     go (Refused e) o x q h = record { held = record { far = x .far; stays = x .stays; level = x .level }; quiet = record { rules = q; undone = refused-undone e } }
 
-module _ {src : List ℕ} {done : ℕ} {s : State} {T : Tables} {d : Production} (f : Far src done s T) (x : Draft src done s d) where
+module _ {src : List ℕ} {done : ℕ} {s : State} {T : AllTables} {d : Production} (f : Far src done s T) (x : Draft src done s d) where
   -- a quoted symbol,
   pub quoted-rows-far : (from to end : ℕ) → Passed src from to → s .at ≤ end → end ≤ length src → Item2 src done T end (quotedRows src s d from to end (T .t1) (T .t9))
   unfolding quotedRows
@@ -292,7 +293,7 @@ module _ {src : List ℕ} {done : ℕ} {s : State} {T : Tables} {d : Production}
       go (NoToken k) y = item-refused (s .at + 1) _ f x
 
 -- the steps above from another state, or on a draft that took their part in
-module _ {src : List ℕ} {done : ℕ} {s : State} {T : Tables} {d : Production} (f : Far src done s T) (x : Draft src done s d) where
+module _ {src : List ℕ} {done : ℕ} {s : State} {T : AllTables} {d : Production} (f : Far src done s T) (x : Draft src done s d) where
   -- `%prec`, behind its keyword
   pub prec-far : Item1 src done T tokens (s .at) (precItem src s d (T .t1))
   unfolding precItem
@@ -329,14 +330,14 @@ given-action src NoAction x = inl (refl, refl, refl, refl, refl)
 given-action src (ActionAt a b c d) x = inr (refl, x .0, x .1)
 
 -- A production that joined table 8, or found no room: sound so far, and the ranges end behind the last symbol unless it was refused.
-pub record Joined (src : List ℕ) (T : Tables) (s : State) (o : Out1) : Type 0 where
+pub record Joined (src : List ℕ) (T : AllTables) (s : State) (o : Out1) : Type 0 where
   pub done : ℕ
   pub far : Far src done (o .state) (setTab T productions (o .a))
   pub stays : o .state .at ≡ s .at
   pub rules : count (o .state) rules ≡ count s rules
   pub whole : Taken (o .answer) → done ≡ count (o .state) symbols
 
-pub end-production-far : {src : List ℕ} {done : ℕ} {s : State} {T : Tables} {d : Production} → Far src done s T → Draft src done s d → Joined src T s (endProduction s d (T .t8))
+pub end-production-far : {src : List ℕ} {done : ℕ} {s : State} {T : AllTables} {d : Production} → Far src done s T → Draft src done s d → Joined src T s (endProduction s d (T .t8))
 unfolding endProduction pushProduction pushRow
 end-production-far {src} {done} {s} {T} {d} f x =
     add-cases (λ (o : Added). Joined src T s (pushed (o .ok) s productions row (o .cells))) (count s productions) row (T .t8)
@@ -361,17 +362,17 @@ rule-end-never (Refused e) r = let z : _≡_ {A = ℕ} 0 1 = cc in omega arith
 
 -- An item that ends its production: the ranges end at some `done`, which is behind the last symbol unless it was refused; a next production is a draft. It
 -- stands at `least` or behind it.
-pub record Ended (src : List ℕ) (T : Tables) (least : ℕ) (a : Answer) (s : State) (d : Production) : Type 0 where
+pub record Ended (src : List ℕ) (T : AllTables) (least : ℕ) (a : Answer) (s : State) (d : Production) : Type 0 where
   pub done : ℕ
   pub far : Far src done s T
   pub next : a ≡ Going → Draft src done s d
   pub whole : Taken a → done ≡ count s symbols
   pub forth : least ≤ s .at
 
-abbrev pub Ended1 : List ℕ → Tables → ℕ → Made1 → Type 0
+abbrev pub Ended1 : List ℕ → AllTables → ℕ → Made1 → Type 0
 Ended1 src T least o = Ended src (setTab T productions (o .a)) least (o .answer) (o .state) (o .draft)
 
-module _ {src : List ℕ} {done : ℕ} {s : State} {T : Tables} {d : Production} (f : Far src done s T) (x : Draft src done s d) where
+module _ {src : List ℕ} {done : ℕ} {s : State} {T : AllTables} {d : Production} (f : Far src done s T) (x : Draft src done s d) where
   -- behind a `|`
   pub bar-far : Ended1 src T (s .at) (barItem src s d (T .t8))
   unfolding barItem
@@ -406,14 +407,14 @@ module _ {src : List ℕ} {done : ℕ} {s : State} {T : Tables} {d : Production}
 
 -- Any item: the ranges end at some `done`, behind the last symbol where the rule is done; the production under way is a draft where the reading goes on; and
 -- it stands further on unless it was refused.
-pub record Stepped (src : List ℕ) (T : Tables) (at : ℕ) (a : Answer) (s : State) (d : Production) : Type 0 where
+pub record Stepped (src : List ℕ) (T : AllTables) (at : ℕ) (a : Answer) (s : State) (d : Production) : Type 0 where
   pub done : ℕ
   pub far : Far src done s T
   pub next : a ≡ Going → Draft src done s d
   pub whole : a ≡ Done → done ≡ count s symbols
   pub further : Taken a → at < s .at
 
-module _ {src : List ℕ} {T : Tables} {least : ℕ} {a : Answer} {s : State} {d : Production} (at : ℕ) (h : at < least) where
+module _ {src : List ℕ} {T : AllTables} {least : ℕ} {a : Answer} {s : State} {d : Production} (at : ℕ) (h : at < least) where
   item-stepped : {done : ℕ} → Item src done T least a s d → Stepped src T at a s d
   item-stepped {done} i = record { done = done; far = i .far; next = λ e. i .draft; whole = λ e. absurd (i .undone e); further = λ t. let l = i .beyond (taken-going a t (i .undone)) in omega arith }
 
@@ -421,13 +422,13 @@ module _ {src : List ℕ} {T : Tables} {least : ℕ} {a : Answer} {s : State} {d
   ended-stepped i = record { done = i .done; far = i .far; next = i .next; whole = λ e. i .whole (done-taken a e); further = λ t. let l = i .forth in omega arith }
 
 -- the three tables that a rule's items fill, and the seven others
-abbrev pub filled : Tables → List ℕ → List ℕ → List ℕ → Tables
+abbrev pub filled : AllTables → List ℕ → List ℕ → List ℕ → AllTables
 filled T t1 t8 t9 = setTab (setTab (setTab T tokens t1) productions t8) symbols t9
 
-abbrev pub Steps : List ℕ → Tables → ℕ → Made3 → Type 0
+abbrev pub Steps : List ℕ → AllTables → ℕ → Made3 → Type 0
 Steps src T at o = Stepped src (filled T (o .t1) (o .t8) (o .t9)) at (o .answer) (o .state) (o .draft)
 
-module _ {src : List ℕ} {done : ℕ} {s : State} {d : Production} (T : Tables) (f : Far src done s T) (x : Draft src done s d) where
+module _ {src : List ℕ} {done : ℕ} {s : State} {d : Production} (T : AllTables) (f : Far src done s T) (x : Draft src done s d) where
   by-sort : (k : Sort) (j : ℕ) → s .at ≤ j → j ≤ length src → ((k ≡ BareSort → ⊥) → s .at < j) → Steps src T (s .at) (bySort k src s (withAt s j) d (T .t1) (T .t8) (T .t9))
   by-sort BarSort j h l b = ended-stepped (s .at) (b (λ z. let y : _≡_ {A = ℕ} 0 1 = cc in omega arith)) (bar-far (far-at f j h l) (draft-on x (withAt s j) h refl))
   by-sort EndSort j h l b = ended-stepped (s .at) (b (λ z. let y : _≡_ {A = ℕ} 0 1 = cc in omega arith)) (end-far (far-at f j h l) (draft-on x (withAt s j) h refl))
@@ -443,27 +444,27 @@ module _ {src : List ℕ} {done : ℕ} {s : State} {d : Production} (T : Tables)
   item-far = let y = spots src (s .at) (f .here) in by-sort (sortAt src (s .at) .sort) (sortAt src (s .at) .end) (y .onward) (y .inside) (y .beyond)
 
 -- a rule under way that began at `at`,
-pub record Ongoing (src : List ℕ) (T : Tables) (at : ℕ) (o : Made3) : Type 0 where
+pub record Ongoing (src : List ℕ) (T : AllTables) (at : ℕ) (o : Made3) : Type 0 where
   pub done : ℕ
   pub far : Far src done (o .state) (filled T (o .t1) (o .t8) (o .t9))
   pub draft : Draft src done (o .state) (o .draft)
   pub forth : at ≤ o .state .at
 
 -- with less to go,
-abbrev Onto : List ℕ → Tables → ℕ → Made3 → Made3 → Type 0
+abbrev Onto : List ℕ → AllTables → ℕ → Made3 → Made3 → Type 0
 Onto src T at o p = Ongoing src T at p × (length src - p .state .at < length src - o .state .at)
 
 -- and one whose items are over: where they ended with `;`, the ranges end behind the last symbol, further on in the source
-pub record Over (src : List ℕ) (T : Tables) (at : ℕ) (a : Answer) (s : State) : Type 0 where
+pub record Over (src : List ℕ) (T : AllTables) (at : ℕ) (a : Answer) (s : State) : Type 0 where
   pub done : ℕ
   pub far : Far src done s T
   pub whole : a ≡ Going → done ≡ count s symbols
   pub further : a ≡ Going → at < s .at
 
-abbrev Ends : List ℕ → Tables → ℕ → Made3 → Type 0
+abbrev Ends : List ℕ → AllTables → ℕ → Made3 → Type 0
 Ends src T at o = Over src (filled T (o .t1) (o .t8) (o .t9)) at (o .answer) (o .state)
 
-turn-far : (src : List ℕ) (T : Tables) (at : ℕ) (o : Made3) → Ongoing src T at o → Either (Onto src T at o) (Ends src T at) (itemTurn src o)
+turn-far : (src : List ℕ) (T : AllTables) (at : ℕ) (o : Made3) → Ongoing src T at o → Either (Onto src T at o) (Ends src T at) (itemTurn src o)
 unfolding itemTurn
 turn-far src T at o x = go (leb (length src) (o .state .at))
   where
@@ -482,7 +483,7 @@ turn-far src T at o x = go (leb (length src) (o .state .at))
         next (itemStep src (o .state) (o .draft) (o .t1) (o .t8) (o .t9) .answer) (itemStep src (o .state) (o .draft) (o .t1) (o .t8) (o .t9)) refl (item-far (filled T (o .t1) (o .t8) (o .t9)) (x .far) (x .draft))
 
 -- The items of a rule keep soundness so far, whatever their answer; where the rule ended with `;`, the ranges end behind the last symbol.
-pub items-far : {src : List ℕ} {done : ℕ} {s : State} {d : Production} (T : Tables) → Far src done s T → Draft src done s d → let o = itemList src s d (T .t1) (T .t8) (T .t9) in Over src (filled T (o .t1) (o .t8) (o .t9)) (s .at) (o .answer) (o .state)
+pub items-far : {src : List ℕ} {done : ℕ} {s : State} {d : Production} (T : AllTables) → Far src done s T → Draft src done s d → let o = itemList src s d (T .t1) (T .t8) (T .t9) in Over src (filled T (o .t1) (o .t8) (o .t9)) (s .at) (o .answer) (o .state)
 unfolding itemList
 items-far {src} {done} {s} {d} T f x =
     turns-end (Ongoing src T (s .at)) (Ends src T (s .at)) (λ o. length src - o .state .at) (itemTurn src) (turn-far src T (s .at)) (suc (length src)) _ (omega arith)

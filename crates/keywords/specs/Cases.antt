@@ -6,7 +6,7 @@ use mathlib.Core.List.{List, [], _∷_}
 use Rattle.scan.specs.Scan.{begins, startsAt}
 use Rattle.scan.specs.Table.{Case, same, all}
 use Rattle.keywords.specs.declared.Keyword.{Keyword}
-use Rattle.keywords.specs.declared.Keyword.the-variants.{Percents, TokenWord, ActiontypeWord, StartWord, EppWord, ExpectRrWord, ExpectUnusedWord, ExpectWord, AvoidInsertWord, ParseParamWord, ParseGenericsWord, ImplicitTokensWord, LeftWord, RightWord, NonassocWord, NoKeyword}
+use Rattle.keywords.specs.declared.Keyword.the-variants.{Percents, TokenWord, ActiontypeWord, StartWord, EppWord, ExpectRrWord, ExpectUnusedWord, ExpectWord, AvoidInsertWord, ParseParamWord, ParseGenericsWord, ImplicitTokensWord, LeftWord, RightWord, NonassocWord, PrologueWord, UnionWord, TypeWord, NoKeyword}
 use Rattle.keywords.specs.declared.Seen.{Seen}
 use Rattle.keywords.specs.Keywords.{firstOf, seenAt}
 
@@ -18,7 +18,7 @@ pub record Input : Type 0 where
 unfoldable pub row : List ℕ → ℕ → ℕ → ℕ → ℕ → Case Input
 row src at kind number end = record { input = record { src = src; at = at; kind = kind }; gives = number ∷ end ∷ [] }
 
--- a keyword's position in the list of keywords, from 0 on; 15 for none
+-- a keyword's position in the list of keywords, from 0 on; 18 for none
 unfoldable pub numberOf : Keyword → ℕ
 numberOf Percents = 0
 numberOf TokenWord = 1
@@ -35,7 +35,10 @@ numberOf ImplicitTokensWord = 11
 numberOf LeftWord = 12
 numberOf RightWord = 13
 numberOf NonassocWord = 14
-numberOf NoKeyword = 15
+numberOf PrologueWord = 15
+numberOf UnionWord = 16
+numberOf TypeWord = 17
+numberOf NoKeyword = 18
 
 unfoldable pub answer : Seen → List ℕ
 answer r = numberOf (r .word) ∷ r .end ∷ []
@@ -125,13 +128,13 @@ places =
     -- `ab%nonassoc` at 2, kind 3
     ∷ row (97 ∷ 98 ∷ 37 ∷ 110 ∷ 111 ∷ 110 ∷ 97 ∷ 115 ∷ 115 ∷ 111 ∷ 99 ∷ []) 2 3 14 11
     -- `%actiontype` at 0, kind 2
-    ∷ row (37 ∷ 97 ∷ 99 ∷ 116 ∷ 105 ∷ 111 ∷ 110 ∷ 116 ∷ 121 ∷ 112 ∷ 101 ∷ []) 0 2 15 0
+    ∷ row (37 ∷ 97 ∷ 99 ∷ 116 ∷ 105 ∷ 111 ∷ 110 ∷ 116 ∷ 121 ∷ 112 ∷ 101 ∷ []) 0 2 18 0
     -- `%actiontype` at 0, kind 3
-    ∷ row (37 ∷ 97 ∷ 99 ∷ 116 ∷ 105 ∷ 111 ∷ 110 ∷ 116 ∷ 121 ∷ 112 ∷ 101 ∷ []) 0 3 15 0
+    ∷ row (37 ∷ 97 ∷ 99 ∷ 116 ∷ 105 ∷ 111 ∷ 110 ∷ 116 ∷ 121 ∷ 112 ∷ 101 ∷ []) 0 3 18 0
     -- `%implicit_tokens` at 0, kind 1
-    ∷ row (37 ∷ 105 ∷ 109 ∷ 112 ∷ 108 ∷ 105 ∷ 99 ∷ 105 ∷ 116 ∷ 95 ∷ 116 ∷ 111 ∷ 107 ∷ 101 ∷ 110 ∷ 115 ∷ []) 0 1 15 0
+    ∷ row (37 ∷ 105 ∷ 109 ∷ 112 ∷ 108 ∷ 105 ∷ 99 ∷ 105 ∷ 116 ∷ 95 ∷ 116 ∷ 111 ∷ 107 ∷ 101 ∷ 110 ∷ 115 ∷ []) 0 1 18 0
     -- `%implicit_tokens` at 0, kind 2
-    ∷ row (37 ∷ 105 ∷ 109 ∷ 112 ∷ 108 ∷ 105 ∷ 99 ∷ 105 ∷ 116 ∷ 95 ∷ 116 ∷ 111 ∷ 107 ∷ 101 ∷ 110 ∷ 115 ∷ []) 0 2 15 0
+    ∷ row (37 ∷ 105 ∷ 109 ∷ 112 ∷ 108 ∷ 105 ∷ 99 ∷ 105 ∷ 116 ∷ 95 ∷ 116 ∷ 111 ∷ 107 ∷ 101 ∷ 110 ∷ 115 ∷ []) 0 2 18 0
     -- `%expectx` at 0, kind 1
     ∷ row (37 ∷ 101 ∷ 120 ∷ 112 ∷ 101 ∷ 99 ∷ 116 ∷ 120 ∷ []) 0 1 7 7
     -- `%expect-` at 0, kind 1
@@ -149,29 +152,79 @@ places =
     -- `%%token` at 0, kind 1
     ∷ row (37 ∷ 37 ∷ 116 ∷ 111 ∷ 107 ∷ 101 ∷ 110 ∷ []) 0 1 0 2
     -- `%lef` at 0, kind 1
-    ∷ row (37 ∷ 108 ∷ 101 ∷ 102 ∷ []) 0 1 15 0
+    ∷ row (37 ∷ 108 ∷ 101 ∷ 102 ∷ []) 0 1 18 0
     -- `%Left` at 0, kind 1
-    ∷ row (37 ∷ 76 ∷ 101 ∷ 102 ∷ 116 ∷ []) 0 1 15 0
+    ∷ row (37 ∷ 76 ∷ 101 ∷ 102 ∷ 116 ∷ []) 0 1 18 0
     -- `% left` at 0, kind 1
-    ∷ row (37 ∷ 32 ∷ 108 ∷ 101 ∷ 102 ∷ 116 ∷ []) 0 1 15 0
+    ∷ row (37 ∷ 32 ∷ 108 ∷ 101 ∷ 102 ∷ 116 ∷ []) 0 1 18 0
     -- `%parse-para` at 0, kind 2
-    ∷ row (37 ∷ 112 ∷ 97 ∷ 114 ∷ 115 ∷ 101 ∷ 45 ∷ 112 ∷ 97 ∷ 114 ∷ 97 ∷ []) 0 2 15 0
+    ∷ row (37 ∷ 112 ∷ 97 ∷ 114 ∷ 115 ∷ 101 ∷ 45 ∷ 112 ∷ 97 ∷ 114 ∷ 97 ∷ []) 0 2 18 0
     -- `left` at 0, kind 1
-    ∷ row (108 ∷ 101 ∷ 102 ∷ 116 ∷ []) 0 1 15 0
+    ∷ row (108 ∷ 101 ∷ 102 ∷ 116 ∷ []) 0 1 18 0
     -- `a%left` at 0, kind 1
-    ∷ row (97 ∷ 37 ∷ 108 ∷ 101 ∷ 102 ∷ 116 ∷ []) 0 1 15 0
+    ∷ row (97 ∷ 37 ∷ 108 ∷ 101 ∷ 102 ∷ 116 ∷ []) 0 1 18 0
     -- nothing at 0, kind 1
-    ∷ row [] 0 1 15 0
+    ∷ row [] 0 1 18 0
     -- `%` at 0, kind 1
-    ∷ row (37 ∷ []) 0 1 15 0
+    ∷ row (37 ∷ []) 0 1 18 0
     -- `a%` at 1, kind 3
-    ∷ row (97 ∷ 37 ∷ []) 1 3 15 1
+    ∷ row (97 ∷ 37 ∷ []) 1 3 18 1
     -- `a%%` at 1, kind 1
     ∷ row (97 ∷ 37 ∷ 37 ∷ []) 1 1 0 3
     -- `a%%` at 2, kind 1
-    ∷ row (97 ∷ 37 ∷ 37 ∷ []) 2 1 15 2
+    ∷ row (97 ∷ 37 ∷ 37 ∷ []) 2 1 18 2
     -- `a%%` at 3, kind 2
-    ∷ row (97 ∷ 37 ∷ 37 ∷ []) 3 2 15 3
+    ∷ row (97 ∷ 37 ∷ 37 ∷ []) 3 2 18 3
+    -- `%{` at 0, kind 4
+    ∷ row (37 ∷ 123 ∷ []) 0 4 15 2
+    -- ` %{ a` at 1, kind 4
+    ∷ row (32 ∷ 37 ∷ 123 ∷ 32 ∷ 97 ∷ []) 1 4 15 3
+    -- `ab%{` at 2, kind 4
+    ∷ row (97 ∷ 98 ∷ 37 ∷ 123 ∷ []) 2 4 15 4
+    -- `%union` at 0, kind 4
+    ∷ row (37 ∷ 117 ∷ 110 ∷ 105 ∷ 111 ∷ 110 ∷ []) 0 4 16 6
+    -- ` %union a` at 1, kind 4
+    ∷ row (32 ∷ 37 ∷ 117 ∷ 110 ∷ 105 ∷ 111 ∷ 110 ∷ 32 ∷ 97 ∷ []) 1 4 16 7
+    -- `ab%union` at 2, kind 4
+    ∷ row (97 ∷ 98 ∷ 37 ∷ 117 ∷ 110 ∷ 105 ∷ 111 ∷ 110 ∷ []) 2 4 16 8
+    -- `%type` at 0, kind 4
+    ∷ row (37 ∷ 116 ∷ 121 ∷ 112 ∷ 101 ∷ []) 0 4 17 5
+    -- ` %type a` at 1, kind 4
+    ∷ row (32 ∷ 37 ∷ 116 ∷ 121 ∷ 112 ∷ 101 ∷ 32 ∷ 97 ∷ []) 1 4 17 6
+    -- `ab%type` at 2, kind 4
+    ∷ row (97 ∷ 98 ∷ 37 ∷ 116 ∷ 121 ∷ 112 ∷ 101 ∷ []) 2 4 17 7
+    -- `%{` at 0, kind 1
+    ∷ row (37 ∷ 123 ∷ []) 0 1 18 0
+    -- `%{` at 0, kind 2
+    ∷ row (37 ∷ 123 ∷ []) 0 2 18 0
+    -- `%{` at 0, kind 3
+    ∷ row (37 ∷ 123 ∷ []) 0 3 18 0
+    -- `%union` at 0, kind 1
+    ∷ row (37 ∷ 117 ∷ 110 ∷ 105 ∷ 111 ∷ 110 ∷ []) 0 1 18 0
+    -- `%union` at 0, kind 2
+    ∷ row (37 ∷ 117 ∷ 110 ∷ 105 ∷ 111 ∷ 110 ∷ []) 0 2 18 0
+    -- `%union` at 0, kind 3
+    ∷ row (37 ∷ 117 ∷ 110 ∷ 105 ∷ 111 ∷ 110 ∷ []) 0 3 18 0
+    -- `%type` at 0, kind 1
+    ∷ row (37 ∷ 116 ∷ 121 ∷ 112 ∷ 101 ∷ []) 0 1 18 0
+    -- `%type` at 0, kind 2
+    ∷ row (37 ∷ 116 ∷ 121 ∷ 112 ∷ 101 ∷ []) 0 2 18 0
+    -- `%type` at 0, kind 3
+    ∷ row (37 ∷ 116 ∷ 121 ∷ 112 ∷ 101 ∷ []) 0 3 18 0
+    -- `%actiontype` at 0, kind 4
+    ∷ row (37 ∷ 97 ∷ 99 ∷ 116 ∷ 105 ∷ 111 ∷ 110 ∷ 116 ∷ 121 ∷ 112 ∷ 101 ∷ []) 0 4 2 11
+    -- `ab%actiontype` at 2, kind 4
+    ∷ row (97 ∷ 98 ∷ 37 ∷ 97 ∷ 99 ∷ 116 ∷ 105 ∷ 111 ∷ 110 ∷ 116 ∷ 121 ∷ 112 ∷ 101 ∷ []) 2 4 2 13
+    -- `%implicit_tokens` at 0, kind 4
+    ∷ row (37 ∷ 105 ∷ 109 ∷ 112 ∷ 108 ∷ 105 ∷ 99 ∷ 105 ∷ 116 ∷ 95 ∷ 116 ∷ 111 ∷ 107 ∷ 101 ∷ 110 ∷ 115 ∷ []) 0 4 18 0
+    -- `%token` at 0, kind 4
+    ∷ row (37 ∷ 116 ∷ 111 ∷ 107 ∷ 101 ∷ 110 ∷ []) 0 4 1 6
+    -- `%typex` at 0, kind 4
+    ∷ row (37 ∷ 116 ∷ 121 ∷ 112 ∷ 101 ∷ 120 ∷ []) 0 4 17 5
+    -- `%unio` at 0, kind 4
+    ∷ row (37 ∷ 117 ∷ 110 ∷ 105 ∷ 111 ∷ []) 0 4 18 0
+    -- `%{%}` at 0, kind 4
+    ∷ row (37 ∷ 123 ∷ 37 ∷ 125 ∷ []) 0 4 15 2
     ∷ []
 
 pub places-hold : all (λ x. answer (seenAt (x .kind) (x .src) (x .at))) places ≡ true

@@ -20,6 +20,9 @@ pub enum Keyword {
     LeftWord,
     RightWord,
     NonassocWord,
+    PrologueWord,
+    UnionWord,
+    TypeWord,
     NoKeyword,
 }
 
@@ -35,7 +38,7 @@ pub fn at_end(word: Keyword, end: usize) -> Seen
     Seen { word, end }
 }
 
-// The first keyword, in the order of the source document, that stands here and that the kind knows.
+// The first keyword, in the order of the source document and kind 4's own three last, that stands here and that the kind knows.
 pub fn look(src: &[u8], at: usize, kind: u32) -> Seen
     requires { ⌜ at ≤ length (now src) ⌝ }
     ensures is { λ r. ⌜ r ≡ seenAt kind (now (src .entry)) at ⌝ }
@@ -47,7 +50,7 @@ pub fn look(src: &[u8], at: usize, kind: u32) -> Seen
     if scan::starts(src, at, b"%token") {
         return at_end(Keyword::TokenWord, at + 6);
     }
-    if (kind == 1) & scan::starts(src, at, b"%actiontype") {
+    if ((kind == 1) | (kind == 4)) & scan::starts(src, at, b"%actiontype") {
         return at_end(Keyword::ActiontypeWord, at + 11);
     }
     if scan::starts(src, at, b"%start") {
@@ -85,6 +88,15 @@ pub fn look(src: &[u8], at: usize, kind: u32) -> Seen
     }
     if scan::starts(src, at, b"%nonassoc") {
         return at_end(Keyword::NonassocWord, at + 9);
+    }
+    if (kind == 4) & scan::starts(src, at, b"%{") {
+        return at_end(Keyword::PrologueWord, at + 2);
+    }
+    if (kind == 4) & scan::starts(src, at, b"%union") {
+        return at_end(Keyword::UnionWord, at + 6);
+    }
+    if (kind == 4) & scan::starts(src, at, b"%type") {
+        return at_end(Keyword::TypeWord, at + 5);
     }
     at_end(Keyword::NoKeyword, at)
 }

@@ -3,6 +3,7 @@
 use Prim.Native.Nat.{ℕ, suc, _+_, _≤_, _<_}
 use mathlib.Core.Path.{_≡_, refl, sym, ap, _∙_}
 use mathlib.Core.List.{List, [], _∷_}
+use mathlib.Core.Option.{none}
 use mathlib.Core.Bool.{Bool, true, false}
 use native.Mathlib.Omega.{arith}
 use lib.Dec.{leb}
@@ -20,6 +21,7 @@ use Rattle.words.specs.declared.Token.the-variants.{Found, NoToken}
 use Rattle.words.specs.Words.{tokenAt}
 use Rattle.tables.specs.Layout.{tokens, declared, avoided, repeats, width}
 use Rattle.grammar.specs.declared.State.{State}
+use Rattle.grammar.specs.declared.Part.the-variants.{Absent}
 use Rattle.grammar.specs.declared.Answer.{Answer}
 use Rattle.grammar.specs.declared.Answer.the-variants.{Going, Done, Refused}
 use Rattle.grammar.specs.declared.Refusal.{Refusal}
@@ -28,10 +30,11 @@ use Rattle.grammar.specs.declared.Gap.{Gap}
 use Rattle.grammar.specs.declared.Gap.the-variants.{GapTo, GapRefused}
 use Rattle.grammar.specs.Cells.{nameCells}
 use Rattle.grammar.specs.State.{Out0, Out1, Out2, Out3, Passed, count, withAt, gapOf, gapAt, enterStep, onceStep, passOn, tied3, first2}
-use Rattle.lines.specs.Line.{LineWord, Line, last, word, LineAt}
+use Rattle.lines.specs.Line.{LineWord, Alone, alone, Line, closed, word, untagged, NameLine}
 use Rattle.lines.specs.Grown.{Grown, Has, Written, NameTable, third, fourth, undeclared, tokenRow, nameRow}
 use Rattle.lines.specs.Avoided.{avoidEntered, avoidNamed, avoidFound, avoidItem, avoidEnd, avoidTurn, avoidList, avoidFrom, avoidDecl}
-use Rattle.lines.proofs.Line.{word-placed, gap-placed, line-at-one}
+use Rattle.lines.proofs.Worded.{word-placed, alone-words, untagged-leads}
+use Rattle.lines.proofs.Line.{gap-placed, line-at-one}
 use Rattle.lines.proofs.Grown.{grown-none, grown-then, grown-map, grown-as, has-on, written-none, written-more, Noted, once-noted, enter-noted, past-cases, Stands, before, Nears, turns-run}
 
 -- What a step leaves of table 1 and table k, whatever its answer: rows before stay, a new token is undeclared, and a new row of table k names a token of table 1.
@@ -92,7 +95,7 @@ module _ (src : List ℕ) (k : ℕ) (nt : NameTable k) (s : State) (what : Repea
   item-cases C f g h = go (tokenAt src (s .at)) refl
     where
       behind : (p : Place) (end : ℕ) (quoted : Bool) → tokenAt src (s .at) ≡ Found p end quoted → (v : Out1) → Entered src s t1 t p v → v .answer ≡ Going → (o : Out2) → Given src k t p v o → (a : Answer) → o .answer ≡ a → C (tied3 (passOn src true end a (o .state)) (v .a) (o .a) (o .b))
-      behind p end quoted e v x q o y Going z = past-cases (λ (w : Out0). C (tied3 w (v .a) (o .a) (o .b))) src end (o .state) (s .kind) (y .kind ∙ x .kind) (λ i c. f p end quoted i v o e c x q y z) (λ i n c d. g p end quoted i n v o e c d x q y z) (λ r. h r (o .state) (v .a) (o .a) (o .b) (given-kept src k nt s t1 t p v x q o y))
+      behind p end quoted e v x q o y Going z = past-cases (λ (w : Out0). C (tied3 w (v .a) (o .a) (o .b))) src end (o .state) (s .kind) (y .kind ∙ x .kind) (λ i c. f p end quoted i v o e c x q y z) (λ i n c d. g p end quoted i n v o e c d x q y z) (λ r none. h r (o .state) (v .a) (o .a) (o .b) (given-kept src k nt s t1 t p v x q o y))
       behind p end quoted e v x q o y Done z = absurd (y .undone z)
       behind p end quoted e v x q o y (Refused r) z = h r (o .state) (v .a) (o .a) (o .b) (given-kept src k nt s t1 t p v x q o y)
 
@@ -138,7 +141,7 @@ pub record Read (src : List ℕ) (k : ℕ) (o e : Out3) : Type 0 where
   pub words : List LineWord
   pub counted : ℕ
   pub some : 0 < counted
-  pub line : Line (o .state .kind) src (o .state .at) (e .state .at) counted words
+  pub line : Line (o .state .kind) (Alone src) src 0 (o .state .at) (e .state .at) counted words
   pub entered : Written src tokenRow (width tokens) words (count (o .state) tokens) (o .a) (count (e .state) tokens) (e .a)
   pub named : Written src nameRow (width avoided) words (count (o .state) k) (o .b) (count (e .state) k) (e .b)
 
@@ -155,7 +158,7 @@ module _ (src : List ℕ) (k : ℕ) (nt : NameTable k) (what : Repeat) where
   -- a word more: its rows, and those of the words behind it
   module _ (o : Out3) (p : Place) (end : ℕ) (quoted : Bool) (i : ℕ) (v : Out1) (u : Out2) (e : tokenAt src (o .state .at) ≡ Found p end quoted) (x : Entered src (o .state) (o .a) (o .b) p v) (g : v .answer ≡ Going) (y : Given src k (o .b) p v u) (h : u .answer ≡ Going) where
     abbrev here : LineWord
-    here = record { place = p; end = end }
+    here = record { place = p; number = none; end = end }
 
     abbrev behind : Out3
     behind = record { answer = Going; state = withAt (u .state) i; a = v .a; b = u .a; c = u .b }
@@ -187,13 +190,13 @@ module _ (src : List ℕ) (k : ℕ) (nt : NameTable k) (what : Repeat) where
               words = here ∷ r .words;
               counted = r .counted;
               some = r .some;
-              line = word e c (told (λ (k : ℕ). Line k src i (z .state .at) (r .counted) (r .words)) (y .kind ∙ x .kind) (r .line));
+              line = word (alone e) c (told (λ (k : ℕ). Line k (Alone src) src 0 i (z .state .at) (r .counted) (r .words)) (y .kind ∙ x .kind) (r .line));
               entered = written-more here (r .words) first-row first-one first-has (r .entered);
               named = written-more here (r .words) own-row own-one (y .has h) (r .named);
             }
 
     done : (n : ℕ) → spacesAt (o .state .kind) true src end ≡ To i n → 0 < n → Read src k o behind
-    done n c d = record { words = here ∷ []; counted = n; some = d; line = last e c d; entered = written-more here [] first-row first-one first-has written-none; named = written-more here [] own-row own-one (y .has h) written-none }
+    done n c d = record { words = here ∷ []; counted = n; some = d; line = word (alone e) c (closed d); entered = written-more here [] first-row first-one first-has written-none; named = written-more here [] own-row own-one (y .has h) written-none }
 
   turn-reads : (o : Out3) → At o → Nears At left Reads o (avoidTurn src k what o)
   unfolding avoidTurn
@@ -238,18 +241,18 @@ module _ (src : List ℕ) (k : ℕ) (nt : NameTable k) (what : Repeat) (s : Stat
         go (OpenComment i) e x v = let z : _≡_ {A = ℕ} 0 1 = cc in absurd (omega arith)
 
     -- the list stands in the source, from behind the keyword to the position that it answers,
-    pub avoid-words : LineAt (s .kind) src (s .at) (after .state .at)
-    avoid-words = let r = whole .read in record { start = whole .start; ends = whole .ends; gap = whole .gap; words = r .words; counted = r .counted; line = r .line }
+    pub avoid-words : NameLine (s .kind) src (s .at) (after .state .at)
+    avoid-words = let r = whole .read in record { start = whole .start; ends = whole .ends; gap = whole .gap; head = whole .start; passed = 0; tag = Absent; lead = untagged; words = r .words; counted = r .counted; line = r .line }
 
-    module _ {j : ℕ} (l : LineAt (s .kind) src (s .at) j) where
+    module _ {j : ℕ} (l : NameLine (s .kind) src (s .at) j) where
       same-words : whole .read .words ≡ l .words
       unfolding avoid-words
-      same-words = line-at-one (s .kind) src avoid-words l .2
+      same-words = line-at-one (s .kind) src (alone-words src) (untagged-leads src) avoid-words l .2
 
       -- and a line end is counted behind its last word: such a list does not end at the source's end.
       pub avoid-counted : 0 < l .counted
       unfolding avoid-words
-      avoid-counted = told (λ (n : ℕ). 0 < n) (line-at-one (s .kind) src avoid-words l .1) (whole .read .some)
+      avoid-counted = told (λ (n : ℕ). 0 < n) (line-at-one (s .kind) src (alone-words src) (untagged-leads src) avoid-words l .1) (whole .read .some)
 
       -- Each of its words has a row in table 1, and the new ones are those of words, undeclared;
       pub avoid-entered : Written src tokenRow (width tokens) (l .words) (count s tokens) t1 (count (after .state) tokens) (after .a)

@@ -1,25 +1,22 @@
 -- What is given once to a name, exactly: which rows a step adds, where it finds room, and how steps follow one another. Assumes nothing.
 use Prim.Native.Nat.{ℕ, zero, suc, _+_, _*_, _-_, _≤_, _<_}
 use mathlib.Core.Path.{_≡_, refl, sym, ap, _∙_}
-use mathlib.Core.List.{List, [], _∷_, _++_, map, map-append, append-assoc, append-nil, List·Memᴰ, List·Memᴰ·head, Memᴰ·append-left, Memᴰ·append-right, Memᴰ·map}
+use mathlib.Core.List.{List, [], _∷_, _++_, map, map-append, List·Memᴰ, List·Memᴰ·head, Memᴰ·append-left, Memᴰ·append-right, Memᴰ·map}
 use mathlib.Core.Option.{Option, none, some}
 use mathlib.Core.Bool.{Bool, true, false, false≢true}
 use mathlib.Core.Logic.{_↔_, inl, inr}
 use native.Mathlib.Omega.{arith}
-use native.Mathlib.Numerals.{add-one}
 use native.Mathlib.Decide.{decLt}
 use native.Mathlib.Nat.{suc-mul}
-use lib.ListN.{length, getD, length-append, length-map, length-set}
-use lib.Seq.{getD-set-same, getD-set-other}
+use lib.ListN.{length, getD, length-append, length-map}
 use Rattle.scan.specs.declared.Place.{Place}
 use Rattle.scan.proofs.Bytes.{told}
 use Rattle.tables.specs.declared.Found.{Found}
 use Rattle.tables.specs.declared.Found.the-variants.{RowAt}
-use Rattle.tables.specs.Table.{Added, Inserted, put, cell, room, hasName}
+use Rattle.tables.specs.Table.{Added, Inserted, cell, room, hasName}
 use Rattle.tables.specs.Rows.{rowAt, rowsOf}
 use Rattle.tables.specs.Layout.{tokens, repeats, rowPlace, width}
-use Rattle.tables.proofs.Laws.{put-length}
-use Rattle.tables.proofs.Rows.{row-below, row-cell, rows-of-add}
+use Rattle.tables.proofs.Rows.{row-below, row-cell}
 use Rattle.tables.proofs.Cases.{add-cases, find-cases, enter-cases, room-iff}
 use Rattle.grammar.specs.declared.State.{State}
 use Rattle.grammar.specs.declared.Repeat.{Repeat}
@@ -28,39 +25,21 @@ use Rattle.grammar.specs.declared.Refusal.{Refusal}
 use Rattle.grammar.specs.Cells.{tokenCells, repeatCells}
 use Rattle.grammar.specs.Refusals.{numberOfRepeat}
 use Rattle.grammar.specs.State.{Out1, Out2, entered, enterStep, count, withAt, withCount, pushed, pushRow, listRepeat, first2, second2, onceFound, onceStep}
-use Rattle.lines.specs.Met.{alike, namesake, firstMet, RepeatPlaces, metAgain, placeIn, placesOf, repeatRow, Appended, FreeRows, OnceFree, OnceGiven, OnceTables, Still}
+use Rattle.grammar.proofs.Counting.{with-ten, with-three, same-low, count-other}
+use Rattle.marks.specs.Appended.{Appended, FreeRows}
+use Rattle.marks.proofs.Appended.{appended-none, appended-then, appended-add, free-as, free-split, free-behind, free-here}
+use Rattle.lines.specs.Met.{alike, namesake, firstMet, RepeatPlaces, metAgain, placeIn, placesOf, repeatRow, OnceFree, OnceGiven, OnceTables, Still}
 use Rattle.lines.specs.Grown.{tokenRow}
 use Rattle.lines.proofs.Names.{namesake-none, in-first, in-second, first-same, again-same, met-append, again-append, same-met}
 
--- rows are added to a table, then more
+-- room for rows, and then for more
 module _ {w n : ℕ} {t : List ℕ} where
-  pub appended-none : Appended w n t [] n t
-  appended-none = record { counted = omega arith; rows = rw append-nil; size = refl }
-
-  pub appended-then : {m l : ℕ} {u v : List ℕ} {x y : List (List ℕ)} → Appended w n t x m u → Appended w m u y l v → Appended w n t (x ++ y) l v
-  appended-then {x = x} {y = y} a b =
-      let c = a .counted in
-      let d = b .counted in
-      record { counted = rw length-append (omega arith); rows = b .rows ∙ rw (a .rows) (append-assoc (rowsOf w n t) x y); size = b .size ∙ a .size }
-
-pub appended-add : (n : ℕ) (row t : List ℕ) → n * length row + length row ≤ length t → Appended (length row) n t (row ∷ []) (n + 1) (put t (n * length row) row)
-appended-add n row t h = record { counted = refl; rows = rw (add-one n) (rows-of-add (length row) n row t refl h); size = put-length row t (n * length row) }
-
--- room depends on how large a table is
-module _ {w n : ℕ} {t : List ℕ} where
-  free-as : {m i : ℕ} {u : List ℕ} → length u ≡ length t → n ≡ i → FreeRows w i u m → FreeRows w n t m
-  unfolding room
-  free-as e q f = record { each = λ r h. rw (q, ← e, room) (f .each r h) }
-
   pub free-then : {m l : ℕ} → FreeRows w n t m → FreeRows w (n + m) t l → FreeRows w n t (m + l)
   free-then {m} {l} f g = record { each = λ r h. go r h (decLt r m) }
     where
       go : (r : ℕ) → r < m + l → Dec (r < m) → room w (n + r) t ≡ true
       go r h (yes k) = f .each r k
       go r h (no k) = let e : n + m + (r - m) ≡ n + r = omega arith in rw e at (g .each (r - m) (omega arith))
-
-  pub free-split : {m l : ℕ} → FreeRows w n t (m + l) → FreeRows w n t m × FreeRows w (n + m) t l
-  free-split {m} {l} f = (record { each = λ r h. f .each r (omega arith) }, record { each = λ r h. let e : n + (m + r) ≡ n + m + r = omega arith in rw e at (f .each (m + r) (omega arith)) })
 
 -- room for no row, and for one
 pub free-none : {w n : ℕ} {t : List ℕ} → FreeRows w n t 0
@@ -70,7 +49,19 @@ pub free-one : {w n : ℕ} {t : List ℕ} → 0 < w → n * w + w ≤ length t �
 free-one {w} {n} {t} p h k = record { each = λ r l. let e : n + r ≡ n = omega arith in rw e (room-iff w n t p .1 (h, k)) }
 
 pub full-one : {w n : ℕ} {t : List ℕ} → room w n t ≡ false → FreeRows w n t 1 → ⊥
-full-one {w} {n} {t} e f = let z : n + 0 ≡ n = omega arith in false≢true (sym e ∙ (rw z at (f .each 0 (omega arith))))
+full-one e f = false≢true (sym e ∙ free-here (omega arith) f)
+
+-- rows that are added one part after the other: room for all of them is room for the first, and then for the others
+module _ {w n : ℕ} {t : List ℕ} (x y : List (List ℕ)) where
+  pub part-first : FreeRows w n t (length (x ++ y)) → FreeRows w n t (length x)
+  part-first f = free-split (rw length-append at f) .0
+
+  module _ {m : ℕ} {u : List ℕ} (a : Appended w n t x m u) where
+    pub part-rest : FreeRows w n t (length (x ++ y)) → FreeRows w m u (length y)
+    part-rest f = free-behind a (length-append x y) f
+
+    pub part-both : FreeRows w n t (length x) → FreeRows w m u (length y) → FreeRows w n t (length (x ++ y))
+    part-both f g = rw length-append (free-then f (free-as (a .size) (sym (a .counted)) g))
 
 -- in a table that holds its rows, room for more is cells and counts for all
 pub free-iff : (w n m : ℕ) (t : List ℕ) → 0 < w → n * w ≤ length t → n ≤ 4294967295 → FreeRows w n t m ↔ (((n + m) * w ≤ length t) × (n + m ≤ 4294967295))
@@ -190,22 +181,34 @@ module _ {P : ℕ → Type 0} {s u : State} (x : Still P s u) where
         at = y .at ∙ x .at;
         level = y .level ∙ x .level;
         ten = y .ten ∙ x .ten;
+        three = y .three ∙ x .three;
         others = λ k h. y .others k h ∙ x .others k h;
         singles = y .singles ∙ x .singles;
         actiontype = y .actiontype ∙ x .actiontype;
       }
 
   pub still-map : {Q : ℕ → Type 0} → ((k : ℕ) → P k → Q k) → Still Q s u
-  still-map f = record { kind = x .kind; at = x .at; level = x .level; ten = x .ten; others = λ k h. x .others k (λ p. h (f k p)); singles = x .singles; actiontype = x .actiontype }
+  still-map f = record { kind = x .kind; at = x .at; level = x .level; ten = x .ten; three = x .three; others = λ k h. x .others k (λ p. h (f k p)); singles = x .singles; actiontype = x .actiontype }
 
   pub still-at : (i : ℕ) → Still P (withAt s i) (withAt u i)
-  still-at i = record { kind = x .kind; at = refl; level = x .level; ten = x .ten; others = x .others; singles = x .singles; actiontype = x .actiontype }
+  still-at i = record { kind = x .kind; at = refl; level = x .level; ten = x .ten; three = x .three; others = x .others; singles = x .singles; actiontype = x .actiontype }
 
 pub still-none : {P : ℕ → Type 0} {s : State} → Still P s s
-still-none = record { kind = refl; at = refl; level = refl; ten = refl; others = λ k h. refl; singles = refl; actiontype = refl }
+still-none = record { kind = refl; at = refl; level = refl; ten = refl; three = refl; others = λ k h. refl; singles = refl; actiontype = refl }
 
 pub still-count : {P : ℕ → Type 0} (s : State) (k n : ℕ) → P k → Still P s (withCount s k n)
-still-count s k n p = record { kind = refl; at = refl; level = refl; ten = length-set (s .counts .n) k n; others = λ j h. getD-set-other (s .counts .n) k j n 0 (λ e. h (rw e p)); singles = refl; actiontype = refl }
+still-count s k n p = record { kind = refl; at = refl; level = refl; ten = with-ten s k n; three = with-three s k n; others = λ j h. count-other s k n j (λ e. h (rw e p)); singles = refl; actiontype = refl }
+
+-- One row: it is added where there is room.
+pub push-cases : (s : State) (k : ℕ) (row t : List ℕ) → 0 < length row → (C : Out1 → Type 0)
+    → ((u : State) (a : List ℕ) → FreeRows (length row) (count s k) t 1 → (count (withCount s k (count s k + 1)) k ≡ count s k + 1 → Appended (length row) (count s k) t (row ∷ []) (count u k) a) → Still (λ (j : ℕ). j ≡ k) s u → C (record { answer = Going; state = u; a = a }))
+    → ((f : Refusal) → (FreeRows (length row) (count s k) t 1 → ⊥) → C (record { answer = Refused f; state = s; a = t }))
+    → C (pushRow s k row t)
+unfolding pushRow
+push-cases s k row t wide C f g =
+    add-cases (λ (o : Added). C (pushed (o .ok) s k row (o .cells))) (count s k) row t
+    (λ fits few. f (withCount s k (count s k + 1)) _ (free-one wide fits few) (λ same. rw same (appended-add (count s k) row t fits)) (still-count s k (count s k + 1) refl))
+    (λ full. g _ (full-one full))
 
 -- One place: its row is added where it is met first, or else it is listed as a repeat of the first, where there is room.
 module _ (src : List ℕ) (s : State) (ten : length (s .counts .n) ≡ 10) (k : ℕ) (low : k < repeats) (first : rowPlace k ≡ 0) (cells : Place → List ℕ) (own : (p : Place) → placeIn (cells p) ≡ p) (p : Place) (wide : 1 < length (cells p)) (what : Repeat) (t t10 : List ℕ) where
@@ -216,10 +219,10 @@ module _ (src : List ℕ) (s : State) (ten : length (s .counts .n) ≡ 10) (k : 
   old = placesOf w (count s k) t
 
   same : (j n : ℕ) → j < 10 → count (withCount s j n) j ≡ n
-  same j n h = getD-set-same (s .counts .n) j n 0 (rw ten h)
+  same j n h = same-low s j n h (rw ten h)
 
   other : (j i n : ℕ) → (i ≡ j → ⊥) → count (withCount s j n) i ≡ count s i
-  other j i n h = getD-set-other (s .counts .n) j i n 0 h
+  other j i n h = count-other s j n i h
 
   from-is : getD (cells p) 0 0 ≡ p .from
   from-is = ap (λ (q : Place). q .from) (own p)
@@ -268,7 +271,7 @@ module _ (src : List ℕ) (s : State) (ten : length (s .counts .n) ≡ 10) (p : 
   listed = placesOf (width tokens) (count s tokens) t
 
   now : (n : ℕ) → count (withCount s tokens n) tokens ≡ n
-  now n = getD-set-same (s .counts .n) tokens n 0 (rw ten (omega arith))
+  now n = same-low s tokens n (omega arith) (rw ten (omega arith))
 
   pub undeclared-cases : (C : Out1 → Type 0)
       → ((u : State) (a : List ℕ) → FreeRows (width tokens) (count s tokens) t (length (firstMet src listed (p ∷ []))) → Appended (width tokens) (count s tokens) t (map tokenRow (firstMet src listed (p ∷ []))) (count u tokens) a → Still (λ (j : ℕ). j ≡ tokens) s u → C (record { answer = Going; state = u; a = a }))

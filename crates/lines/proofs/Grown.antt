@@ -7,8 +7,7 @@ use mathlib.Core.Bool.{true, false}
 use mathlib.Core.Logic.{inl, inr}
 use native.Mathlib.Omega.{arith}
 use native.Mathlib.Decide.{decLt}
-use lib.ListN.{length, getD, length-set}
-use lib.Seq.{getD-set-same, getD-set-other}
+use lib.ListN.{length, getD}
 use borrow.Author.Tests.{ne-eqb}
 use Rattle.scan.specs.declared.Place.{Place}
 use Rattle.scan.specs.Loop.{Turn, more, stop, turns}
@@ -28,6 +27,7 @@ use Rattle.grammar.specs.declared.Repeat.{Repeat}
 use Rattle.grammar.specs.Cells.{tokenCells, repeatCells}
 use Rattle.grammar.specs.Refusals.{numberOfRepeat}
 use Rattle.grammar.specs.State.{Out0, Out2, Passed, count, withAt, withCount, gapOf, gapAt, pushed, pushRow, listRepeat, entered, enterStep, first2, second2, onceFound, onceStep, past, pastGap}
+use Rattle.grammar.proofs.Counting.{with-ten, same-low, count-other}
 use Rattle.lines.specs.Line.{LineWord, In}
 use Rattle.lines.specs.Grown.{Grown, Has, InOrder, Written}
 
@@ -119,11 +119,11 @@ module _ (src : List ℕ) (s : State) (ten : length (s .counts .n) ≡ 10) (k : 
     unfolding pushRow
     push-noted t10 =
         add-cases (λ (o : Added). Noted src k row a b s t (first2 (pushed (o .ok) s k row (o .cells)) t10)) (count s k) row t
-        (λ room less. record { stays = refl; level = refl; kind = refl; ten = length-set (s .counts .n) k (count s k + 1) ∙ ten; others = λ j c d. getD-set-other (s .counts .n) k j (count s k + 1) 0 c; rows = grown-as refl (sym more) (grown-add (count s k) row t room); one = rw more (omega arith); undone = λ e. differ e; has = λ e. new-row (rw more (omega arith)) (grown-as refl (sym more) (grown-add (count s k) row t room)) })
+        (λ room less. record { stays = refl; level = refl; kind = refl; ten = with-ten s k (count s k + 1) ∙ ten; others = λ j c d. count-other s k (count s k + 1) j c; rows = grown-as refl (sym more) (grown-add (count s k) row t room); one = rw more (omega arith); undone = λ e. differ e; has = λ e. new-row (rw more (omega arith)) (grown-as refl (sym more) (grown-add (count s k) row t room)) })
         (λ full. record { stays = refl; level = refl; kind = refl; ten = ten; others = λ j c d. refl; rows = grown-none; one = omega arith; undone = λ e. let z : _≡_ {A = ℕ} 0 1 = cc in omega arith; has = λ e. let z : _≡_ {A = ℕ} 0 1 = cc in absurd (omega arith) })
       where
         more : count (withCount s k (count s k + 1)) k ≡ count s k + 1
-        more = getD-set-same (s .counts .n) k (count s k + 1) 0 (rw ten (omega arith))
+        more = same-low s k (count s k + 1) (omega arith) (rw ten (omega arith))
 
         differ : Going ≡ Done → ⊥
         differ e = let z : _≡_ {A = ℕ} 0 1 = cc in omega arith
@@ -132,11 +132,11 @@ module _ (src : List ℕ) (s : State) (ten : length (s .counts .n) ≡ 10) (k : 
     unfolding listRepeat pushRow
     repeat-noted what c d e f t10 h =
         add-cases (λ (o : Added). Noted src k row a b s t (second2 t (pushed (o .ok) s repeats (repeatCells (numberOfRepeat what) c d e f) (o .cells)))) (count s repeats) (repeatCells (numberOfRepeat what) c d e f) t10
-        (λ room less. record { stays = refl; level = refl; kind = refl; ten = length-set (s .counts .n) repeats (count s repeats + 1) ∙ ten; others = λ j c d. other j d; rows = grown-as refl (sym (other k (λ e. omega arith))) grown-none; one = rw (other k (λ e. omega arith)) (omega arith); undone = λ e. let z : _≡_ {A = ℕ} 0 1 = cc in omega arith; has = λ e. rw (other k (λ e. omega arith)) h })
+        (λ room less. record { stays = refl; level = refl; kind = refl; ten = with-ten s repeats (count s repeats + 1) ∙ ten; others = λ j c d. other j d; rows = grown-as refl (sym (other k (λ e. omega arith))) grown-none; one = rw (other k (λ e. omega arith)) (omega arith); undone = λ e. let z : _≡_ {A = ℕ} 0 1 = cc in omega arith; has = λ e. rw (other k (λ e. omega arith)) h })
         (λ full. record { stays = refl; level = refl; kind = refl; ten = ten; others = λ j c d. refl; rows = grown-none; one = omega arith; undone = λ e. let z : _≡_ {A = ℕ} 0 1 = cc in omega arith; has = λ e. let z : _≡_ {A = ℕ} 0 1 = cc in absurd (omega arith) })
       where
         other : (j : ℕ) → (j ≡ repeats → ⊥) → count (withCount s repeats (count s repeats + 1)) j ≡ count s j
-        other j d = getD-set-other (s .counts .n) repeats j (count s repeats + 1) 0 d
+        other j d = count-other s repeats (count s repeats + 1) j d
 
     -- what is given once to a name
     pub once-noted : (what : Repeat) (t10 : List ℕ) → Noted src k row a b s t (onceStep src s k (length row) 0 what row t t10)
@@ -151,21 +151,21 @@ pub enter-noted : (src : List ℕ) (s : State) → length (s .counts .n) ≡ 10 
 unfolding enterStep
 enter-noted src s ten a b t t′ p =
     enter-cases (λ (o : Inserted). Noted src tokens (tokenCells a b 0) a b s t (first2 (entered (o .entered) s (tokenCells a b 0) (o .cells)) t′)) src (count s tokens) a b false t
-    (λ r l e. record { stays = refl; level = refl; kind = refl; ten = length-set (s .counts .n) tokens (count s tokens) ∙ ten; others = λ j c d. other (count s tokens) j c; rows = grown-as refl (sym (same (count s tokens))) grown-none; one = rw (same (count s tokens)) (omega arith); undone = λ e. let z : _≡_ {A = ℕ} 0 1 = cc in omega arith; has = λ e′. rw (same (count s tokens)) (found-row src s ten tokens (omega arith) (tokenCells a b 0) a b (omega arith) t r l e) })
-    (λ none room low. record { stays = refl; level = refl; kind = refl; ten = length-set (s .counts .n) tokens (count s tokens + 1) ∙ ten; others = λ j c d. other (count s tokens + 1) j c; rows = grown-as refl (sym (same (count s tokens + 1))) (grown-add (count s tokens) (tokenCells a b 0) t room); one = rw (same (count s tokens + 1)) (omega arith); undone = λ e. let z : _≡_ {A = ℕ} 0 1 = cc in omega arith; has = λ e. rw (same (count s tokens + 1)) (new-row src s ten tokens (omega arith) (tokenCells a b 0) a b (omega arith) t p refl refl (omega arith) (grown-add (count s tokens) (tokenCells a b 0) t room)) })
+    (λ r l e. record { stays = refl; level = refl; kind = refl; ten = with-ten s tokens (count s tokens) ∙ ten; others = λ j c d. other (count s tokens) j c; rows = grown-as refl (sym (same (count s tokens))) grown-none; one = rw (same (count s tokens)) (omega arith); undone = λ e. let z : _≡_ {A = ℕ} 0 1 = cc in omega arith; has = λ e′. rw (same (count s tokens)) (found-row src s ten tokens (omega arith) (tokenCells a b 0) a b (omega arith) t r l e) })
+    (λ none room low. record { stays = refl; level = refl; kind = refl; ten = with-ten s tokens (count s tokens + 1) ∙ ten; others = λ j c d. other (count s tokens + 1) j c; rows = grown-as refl (sym (same (count s tokens + 1))) (grown-add (count s tokens) (tokenCells a b 0) t room); one = rw (same (count s tokens + 1)) (omega arith); undone = λ e. let z : _≡_ {A = ℕ} 0 1 = cc in omega arith; has = λ e. rw (same (count s tokens + 1)) (new-row src s ten tokens (omega arith) (tokenCells a b 0) a b (omega arith) t p refl refl (omega arith) (grown-add (count s tokens) (tokenCells a b 0) t room)) })
     (λ none full. record { stays = refl; level = refl; kind = refl; ten = ten; others = λ j c d. refl; rows = grown-none; one = omega arith; undone = λ e. let z : _≡_ {A = ℕ} 0 1 = cc in omega arith; has = λ e. let z : _≡_ {A = ℕ} 0 1 = cc in absurd (omega arith) })
   where
     other : (m j : ℕ) → (j ≡ tokens → ⊥) → count (withCount s tokens m) j ≡ count s j
-    other m j c = getD-set-other (s .counts .n) tokens j m 0 c
+    other m j c = count-other s tokens m j c
 
     same : (m : ℕ) → count (withCount s tokens m) tokens ≡ m
-    same m = getD-set-same (s .counts .n) tokens m 0 (rw ten (omega arith))
+    same m = same-low s tokens m (omega arith) (rw ten (omega arith))
 
 -- spacing behind an item: no line end is counted, or some are
-pub past-cases : (C : Out0 → Type 0) (src : List ℕ) (j : ℕ) (u : State) (kind : ℕ) → u .kind ≡ kind
+pub past-cases {κ} : (C : Out0 → Type κ) (src : List ℕ) (j : ℕ) (u : State) (kind : ℕ) → u .kind ≡ kind
     → ((i : ℕ) → spacesAt kind true src j ≡ To i 0 → C (record { answer = Going; state = withAt u i }))
     → ((i n : ℕ) → spacesAt kind true src j ≡ To i n → 0 < n → C (record { answer = Done; state = withAt u i }))
-    → ((f : Refusal) → C (record { answer = Refused f; state = u }))
+    → ((f : Refusal) → ((i n : ℕ) → spacesAt kind true src j ≡ To i n → ⊥) → C (record { answer = Refused f; state = u }))
     → C (pastGap src true j u)
 unfolding pastGap gapAt gapOf
 past-cases C src j u kind q f g h = go (spacesAt (u .kind) true src j) (ap (λ (k : ℕ). spacesAt k true src j) (sym q))
@@ -173,8 +173,8 @@ past-cases C src j u kind q f g h = go (spacesAt (u .kind) true src j) (ap (λ (
     go : (r : Spaced) → spacesAt kind true src j ≡ r → C (past true (gapOf r) u)
     go (To i zero) e = f i e
     go (To i (suc n)) e = rw (ne-eqb (suc n) 0 (λ z. omega arith)) (g i (suc n) e (omega arith))
-    go (LineEnd i) e = h _
-    go (OpenComment i) e = h _
+    go (LineEnd i) e = h _ (λ k n d. let z : _≡_ {A = ℕ} 0 1 = cc in omega arith)
+    go (OpenComment i) e = h _ (λ k n d. let z : _≡_ {A = ℕ} 0 1 = cc in omega arith)
 
 -- a state of a reading, and the bytes in front of it
 pub record Stands (src : List ℕ) (s : State) : Type 0 where

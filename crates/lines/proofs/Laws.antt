@@ -12,6 +12,7 @@ use Rattle.words.specs.declared.Token.{Token}
 use Rattle.words.specs.declared.Token.the-variants.{Found, NoToken}
 use Rattle.words.specs.Words.{tokenAt, Tokened}
 use Rattle.grammar.specs.declared.State.{State}
+use Rattle.grammar.specs.declared.Part.{Part}
 use Rattle.grammar.specs.declared.Cause.the-variants.{IllegalString}
 use Rattle.grammar.specs.declared.Refusal.{Refusal}
 use Rattle.grammar.specs.declared.Refusal.the-variants.{Fault}
@@ -21,9 +22,10 @@ use Rattle.grammar.specs.declared.Repeat.{Repeat}
 use Rattle.grammar.specs.declared.Repeat.the-variants.{RepeatedPrecedence}
 use Rattle.grammar.specs.declared.Gap.{Gap}
 use Rattle.grammar.specs.declared.Gap.the-variants.{GapTo, GapRefused}
-use Rattle.grammar.specs.State.{Out0, Out1, Out2, Out3, withAt, withLevel, nextLevel, gapAt, onceStep, enterStep, passOn, tied2, tied3, refused, Onward, Moves}
+use Rattle.grammar.specs.State.{Out0, Out1, Out2, Out3, Out4, withAt, withLevel, nextLevel, gapAt, onceStep, enterStep, passOn, tied3, tied4, refused, Onward, Moves}
 use Rattle.grammar.proofs.Steps.{moves}
-use Rattle.lines.specs.Precedences.{precItem, precTurn, precList, precFrom, precDecl}
+use Rattle.marks.specs.Marks.{Leading, leadTag, tagRow, behindWord}
+use Rattle.lines.specs.Precedences.{precTagged, precEntered, precFound, precItem, precTurn, precList, precLed, precBody, precFrom, precDecl}
 use Rattle.lines.specs.Avoided.{avoidNamed, avoidItem, avoidTurn, avoidList, avoidDecl}
 
 -- an item comes to stand behind its token if the list goes on
@@ -32,47 +34,67 @@ item-moves src at before end after p b a r x e k o =
     let y = rw e at x in
     moves src at end before after a k (omega (arith, y .0, y .1, y .2)) (y .3) o
 
--- a token of a precedence line
-module _ (src : List ℕ) (s : State) (level assoc : ℕ) (t2 t10 : List ℕ) (r : Token) (q : r ≡ tokenAt src (s .at)) where
-  pub prec-found : (p : Place) (end : ℕ) (b : Bool) (o : Out2) (z : Out0) → r ≡ Found p end b
+-- a token of a precedence line: its row or repeat, the row of its tag, and what stands behind it
+module _ (src : List ℕ) (s : State) (level assoc : ℕ) (tag : Part) (t2 t10 t15 t16 : List ℕ) (r : Token) (q : r ≡ tokenAt src (s .at)) where
+  pub prec-found : (p : Place) (end : ℕ) (b : Bool) (o : Out2) (y : Answer) (v : State) (d : List ℕ) (z : Answer) (w : State) (e : List ℕ) → r ≡ Found p end b
       → o ≡ onceStep src s 1 4 0 RepeatedPrecedence (p .from ∷ p .to ∷ level ∷ assoc ∷ []) t2 t10
-      → z ≡ passOn src true end (o .answer) (o .state)
-      → tied2 z (o .a) (o .b) ≡ precItem src s level assoc t2 t10
+      → _≡_ {A = Out1} (record { answer = y; state = v; a = d }) (tagRow (o .answer) (o .state) tag (p .from) (p .to) t15)
+      → _≡_ {A = Out1} (record { answer = z; state = w; a = e }) (behindWord src true (p .from) (p .to) end y v t16)
+      → _≡_ {A = Out4} (record { answer = z; state = w; a = o .a; b = o .b; c = d; d = e }) (precItem src s level assoc tag t2 t10 t15 t16)
   unfolding precItem
-  prec-found p end b o z e w h = rw (← q, e, ← w) (ap (λ (x : Out0). tied2 x (o .a) (o .b)) h)
+  prec-found p end b o y v d z w e k f g h =
+      ap (λ (x : Out1). record { answer = x .answer; state = x .state; a = o .a; b = o .b; c = d; d = x .a }) h
+      ∙ ap (λ (x : Out1). precTagged src (p .from) (p .to) end o x t16) g
+      ∙ ap (λ (x : Out2). precEntered src tag (p .from) (p .to) end x t15 t16) f
+      ∙ ap (λ (x : Token). precFound x src s level assoc tag t2 t10 t15 t16) (sym k ∙ q)
 
-  pub prec-none : (k : ℕ) → r ≡ NoToken k → tied2 (refused (Fault IllegalString k) s) t2 t10 ≡ precItem src s level assoc t2 t10
+  pub prec-none : (k : ℕ) → r ≡ NoToken k → tied4 (refused (Fault IllegalString k) s) t2 t10 t15 t16 ≡ precItem src s level assoc tag t2 t10 t15 t16
   unfolding precItem
-  prec-none k e = rw (← q, e)
+  prec-none k e = ap (λ (x : Token). precFound x src s level assoc tag t2 t10 t15 t16) (sym e ∙ q)
 
 -- a turn of a precedence list
-module _ (src : List ℕ) (level assoc : ℕ) (s : State) (t2 t10 : List ℕ) where
-  pub prec-end : length src ≤ s .at → precTurn src level assoc (record { answer = Going; state = s; a = t2; b = t10 }) ≡ stop (record { answer = Going; state = s; a = t2; b = t10 })
+module _ (src : List ℕ) (level assoc : ℕ) (tag : Part) (s : State) (t2 t10 t15 t16 : List ℕ) where
+  pub prec-end : length src ≤ s .at → precTurn src level assoc tag (record { answer = Going; state = s; a = t2; b = t10; c = t15; d = t16 }) ≡ stop (record { answer = Going; state = s; a = t2; b = t10; c = t15; d = t16 })
   unfolding precTurn
   prec-end h = rw (le-leb _ _ h)
 
-  module _ (h : s .at < length src) {x : Answer} {next : State} {u2 u10 : List ℕ} (e : record { answer = x; state = next; a = u2; b = u10 } ≡ precItem src s level assoc t2 t10) where
-    pub prec-more : x ≡ Going → precTurn src level assoc (record { answer = Going; state = s; a = t2; b = t10 }) ≡ more (record { answer = Going; state = next; a = u2; b = u10 })
+  module _ (h : s .at < length src) {x : Answer} {next : State} {u2 u10 u15 u16 : List ℕ} (e : record { answer = x; state = next; a = u2; b = u10; c = u15; d = u16 } ≡ precItem src s level assoc tag t2 t10 t15 t16) where
+    pub prec-more : x ≡ Going → precTurn src level assoc tag (record { answer = Going; state = s; a = t2; b = t10; c = t15; d = t16 }) ≡ more (record { answer = Going; state = next; a = u2; b = u10; c = u15; d = u16 })
     unfolding precTurn
     prec-more g = rw (lt-leb _ _ h, ← e, g)
 
-    pub prec-done : x ≡ Done → precTurn src level assoc (record { answer = Going; state = s; a = t2; b = t10 }) ≡ stop (record { answer = Going; state = next; a = u2; b = u10 })
+    pub prec-done : x ≡ Done → precTurn src level assoc tag (record { answer = Going; state = s; a = t2; b = t10; c = t15; d = t16 }) ≡ stop (record { answer = Going; state = next; a = u2; b = u10; c = u15; d = u16 })
     unfolding precTurn
     prec-done g = rw (lt-leb _ _ h, ← e, g)
 
-    pub prec-refused : (f : Refusal) → x ≡ Refused f → precTurn src level assoc (record { answer = Going; state = s; a = t2; b = t10 }) ≡ stop (record { answer = x; state = next; a = u2; b = u10 })
+    pub prec-refused : (f : Refusal) → x ≡ Refused f → precTurn src level assoc tag (record { answer = Going; state = s; a = t2; b = t10; c = t15; d = t16 }) ≡ stop (record { answer = x; state = next; a = u2; b = u10; c = u15; d = u16 })
     unfolding precTurn
     prec-refused f g = rw (lt-leb _ _ h, ← e, g)
 
--- a precedence line, from behind its keyword on
-module _ (src : List ℕ) (s : State) (assoc : ℕ) (t2 t10 : List ℕ) (r : Gap) (q : r ≡ gapAt (s .kind) false src (s .at)) where
-  pub prec-line : (i n up : ℕ) (o : Out2) → r ≡ GapTo i n → up ≡ nextLevel (s .level) → o ≡ precList src (withLevel (withAt s i) up) (s .level) assoc t2 t10 → o ≡ precDecl src s assoc t2 t10
-  unfolding precDecl
-  prec-line i n up o e l h = (rw l at h) ∙ ap (λ (x : Gap). precFrom x src s assoc t2 t10) (sym e ∙ q)
+-- the tag in front of the tokens
+module _ (src : List ℕ) (s : State) (level assoc : ℕ) (t2 t10 t15 t16 : List ℕ) (x : Answer) (u : State) (tag : Part) (q : _≡_ {A = Leading} (record { answer = x; state = u; tag = tag }) (leadTag src s false true)) where
+  body-is : (y : Answer) → x ≡ y → precLed y (record { answer = x; state = u; tag = tag }) src level assoc t2 t10 t15 t16 ≡ precBody src s level assoc t2 t10 t15 t16
+  unfolding precBody
+  body-is y e = ap (λ (z : Answer). precLed z (record { answer = x; state = u; tag = tag }) src level assoc t2 t10 t15 t16) (sym e) ∙ ap (λ (l : Leading). precLed (l .answer) l src level assoc t2 t10 t15 t16) q
 
-  pub prec-gap : (f : Refusal) → r ≡ GapRefused f → tied2 (refused f s) t2 t10 ≡ precDecl src s assoc t2 t10
+  pub body-goes : (o : Out4) → x ≡ Going → o ≡ precList src u level assoc tag t2 t10 t15 t16 → o ≡ precBody src s level assoc t2 t10 t15 t16
+  body-goes o e h = h ∙ body-is Going e
+
+  pub body-done : x ≡ Done → _≡_ {A = Out4} (record { answer = Going; state = u; a = t2; b = t10; c = t15; d = t16 }) (precBody src s level assoc t2 t10 t15 t16)
+  body-done e = body-is Done e
+
+  pub body-refused : (f : Refusal) → x ≡ Refused f → _≡_ {A = Out4} (record { answer = Refused f; state = u; a = t2; b = t10; c = t15; d = t16 }) (precBody src s level assoc t2 t10 t15 t16)
+  body-refused f e = body-is (Refused f) e
+
+-- a precedence line, from behind its keyword on
+module _ (src : List ℕ) (s : State) (assoc : ℕ) (t2 t10 t15 t16 : List ℕ) (r : Gap) (q : r ≡ gapAt (s .kind) false src (s .at)) where
+  pub prec-line : (i n up : ℕ) (o : Out4) → r ≡ GapTo i n → up ≡ nextLevel (s .level) → o ≡ precBody src (withLevel (withAt s i) up) (s .level) assoc t2 t10 t15 t16 → o ≡ precDecl src s assoc t2 t10 t15 t16
   unfolding precDecl
-  prec-gap f e = ap (λ (x : Gap). precFrom x src s assoc t2 t10) (sym e ∙ q)
+  prec-line i n up o e l h = (rw l at h) ∙ ap (λ (x : Gap). precFrom x src s assoc t2 t10 t15 t16) (sym e ∙ q)
+
+  pub prec-gap : (f : Refusal) → r ≡ GapRefused f → tied4 (refused f s) t2 t10 t15 t16 ≡ precDecl src s assoc t2 t10 t15 t16
+  unfolding precDecl
+  prec-gap f e = ap (λ (x : Gap). precFrom x src s assoc t2 t10 t15 t16) (sym e ∙ q)
 
 -- a token that was entered is given to its table once
 module _ (src : List ℕ) (s : State) (k : ℕ) (what : Repeat) (from to end : ℕ) (t1 t t10 : List ℕ) (o : Out1) (q : o ≡ enterStep src s from to false t1) where

@@ -1,85 +1,74 @@
 -- A loop over the words of a line, once for both sorts of line: it comes to where the line ends exactly where each word's step finds room. Assumes nothing.
 use Prim.Native.Nat.{ℕ, zero, suc, _-_, _≤_, _<_}
-use mathlib.Core.Path.{_≡_, ap, _∙_}
+use mathlib.Core.Path.{_≡_, sym}
 use mathlib.Core.List.{List, [], _∷_}
-use mathlib.Core.Bool.{Bool, true}
+use mathlib.Core.Bool.{true}
 use native.Mathlib.Omega.{arith}
 use lib.ListN.{length}
-use borrow.Author.Tests.{ne-eqb}
-use Rattle.scan.specs.declared.Place.{Place}
 use Rattle.scan.specs.Loop.{Turn, more, stop, turns}
 use Rattle.scan.proofs.Bytes.{told}
 use Rattle.spacing.specs.declared.Spaced.the-variants.{To}
 use Rattle.spacing.specs.Spacing.{spacesAt}
-use Rattle.words.specs.declared.Token.the-variants.{Found}
-use Rattle.words.specs.Words.{tokenAt}
 use Rattle.grammar.specs.declared.State.{State}
 use Rattle.grammar.specs.declared.Answer.{Answer}
-use Rattle.grammar.specs.declared.Answer.the-variants.{Going, Done}
-use Rattle.grammar.specs.declared.Gap.the-variants.{GapTo}
-use Rattle.grammar.specs.State.{withAt, past}
-use Rattle.lines.specs.Line.{LineWord, Line, ended, last, word}
-use Rattle.lines.specs.Met.{wordPlaces}
-use Rattle.lines.proofs.Line.{word-placed, gap-placed}
+use Rattle.grammar.specs.declared.Answer.the-variants.{Going}
+use Rattle.marks.specs.Worded.{ListWord}
+use Rattle.lines.specs.Line.{LineWord, lineWord, Line, closed, ended, word}
+use Rattle.lines.proofs.Worded.{Words}
+use Rattle.lines.proofs.Line.{gap-placed, line-closed}
 
--- a line end that is counted behind a word ends the list
-pub past-counted : (i n : ℕ) (u : State) → 0 < n → past true (GapTo i n) u ≡ record { answer = Done; state = withAt u i }
-past-counted i n u h = rw (ne-eqb n 0 (λ z. omega arith))
-
-module _ (src : List ℕ) {X : Type 0} (state : X → State) (answer : X → Answer) (Room : List Place → X → Type 0) (Leads : List Place → ℕ → X → X → Type 0) where
+module _ (src : List ℕ) {X : Type 0} (state : X → State) (answer : X → Answer) (Room : List LineWord → X → Type 0) (Leads : List LineWord → ℕ → X → X → Type 0) where
   -- where the turn of a word leads, with n line ends counted behind it, up to i
-  pub data TurnTo (n : ℕ) (p : Place) (i : ℕ) (o : X) : Turn X → Type 0 where
-    on : {y : X} → n ≡ 0 → answer y ≡ Going → Room (p ∷ []) o → Leads (p ∷ []) i o y → TurnTo n p i o (more y)
-    over : {y : X} → 0 < n → answer y ≡ Going → Room (p ∷ []) o → Leads (p ∷ []) i o y → TurnTo n p i o (stop y)
-    full : {y : X} → (answer y ≡ Going → ⊥) → (Room (p ∷ []) o → ⊥) → TurnTo n p i o (stop y)
+  pub data TurnTo (n : ℕ) (w : LineWord) (i : ℕ) (o : X) : Turn X → Type 0 where
+    on : {y : X} → n ≡ 0 → answer y ≡ Going → Room (w ∷ []) o → Leads (w ∷ []) i o y → TurnTo n w i o (more y)
+    over : {y : X} → 0 < n → answer y ≡ Going → Room (w ∷ []) o → Leads (w ∷ []) i o y → TurnTo n w i o (stop y)
+    full : {y : X} → (answer y ≡ Going → ⊥) → (Room (w ∷ []) o → ⊥) → TurnTo n w i o (stop y)
 
-  -- what one word and those behind it have to do with all of them
-  pub record Laws (f : X → Turn X) (B : ℕ → Type 0) : Type 0 where
-    pub front : (p : Place) (ps : List Place) (o : X) → Room (p ∷ ps) o → Room (p ∷ []) o
-    pub rest : (p : Place) (ps : List Place) (i : ℕ) (o y : X) → Leads (p ∷ []) i o y → Room (p ∷ ps) o → Room ps y
-    pub both : (p : Place) (ps : List Place) (i : ℕ) (o y : X) → Leads (p ∷ []) i o y → Room (p ∷ []) o → Room ps y → Room (p ∷ ps) o
-    pub then : (p : Place) (ps : List Place) (i j : ℕ) (o y e : X) → Leads (p ∷ []) i o y → Leads ps j y e → Leads (p ∷ ps) j o e
-    pub comes : (ps : List Place) (i : ℕ) (o y : X) → Leads ps i o y → (state y .at ≡ i) × (length (state y .counts .n) ≡ length (state o .counts .n)) × (state y .kind ≡ state o .kind)
-    pub turn : (o : X) → length (state o .counts .n) ≡ 10 → (p : Place) (end : ℕ) (quoted : Bool) (i n : ℕ) → tokenAt src (state o .at) ≡ Found p end quoted → spacesAt (state o .kind) true src end ≡ To i n → TurnTo n p i o (f o)
-    pub ends : (o : X) → B 0 → length src ≤ state o .at → (f o ≡ stop o) × Room [] o × Leads [] (state o .at) o o
+  -- the list from o on, in which these words stand up to j, leads to e
+  pub record Ran (j : ℕ) (ws : List LineWord) (o e : X) : Type 0 where
+    pub goes : Room ws o → answer e ≡ Going
+    pub free : answer e ≡ Going → Room ws o
+    pub leads : answer e ≡ Going → Leads ws j o e
 
-  -- the list from o on, in which these places stand up to j, leads to e
-  pub record Ran (j : ℕ) (ps : List Place) (o e : X) : Type 0 where
-    pub goes : Room ps o → answer e ≡ Going
-    pub free : answer e ≡ Going → Room ps o
-    pub leads : answer e ≡ Going → Leads ps j o e
+  module _ (kind : ℕ) (Word : ℕ → ℕ → ListWord → Type 0) (Fit : State → Type 0) where
+    -- a state at index i in which a turn may begin
+    abbrev pub From : ℕ → X → Type 0
+    From i o = (state o .at ≡ i) × (state o .kind ≡ kind) × Fit (state o)
 
-  module _ (kind : ℕ) (f : X → Turn X) (B : ℕ → Type 0) (L : Laws f B) where
-    abbrev From : ℕ → X → Type 0
-    From i o = (state o .at ≡ i) × (length (state o .counts .n) ≡ 10) × (answer o ≡ Going) × (state o .kind ≡ kind)
+    -- what one word and those behind it have to do with all of them
+    pub record Laws (f : X → Turn X) (B : ℕ → Type 0) : Type 0 where
+      pub front : (w : LineWord) (ws : List LineWord) (o : X) → Room (w ∷ ws) o → Room (w ∷ []) o
+      pub rest : (w : LineWord) (ws : List LineWord) (i : ℕ) (o y : X) → Leads (w ∷ []) i o y → Room (w ∷ ws) o → Room ws y
+      pub both : (w : LineWord) (ws : List LineWord) (i : ℕ) (o y : X) → Leads (w ∷ []) i o y → Room (w ∷ []) o → Room ws y → Room (w ∷ ws) o
+      pub then : (w : LineWord) (ws : List LineWord) (i j : ℕ) (o y e : X) → Leads (w ∷ []) i o y → Leads ws j y e → Leads (w ∷ ws) j o e
+      pub comes : (ws : List LineWord) (h i : ℕ) (o y : X) → Leads ws i o y → From h o → From i y
+      pub turn : (o : X) (h : ℕ) → From h o → (w : ListWord) (end i n : ℕ) → Word h end w → spacesAt kind true src end ≡ To i n → TurnTo n (lineWord w end) i o (f o)
+      pub ends : (o : X) (h : ℕ) → From h o → B 0 → length src ≤ h → (f o ≡ stop o) × Room [] o × Leads [] h o o
 
-    pub run : {i j n : ℕ} {ws : List LineWord} → Line kind src i j n ws → B n → (m : ℕ) (o : X) → From i o → length src - i < m → Ran j (wordPlaces ws) o (turns m f o)
-    unfolding turns
-    run l b zero o x h = absurd (omega arith)
-    run (ended {i} c) b (suc m) o x h =
-        let z = L .ends o b (rw (x .0) c) in
-        rw (z .0, turns) (record { goes = λ r. x .2; free = λ g. z .1; leads = λ g. told (λ (k : ℕ). Leads [] k o o) (x .0) (z .2) })
-    run (last {i} {j} {n} {end} {p} {quoted} e g c) b (suc m) o x h = go (f o) (L .turn o (x .1) p end quoted j n (rw (x .0) e) (ap (λ (q : ℕ). spacesAt q true src end) (x .3) ∙ g))
-      where
-        go : (t : Turn X) → TurnTo n p j o t → Ran j (p ∷ []) o (elim t [ more y ↦ turns m f y | stop y ↦ y ])
-        go t (on q a r k) = absurd (omega arith)
-        go t (over q a r k) = record { goes = λ r. a; free = λ g. r; leads = λ g. k }
-        go t (full a r) = record { goes = λ z. absurd (r z); free = λ z. absurd (a z); leads = λ z. absurd (a z) }
-    run (word {i} {k} {j} {n} {end} {p} {quoted} {ws} e g l) b (suc m) o x h = go (f o) (L .turn o (x .1) p end quoted k 0 (rw (x .0) e) (ap (λ (q : ℕ). spacesAt q true src end) (x .3) ∙ g)) (run l b m)
-      where
-        ps : List Place
-        ps = wordPlaces ws
+    module _ (W : Words src Word) (f : X → Turn X) (B : ℕ → Type 0) (L : Laws f B) where
+      pub run : {k i j n : ℕ} {ws : List LineWord} → Line kind Word src k i j n ws → k ≡ 0 → B n → (m : ℕ) (o : X) → answer o ≡ Going → From i o → length src - i < m → Ran j ws o (turns m f o)
+      unfolding turns
+      run l z b zero o a x h = absurd (omega arith)
+      run (closed c) z b (suc m) o a x h = absurd (omega arith)
+      run (ended {i} c) z b (suc m) o a x h =
+          let y = L .ends o i x b c in
+          rw (y .0, turns) (record { goes = λ r. a; free = λ g. y .1; leads = λ g. y .2 })
+      run (word {i} {k} {j} {m = p} {n} {end} {w} {ws} e g l) z b (suc m) o a x h = go (f o) (L .turn o i x w end k p e g) (λ q. run l q b m)
+        where
+          here : LineWord
+          here = lineWord w end
 
-        nearer : length src - k < m
-        nearer =
-            let a = word-placed src i p end quoted e in
-            let c = gap-placed kind src end k 0 (a .3) g in
-            omega (arith, a .0, a .1, a .2, a .3, c .0, c .1)
+          nearer : length src - k < m
+          nearer =
+              let a = W .placed e in
+              let c = gap-placed kind src end k p (a .3) g in
+              omega (arith, a .0, a .1, a .2, a .3, c .0, c .1)
 
-        go : (t : Turn X) → TurnTo 0 p k o t → ((y : X) → From k y → length src - k < m → Ran j ps y (turns m f y)) → Ran j (p ∷ ps) o (elim t [ more y ↦ turns m f y | stop y ↦ y ])
-        go t (on {y} q a r z) rest =
-            let c = L .comes (p ∷ []) k o y z in
-            let v = rest y (c .0, c .1 ∙ x .1, a, c .2 ∙ x .3) nearer in
-            record { goes = λ w. v .goes (L .rest p ps k o y z w); free = λ w. L .both p ps k o y z r (v .free w); leads = λ w. L .then p ps k j o y _ z (v .leads w) }
-        go t (over q a r z) rest = absurd (omega arith)
-        go t (full a r) rest = record { goes = λ z. absurd (r (L .front p ps o z)); free = λ z. absurd (a z); leads = λ z. absurd (a z) }
+          go : (t : Turn X) → TurnTo p here k o t → (p ≡ 0 → (y : X) → answer y ≡ Going → From k y → length src - k < m → Ran j ws y (turns m f y)) → Ran j (here ∷ ws) o (elim t [ more y ↦ turns m f y | stop y ↦ y ])
+          go t (on {y} q a r z) rest =
+              let v = rest q y a (L .comes (here ∷ []) i k o y z x) nearer in
+              record { goes = λ u. v .goes (L .rest here ws k o y z u); free = λ u. L .both here ws k o y z r (v .free u); leads = λ u. L .then here ws k j o y _ z (v .leads u) }
+          go t (over {y} q a r z) rest =
+              let d = line-closed kind src W l q in
+              told (λ (h : ℕ). Ran h (here ∷ ws) o y) (d .0) (told (λ (us : List LineWord). Ran k (here ∷ us) o y) (sym (d .2)) (record { goes = λ u. a; free = λ u. r; leads = λ u. z }))
+          go t (full a r) rest = record { goes = λ z. absurd (r (L .front here ws o z)); free = λ z. absurd (a z); leads = λ z. absurd (a z) }

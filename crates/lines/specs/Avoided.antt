@@ -1,8 +1,8 @@
 -- Document 01, "Declarations": "avoid and implicit lists run until a line end was counted after the spacing behind their keyword; the last two also go on at the
 -- source end and so give 3 there, except where the keyword itself is the end. [..] avoid and implicit lists add theirs, undeclared."
-use Prim.Native.Nat.{ℕ, suc, _+_}
+use Prim.Native.Nat.{ℕ, suc}
 use mathlib.Core.List.{List}
-use mathlib.Core.Bool.{Bool, true, false}
+use mathlib.Core.Bool.{true, false}
 use lib.Dec.{leb}
 use lib.ListN.{length}
 use Rattle.scan.specs.Loop.{Turn, more, stop, turns}

@@ -15,7 +15,7 @@ use Rattle.tables.specs.Layout.{precedences, avoided, implicit, level, declared
 use Rattle.grammar.specs.declared.State.{State}
 use Rattle.grammar.specs.Cells.{tokenCells, precedenceCells, nameCells}
 use Rattle.grammar.specs.State.{count}
-use Rattle.lines.specs.Line.{LineWord, In, Earlier, LineAt}
+use Rattle.lines.specs.Line.{LineWord, In, Earlier, PrecLine}
 
 -- n rows of t have become m rows of u: those before stay, and P holds of each new one
 pub record Grown (P : List ℕ → Type 0) (w n : ℕ) (t : List ℕ) (m : ℕ) (u : List ℕ) : Type 0 where
@@ -71,7 +71,7 @@ levelAt t r = getD (rowAt (width precedences) t r) level 0
 -- ends at at₂, with b, and ends in s₂, whatever its answer. Table 2 behind both is t.
 pub record TwoLists (src : List ℕ) (at₁ a at₂ b : ℕ) (s₀ s₁ s₂ : State) (t : List ℕ) : Type 0 where
   -- the first is a line as it stands in the source,
-  pub line : LineAt (s₀ .kind) src at₁ (s₁ .at)
+  pub line : PrecLine (s₀ .kind) src at₁ (s₁ .at)
   -- and where a line end is counted behind a word of it, it is at its end;
   pub stops : (w : LineWord) → In w (line .words) → (k n : ℕ) → spacesAt (s₀ .kind) true src (w .end) ≡ To k n → 0 < n → k ≡ s₁ .at
   -- its rows are rows of its words, with its level and association,

@@ -1,5 +1,5 @@
 -- Document 01, "Declarations": what is given once to a name, by a line of words: which words are met first, and which are repeats.
-use Prim.Native.Nat.{ℕ, _+_, _<_}
+use Prim.Native.Nat.{ℕ}
 use mathlib.Core.Path.{_≡_}
 use mathlib.Core.List.{List, [], _∷_, _++_, map, List·Memᴰ}
 use mathlib.Core.Option.{Option, none, some}
@@ -7,16 +7,19 @@ use mathlib.Core.Bool.{Bool, true, false}
 use mathlib.Core.Logic.{_⊎_}
 use lib.ListN.{length, getD}
 use Rattle.scan.specs.declared.Place.{Place}
-use Rattle.tables.specs.Table.{room, samePart}
+use Rattle.tables.specs.Table.{samePart}
 use Rattle.tables.specs.Rows.{rowsOf}
-use Rattle.tables.specs.Layout.{tokens, precedences, avoided, repeats, width}
+use Rattle.tables.specs.Layout.{tokens, precedences, avoided, repeats, tags, tokenNumbers, width}
 use Rattle.grammar.specs.declared.State.{State}
+use Rattle.grammar.specs.declared.Part.{Part}
 use Rattle.grammar.specs.declared.Repeat.{Repeat}
 use Rattle.grammar.specs.declared.Repeat.the-variants.{RepeatedPrecedence}
 use Rattle.grammar.specs.declared.Answer.the-variants.{Going}
 use Rattle.grammar.specs.Cells.{repeatCells}
 use Rattle.grammar.specs.Refusals.{numberOfRepeat}
-use Rattle.grammar.specs.State.{Out2, Out3, count, withAt, withLevel, nextLevel}
+use Rattle.grammar.specs.State.{Out3, Out4, count, withAt, withLevel, nextLevel}
+use Rattle.marks.specs.Appended.{Appended, FreeRows}
+use Rattle.marks.specs.Worded.{ListWord, tagRows, numberRows}
 use Rattle.lines.specs.Line.{LineWord}
 use Rattle.lines.specs.Grown.{precRow, tokenRow, nameRow}
 
@@ -83,19 +86,13 @@ placesOf w n t = map placeIn (rowsOf w n t)
 abbrev pub wordPlaces : List LineWord → List Place
 wordPlaces ws = map (λ (w : LineWord). w .place) ws
 
+-- words of a line as words of a list, which leaves out where they end
+abbrev pub listed : List LineWord → List ListWord
+listed ws = map (λ (w : LineWord). record { place = w .place; number = w .number }) ws
+
 -- "10 repeats (number, first place, repeated place)"
 abbrev pub repeatRow : Repeat → RepeatPlaces → List ℕ
 repeatRow what a = repeatCells (numberOfRepeat what) (a .first .from) (a .first .to) (a .repeated .from) (a .repeated .to)
-
--- n rows of t have become m rows of u: the same rows, and these behind them
-pub record Appended (w n : ℕ) (t : List ℕ) (new : List (List ℕ)) (m : ℕ) (u : List ℕ) : Type 0 where
-  pub counted : m ≡ n + length new
-  pub rows : rowsOf w m u ≡ rowsOf w n t ++ new
-  pub size : length u ≡ length t
-
--- "42 comes exactly where [..] that table has no whole free row": there is one for each of m rows behind n rows
-pub record FreeRows (w n : ℕ) (t : List ℕ) (m : ℕ) : Type 0 where
-  pub each : (r : ℕ) → r < m → room w (n + r) t ≡ true
 
 -- Places are given to table k + 1, once to a name, which rows have in their first two cells. There is room for the rows of those that are met first, and in
 -- table 10 for those of the others;
@@ -118,16 +115,35 @@ pub record Still (P : ℕ → Type 0) (s u : State) : Type 0 where
   pub at : u .at ≡ s .at
   pub level : u .level ≡ s .level
   pub ten : length (u .counts .n) ≡ length (s .counts .n)
+  pub three : length (u .posix .n) ≡ length (s .posix .n)
   pub others : (k : ℕ) → (P k → ⊥) → count u k ≡ count s k
   pub singles : u .singles ≡ s .singles
   pub actiontype : u .actiontype ≡ s .actiontype
 
+-- the tables that a precedence line gives rows
+abbrev pub PrecTables : ℕ → Type 0
+PrecTables j = OnceTables precedences j ⊎ ((j ≡ tags) ⊎ (j ≡ tokenNumbers))
+
+-- The words of a precedence line with this tag or none find room: in tables 2 and 10 as above, in 15 and 16 for their rows.
+pub record PrecFree (src : List ℕ) (s : State) (t2 t10 t15 t16 : List ℕ) (tag : Part) (ws : List LineWord) : Type 0 where
+  pub once : OnceFree src precedences (width precedences) (wordPlaces ws) s t2 t10
+  pub tagged : FreeRows (width tags) (count s tags) t15 (length (tagRows tag (wordPlaces ws)))
+  pub numbered : FreeRows (width tokenNumbers) (count s tokenNumbers) t16 (length (numberRows (listed ws)))
+
 -- A precedence line of these words, up to j, was read: a row for each word that is the first of its name, with the line's level and association, and a repeat for
--- each other one; the next line has the next level, and all else is as it was.
-pub record PrecRead (src : List ℕ) (s : State) (assoc : ℕ) (t2 t10 : List ℕ) (j : ℕ) (ws : List LineWord) (o : Out2) : Type 0 where
+-- each other one; for each word, repeated ones too, a row for the line's tag and one for its number, if there are such; the next line has the next level, and all else is as it was.
+pub record PrecRead (src : List ℕ) (s : State) (assoc : ℕ) (t2 t10 t15 t16 : List ℕ) (j : ℕ) (tag : Part) (ws : List LineWord) (o : Out4) : Type 0 where
   pub going : o .answer ≡ Going
   pub rows : OnceGiven src precedences (width precedences) (precRow (s .level) assoc) RepeatedPrecedence (wordPlaces ws) s t2 t10 (o .state) (o .a) (o .b)
-  pub state : Still (OnceTables precedences) (withLevel (withAt s j) (nextLevel (s .level))) (o .state)
+  pub tagged : Appended (width tags) (count s tags) t15 (tagRows tag (wordPlaces ws)) (count (o .state) tags) (o .c)
+  pub numbered : Appended (width tokenNumbers) (count s tokenNumbers) t16 (numberRows (listed ws)) (count (o .state) tokenNumbers) (o .d)
+  pub state : Still PrecTables (withLevel (withAt s j) (nextLevel (s .level))) (o .state)
+
+-- only kind 4 has tags and numbers: tables 15 and 16 are as they were, and so are the counts of the three tables behind the ten
+pub record Unmarked (s : State) (t15 t16 : List ℕ) (o : Out4) : Type 0 where
+  pub tagged : o .c ≡ t15
+  pub numbered : o .d ≡ t16
+  pub counts : o .state .posix ≡ s .posix
 
 -- The words of an avoid or implicit list find room: in table 1 those whose name has no row there, in table k + 1 and table 10 as above.
 pub record AvoidFree (src : List ℕ) (s : State) (k : ℕ) (t1 t t10 : List ℕ) (ws : List LineWord) : Type 0 where

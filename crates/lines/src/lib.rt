@@ -2,6 +2,7 @@
 use grammar::Answer;
 use grammar::Cause;
 use grammar::Gap;
+use grammar::Part;
 use grammar::Refusal;
 use grammar::Repeat;
 use grammar::State;
@@ -10,22 +11,25 @@ use words::Token;
 ghost use Prim.Native.Nat.{_<_};
 ghost use mathlib.Core.Path.{_≡_};
 ghost use Rattle.tables.specs.Layout.{precedences, avoided, width};
-ghost use Rattle.grammar.specs.State.{Out2, Out3, Here, Passed, Moves, Onward, Tokens, Tracked, Follows};
-ghost use Rattle.lines.specs.Precedences.{precItem, precList, precDecl};
+ghost use Rattle.grammar.specs.State.{Out3, Out4, Here, Passed, Moves, Onward, Tokens, Tracked, Follows};
+ghost use Rattle.lines.specs.Precedences.{precItem, precList, precBody, precDecl};
 ghost use Rattle.lines.specs.Avoided.{avoidNamed, avoidItem, avoidList, avoidDecl};
 
-// One token of a precedence line, and the spacing behind it: done where that counted a line end.
+// One token of a precedence line, the row of its tag, and what stands behind it: done where that counted a line end.
 pub fn prec_item(
     src: &[u8],
     s: State,
     level: u32,
     assoc: u32,
+    tag: Part,
     t2: &mut [u32],
     t10: &mut [u32],
+    t15: &mut [u32],
+    t16: &mut [u32],
     fx: &mut [u16],
 ) -> Step
     requires { ⌜ Here (now src) (s .at) × Tracked (now src) precedences (width precedences) 0 (s .counts) (now t2) (now fx) ⌝ }
-    ensures is { λ r. ⌜ _≡_ {A = Out2} (record { answer = r .answer; state = r .state; a = now (t2 .exit); b = now (t10 .exit) }) (precItem (now (src .entry)) s level assoc (now (t2 .entry)) (now (t10 .entry))) ⌝ }
+    ensures is { λ r. ⌜ _≡_ {A = Out4} (record { answer = r .answer; state = r .state; a = now (t2 .exit); b = now (t10 .exit); c = now (t15 .exit); d = now (t16 .exit) }) (precItem (now (src .entry)) s level assoc tag (now (t2 .entry)) (now (t10 .entry)) (now (t15 .entry)) (now (t16 .entry))) ⌝ }
     ensures moved { λ r. ⌜ Moves (now (src .entry)) (s .at) (r .answer) (r .state .at) ⌝ }
     ensures indexed { λ r. ⌜ Follows (now (src .entry)) precedences (width precedences) 0 (r .state .counts) (now (t2 .exit)) (now (fx .entry)) (now (fx .exit)) ⌝ }
 {
@@ -47,7 +51,8 @@ pub fn prec_item(
                 t10,
                 fx,
             );
-            grammar::pass_on(src, r, end, true)
+            let q = marks::tag_row(r, tag, from, to, t15);
+            marks::behind_word(src, q, from, to, end, true, t16)
         }
         Token::NoToken(k) => Step {
             answer: Answer::Refused(Refusal::Fault(Cause::IllegalString, k as u32)),
@@ -62,12 +67,15 @@ pub fn prec_list(
     s: State,
     level: u32,
     assoc: u32,
+    tag: Part,
     t2: &mut [u32],
     t10: &mut [u32],
+    t15: &mut [u32],
+    t16: &mut [u32],
     fx: &mut [u16],
 ) -> Step
     requires { ⌜ Here (now src) (s .at) × Tracked (now src) precedences (width precedences) 0 (s .counts) (now t2) (now fx) ⌝ }
-    ensures is { λ r. ⌜ _≡_ {A = Out2} (record { answer = r .answer; state = r .state; a = now (t2 .exit); b = now (t10 .exit) }) (precList (now (src .entry)) s level assoc (now (t2 .entry)) (now (t10 .entry))) ⌝ }
+    ensures is { λ r. ⌜ _≡_ {A = Out4} (record { answer = r .answer; state = r .state; a = now (t2 .exit); b = now (t10 .exit); c = now (t15 .exit); d = now (t16 .exit) }) (precList (now (src .entry)) s level assoc tag (now (t2 .entry)) (now (t10 .entry)) (now (t15 .entry)) (now (t16 .entry))) ⌝ }
     ensures moved { λ r. ⌜ Passed (now (src .entry)) (s .at) (r .state .at) ⌝ }
     ensures indexed { λ r. ⌜ Follows (now (src .entry)) precedences (width precedences) 0 (r .state .counts) (now (t2 .exit)) (now (fx .entry)) (now (fx .exit)) ⌝ }
 {
@@ -80,7 +88,7 @@ pub fn prec_list(
                 state: st,
             };
         }
-        let r = prec_item(src, st, level, assoc, t2, t10, fx);
+        let r = prec_item(src, st, level, assoc, tag, t2, t10, t15, t16, fx);
         let a = r.answer;
         let next = r.state;
         match a {
@@ -100,6 +108,40 @@ pub fn prec_list(
     }
 }
 
+// The tag and the tokens of a line.
+pub fn prec_body(
+    src: &[u8],
+    s: State,
+    level: u32,
+    assoc: u32,
+    t2: &mut [u32],
+    t10: &mut [u32],
+    t15: &mut [u32],
+    t16: &mut [u32],
+    fx: &mut [u16],
+) -> Step
+    requires { ⌜ Here (now src) (s .at) × Tracked (now src) precedences (width precedences) 0 (s .counts) (now t2) (now fx) ⌝ }
+    ensures is { λ r. ⌜ _≡_ {A = Out4} (record { answer = r .answer; state = r .state; a = now (t2 .exit); b = now (t10 .exit); c = now (t15 .exit); d = now (t16 .exit) }) (precBody (now (src .entry)) s level assoc (now (t2 .entry)) (now (t10 .entry)) (now (t15 .entry)) (now (t16 .entry))) ⌝ }
+    ensures moved { λ r. ⌜ Passed (now (src .entry)) (s .at) (r .state .at) ⌝ }
+    ensures indexed { λ r. ⌜ Follows (now (src .entry)) precedences (width precedences) 0 (r .state .counts) (now (t2 .exit)) (now (fx .entry)) (now (fx .exit)) ⌝ }
+{
+    let l = marks::lead_tag(src, s, false, true);
+    let a = l.answer;
+    let n = l.state;
+    let tag = l.tag;
+    match a {
+        Answer::Going => prec_list(src, n, level, assoc, tag, t2, t10, t15, t16, fx),
+        Answer::Done => Step {
+            answer: Answer::Going,
+            state: n,
+        },
+        Answer::Refused(f) => Step {
+            answer: Answer::Refused(f),
+            state: n,
+        },
+    }
+}
+
 // A line of `%left`, `%right` or `%nonassoc`: it takes a level.
 pub fn prec_decl(
     src: &[u8],
@@ -107,10 +149,12 @@ pub fn prec_decl(
     assoc: u32,
     t2: &mut [u32],
     t10: &mut [u32],
+    t15: &mut [u32],
+    t16: &mut [u32],
     fx: &mut [u16],
 ) -> Step
     requires { ⌜ Here (now src) (s .at) × Tracked (now src) precedences (width precedences) 0 (s .counts) (now t2) (now fx) ⌝ }
-    ensures is { λ r. ⌜ _≡_ {A = Out2} (record { answer = r .answer; state = r .state; a = now (t2 .exit); b = now (t10 .exit) }) (precDecl (now (src .entry)) s assoc (now (t2 .entry)) (now (t10 .entry))) ⌝ }
+    ensures is { λ r. ⌜ _≡_ {A = Out4} (record { answer = r .answer; state = r .state; a = now (t2 .exit); b = now (t10 .exit); c = now (t15 .exit); d = now (t16 .exit) }) (precDecl (now (src .entry)) s assoc (now (t2 .entry)) (now (t10 .entry)) (now (t15 .entry)) (now (t16 .entry))) ⌝ }
     ensures moved { λ r. ⌜ Passed (now (src .entry)) (s .at) (r .state .at) ⌝ }
     ensures indexed { λ r. ⌜ Follows (now (src .entry)) precedences (width precedences) 0 (r .state .counts) (now (t2 .exit)) (now (fx .entry)) (now (fx .exit)) ⌝ }
 {
@@ -121,7 +165,7 @@ pub fn prec_decl(
             let mut next = s;
             next.at = i;
             next.level = grammar::next_level(level);
-            prec_list(src, next, level, assoc, t2, t10, fx)
+            prec_body(src, next, level, assoc, t2, t10, t15, t16, fx)
         }
         Gap::GapRefused(f) => Step {
             answer: Answer::Refused(f),

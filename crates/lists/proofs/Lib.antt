@@ -1,8 +1,9 @@
 pub mod Laws
+pub mod Tracks
 pub mod Far
 pub mod Marks
 pub mod Items
+pub mod Spares
 pub mod Meaning
 pub mod Goes
-pub mod Tracks
-pub mod Spares
+pub mod Apart

@@ -37,8 +37,9 @@ use Rattle.grammar.specs.declared.Gap.the-variants.{GapTo, GapRefused}
 use Rattle.grammar.specs.Cells.{ruleCells}
 use Rattle.grammar.specs.Numbers.{partNumbers}
 use Rattle.grammar.specs.State.{Out0, Passed, count, withAt, gapAt, Gapped, pastGap, onward}
-use Rattle.grammar.specs.Sound.{Tables, setTab, Given, Lies, Differ, Far}
+use Rattle.grammar.specs.Sound.{AllTables, setTab, Given, Lies, Differ, Far}
 use Rattle.grammar.proofs.Far.{far-at, far-singles}
+use Rattle.grammar.proofs.Counting.{same-low}
 use Rattle.grammar.proofs.Touch.{refused-going, done-going, push-apart, push-more, pass-counts, pass-going}
 use Rattle.grammar.proofs.Kept.{gapped, push-held, past-far, pass-far}
 use Rattle.items.specs.Items.{begun, itemList}
@@ -47,20 +48,20 @@ use Rattle.rules.specs.Rules.{Typing, Heading, Ruled, markGap, passMark,
 use Rattle.rules.proofs.Laws.{mark-fits}
 
 -- A step that counts nothing: sound so far, and not back.
-pub record Uncounted (src : List ℕ) (done : ℕ) (T : Tables) (s u : State) : Type 0 where
+pub record Uncounted (src : List ℕ) (done : ℕ) (T : AllTables) (s u : State) : Type 0 where
   pub far : Far src done u T
   pub forth : s .at ≤ u .at
   pub counts : u .counts ≡ s .counts
 
 -- the type of a rule lies in the source
-pub record TypeFar (src : List ℕ) (done : ℕ) (T : Tables) (s : State) (o : Typing) : Type 0 where
+pub record TypeFar (src : List ℕ) (done : ℕ) (T : AllTables) (s : State) (o : Typing) : Type 0 where
   pub to : Uncounted src done T s (o .state)
   pub given : Lies src (o .given)
 
-uncounted-on : {src : List ℕ} {done : ℕ} {T : Tables} {s u v : State} → Uncounted src done T s u → Uncounted src done T u v → Uncounted src done T s v
+uncounted-on : {src : List ℕ} {done : ℕ} {T : AllTables} {s u v : State} → Uncounted src done T s u → Uncounted src done T u v → Uncounted src done T s v
 uncounted-on x y = let a = x .forth in let b = y .forth in record { far = y .far; forth = omega arith; counts = y .counts ∙ x .counts }
 
-module _ {src : List ℕ} {done : ℕ} {s : State} {T : Tables} (f : Far src done s T) where
+module _ {src : List ℕ} {done : ℕ} {s : State} {T : AllTables} (f : Far src done s T) where
   still : Uncounted src done T s s
   still = record { far = f; forth = omega arith; counts = refl }
 
@@ -129,7 +130,7 @@ module _ {src : List ℕ} {done : ℕ} {s : State} {T : Tables} (f : Far src don
       go (GapRefused e) x = still
 
 -- the type of a rule, by the kind
-pub type-far : {src : List ℕ} {done : ℕ} {s : State} {T : Tables} → Far src done s T → TypeFar src done T s (ruleType src s)
+pub type-far : {src : List ℕ} {done : ℕ} {s : State} {T : AllTables} → Far src done s T → TypeFar src done T s (ruleType src s)
 unfolding ruleType arrowType
 type-far {src} {done} {s} {T} f =
     on-test (TypeFar src done T s) (eqb (s .kind) 2) _ _
@@ -143,7 +144,7 @@ type-far {src} {done} {s} {T} f =
 
 -- A rule's head: sound so far with table 7 as it left it, and no symbol counted; where the reading goes on it is behind `least`, and the rule's row is one of
 -- table 7.
-pub record HeadFar (src : List ℕ) (done : ℕ) (T : Tables) (s : State) (least : ℕ) (h : Heading) : Type 0 where
+pub record HeadFar (src : List ℕ) (done : ℕ) (T : AllTables) (s : State) (least : ℕ) (h : Heading) : Type 0 where
   pub far : Far src done (h .state) (setTab T rules (h .t7))
   pub beyond : h .answer ≡ Going → least ≤ h .state .at
   pub symbols : count (h .state) symbols ≡ count s symbols
@@ -164,7 +165,7 @@ unfolding hasName
 new-name src t from to given r e = record { differ = rw (row-cell (width rules) t r 0 (omega arith), row-cell (width rules) t r 1 (omega arith)) e }
 
 -- a rule's row
-pub rule-far : {src : List ℕ} {done : ℕ} {s : State} {T : Tables} → Far src done s T → (from to : ℕ) (given : Part) → Passed src from to → Lies src given → HeadFar src done T s (s .at) (enterRule src s from to given (T .t7))
+pub rule-far : {src : List ℕ} {done : ℕ} {s : State} {T : AllTables} → Far src done s T → (from to : ℕ) (given : Part) → Passed src from to → Lies src given → HeadFar src done T s (s .at) (enterRule src s from to given (T .t7))
 unfolding enterRule
 rule-far {src} {done} {s} {T} f from to given p q =
     find-cases (λ (x : Found). HeadFar src done T s (s .at) (ruleFound x s from to given (T .t7))) src (width rules) 0 (count s rules) (T .t7) from to
@@ -178,11 +179,11 @@ rule-far {src} {done} {s} {T} f from to given p q =
       far = x .far;
       beyond = λ g. omega arith;
       symbols = push-apart s rules row (T .t7) .count symbols (λ e. omega arith);
-      row = λ g. let c = push-more s rules row (T .t7) (rw (f .ten) (omega arith)) g .counted in omega arith;
+      row = λ g. let c = push-more s rules row (T .t7) (same-low s rules _ (omega arith) (rw (f .ten) (omega arith))) g .counted in omega arith;
     })
 
 -- the head of a rule, behind its name and from it on
-module _ {src : List ℕ} {done : ℕ} {s : State} {T : Tables} (f : Far src done s T) where
+module _ {src : List ℕ} {done : ℕ} {s : State} {T : AllTables} (f : Far src done s T) where
   named-far : (j : ℕ) → s .at < j → j ≤ length src → HeadFar src done T s (s .at + 1) (namedHead src s j (T .t7))
   unfolding namedHead
   named-far j h k = go (ruleType src v .answer) (ruleType src v) (type-far w)
@@ -216,18 +217,18 @@ module _ {src : List ℕ} {done : ℕ} {s : State} {T : Tables} (f : Far src don
       go (NoName k) x = record { far = f; beyond = λ g. absurd (refused-going _ g); symbols = refl; row = λ g. absurd (refused-going _ g) }
 
 -- Rules that were read: sound so far, and the productions' ranges end behind the last symbol unless a rule was refused.
-pub record Whole (src : List ℕ) (T : Tables) (a : Answer) (s : State) : Type 0 where
+pub record Whole (src : List ℕ) (T : AllTables) (a : Answer) (s : State) : Type 0 where
   pub done : ℕ
   pub far : Far src done s T
   pub whole : Taken a → done ≡ count s symbols
 
 -- One rule: where the reading goes on it is further on.
-pub record RuleFar (src : List ℕ) (T : Tables) (at : ℕ) (a : Answer) (s : State) : Type 0 where
+pub record RuleFar (src : List ℕ) (T : AllTables) (at : ℕ) (a : Answer) (s : State) : Type 0 where
   pub read : Whole src T a s
   pub further : a ≡ Going → at < s .at
 
 -- a rule's body: the colon and the productions
-pub body-far : {src : List ℕ} {done : ℕ} {s : State} (T : Tables) → Far src done s T → done ≡ count s symbols → (row : ℕ) → row < count s rules → let o = ruleBody src s row (T .t1) (T .t8) (T .t9) in RuleFar src (filled T (o .t1) (o .t8) (o .t9)) (s .at) (o .answer) (o .state)
+pub body-far : {src : List ℕ} {done : ℕ} {s : State} (T : AllTables) → Far src done s T → done ≡ count s symbols → (row : ℕ) → row < count s rules → let o = ruleBody src s row (T .t1) (T .t8) (T .t9) in RuleFar src (filled T (o .t1) (o .t8) (o .t9)) (s .at) (o .answer) (o .state)
 unfolding ruleBody
 body-far {src} {done} {s} T f e row h = let o = passMark src s (58 ∷ []) MissingColon in go (o .answer) (o .state) (mark-far f (58 ∷ []) MissingColon)
   where
@@ -246,16 +247,16 @@ body-far {src} {done} {s} T f e row h = let o = passMark src s (58 ∷ []) Missi
     go (Refused r) u x = record { read = record { done = done; far = x .far; whole = λ t. rw (x .counts) e }; further = λ g. absurd (refused-going r g) }
 
 -- the four tables that rules fill, and the six others
-abbrev pub ruled : Tables → Ruled → Tables
+abbrev pub ruled : AllTables → Ruled → AllTables
 ruled T o = filled (setTab T rules (o .t7)) (o .t1) (o .t8) (o .t9)
 
-abbrev pub RuledFar : List ℕ → Tables → ℕ → Ruled → Type 0
+abbrev pub RuledFar : List ℕ → AllTables → ℕ → Ruled → Type 0
 RuledFar src T at o = RuleFar src (ruled T o) at (o .answer) (o .state)
 
-abbrev pub WholeFar : List ℕ → Tables → Ruled → Type 0
+abbrev pub WholeFar : List ℕ → AllTables → Ruled → Type 0
 WholeFar src T o = Whole src (ruled T o) (o .answer) (o .state)
 
-module _ {src : List ℕ} {done : ℕ} {s : State} (T : Tables) (f : Far src done s T) (e : done ≡ count s symbols) where
+module _ {src : List ℕ} {done : ℕ} {s : State} (T : AllTables) (f : Far src done s T) (e : done ≡ count s symbols) where
   -- a rule,
   pub step-far : RuledFar src T (s .at) (ruleStep src s (T .t1) (T .t7) (T .t8) (T .t9))
   unfolding ruleStep
@@ -283,13 +284,13 @@ module _ {src : List ℕ} {done : ℕ} {s : State} (T : Tables) (f : Far src don
       }
 
 -- rules under way, and with less to go
-abbrev Sofar : List ℕ → Tables → Ruled → Type 0
+abbrev Sofar : List ℕ → AllTables → Ruled → Type 0
 Sofar src T o = Far src (count (o .state) symbols) (o .state) (ruled T o)
 
-abbrev Onto : List ℕ → Tables → Ruled → Ruled → Type 0
+abbrev Onto : List ℕ → AllTables → Ruled → Ruled → Type 0
 Onto src T o p = Sofar src T p × (length src - p .state .at < length src - o .state .at)
 
-turn-far : (src : List ℕ) (T : Tables) (o : Ruled) → Sofar src T o → Either (Onto src T o) (WholeFar src T) (rulesTurn src o)
+turn-far : (src : List ℕ) (T : AllTables) (o : Ruled) → Sofar src T o → Either (Onto src T o) (WholeFar src T) (rulesTurn src o)
 unfolding rulesTurn
 turn-far src T o f = go (leb (length src) (o .state .at)) (startsAt percents src (o .state .at))
   where
@@ -307,14 +308,14 @@ turn-far src T o f = go (leb (length src) (o .state .at)) (startsAt percents src
     go false false = let p = nextRule src (o .state) (o .t1) (o .t7) (o .t8) (o .t9) in next (p .answer) p refl (next-far (ruled T o) f refl)
 
 -- Rules up to the next `%%` or the source's end.
-pub run-far : {src : List ℕ} {done : ℕ} {s : State} (T : Tables) → Far src done s T → done ≡ count s symbols → WholeFar src T (rulesRun src s (T .t1) (T .t7) (T .t8) (T .t9))
+pub run-far : {src : List ℕ} {done : ℕ} {s : State} (T : AllTables) → Far src done s T → done ≡ count s symbols → WholeFar src T (rulesRun src s (T .t1) (T .t7) (T .t8) (T .t9))
 unfolding rulesRun
 run-far {src} {done} {s} T f e =
     turns-end (Sofar src T) (WholeFar src T) (λ o. length src - o .state .at) (rulesTurn src) (turn-far src T) (suc (length src)) _ (omega arith)
     (told (λ (n : ℕ). Far src n s T) e f)
 
 -- The rules section keeps soundness so far, whatever its answer; unless it was refused, the productions' ranges end behind the last symbol.
-pub rules-far : {src : List ℕ} {done : ℕ} {s : State} (T : Tables) → Far src done s T → done ≡ count s symbols → WholeFar src T (rulesAll src s (T .t1) (T .t7) (T .t8) (T .t9))
+pub rules-far : {src : List ℕ} {done : ℕ} {s : State} (T : AllTables) → Far src done s T → done ≡ count s symbols → WholeFar src T (rulesAll src s (T .t1) (T .t7) (T .t8) (T .t9))
 unfolding rulesAll
 rules-far {src} {done} {s} T f e = let o = passMark src s percents UnknownDeclaration in go (o .answer) (o .state) (mark-far f percents UnknownDeclaration)
   where

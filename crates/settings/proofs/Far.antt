@@ -32,7 +32,7 @@ use Rattle.grammar.specs.declared.State.{State}
 use Rattle.grammar.specs.declared.Gap.{Gap}
 use Rattle.grammar.specs.declared.Gap.the-variants.{GapTo, GapRefused}
 use Rattle.grammar.specs.State.{Out1, Passed, withSingles, gapAt, Gapped}
-use Rattle.grammar.specs.Sound.{Tables, setTab, Lies, LiesExpected, Lie, Far}
+use Rattle.grammar.specs.Sound.{AllTables, setTab, Lies, LiesExpected, Lie, Far}
 use Rattle.grammar.proofs.Far.{far-singles, far-actiontype}
 use Rattle.grammar.proofs.Kept.{gapped, Far1, Held, repeat-held, past-far, behind1-far}
 use Rattle.settings.specs.Singles.{withStart, withExpected, expectedOf, withParam, withGenerics}
@@ -43,7 +43,7 @@ pub line-end : (src : List ℕ) (i : ℕ) → i ≤ length src → (i ≤ lineEn
 unfolding lineEndAt
 line-end src i h = let x = run-is (inClass LineByte) src i h in (x .onward, x .inside)
 
-module _ {src : List ℕ} {done : ℕ} {s : State} {T : Tables} (f : Far src done s T) where
+module _ {src : List ℕ} {done : ℕ} {s : State} {T : AllTables} (f : Far src done s T) where
   -- `%start`
   pub start-held : (i j : ℕ) → Passed src i j → Held src done T repeats s (startNamed s i j (T .t10))
   unfolding startNamed

@@ -211,6 +211,7 @@ pub fn actiontype_named(s: State, i: u32, j: u32, t10: &mut [u32]) -> Step
     match p {
         Part::Absent => {
             let c = s.counts;
+            let x = s.posix;
             let g = s.singles;
             Step {
                 answer: Answer::Going,
@@ -219,6 +220,7 @@ pub fn actiontype_named(s: State, i: u32, j: u32, t10: &mut [u32]) -> Step
                     at: s.at,
                     level: s.level,
                     counts: c,
+                    posix: x,
                     singles: g,
                     actiontype: Part::At(i, j),
                 },

@@ -82,7 +82,7 @@ unfolding tableTest
 table-iff src c k n t h =
     Iff·trans
     (both-iff (le-iff n 4294967295) (both-iff (le-iff (n * width k) (length t)) (both-iff (clean-iff (width k) n t)
-    (both-iff (below-iff (rowTest src (countAt c rules) k t) (λ (r : ℕ). each src (soundView c) k (rowAt (width k) t r)) (λ r. each-iff src t r (soundView c) (λ m. tt) (λ _ a b. tt) k) n)
+    (both-iff (below-iff (rowTest src (countAt c rules) k t) (λ (r : ℕ). each src (soundView c) k (rowAt (width k) t r)) (λ r. each-iff src t r (soundView c) (λ m. tt) (λ _ a b. tt) k h) n)
     (names-iff src k n t h)))))
     (λ x. record { fits = x .1 .0; low = x .0; clean = x .1 .1 .0; each = x .1 .1 .1 .0; pairs = x .1 .1 .1 .1 }, λ R. (R .low, (R .fits, (R .clean, (R .each, R .pairs)))))
 

@@ -32,11 +32,14 @@ module _ (k : ℕ) where
     beyond : k ≡ suc (suc (suc (suc (suc (suc (suc (suc (suc (suc (k - 10))))))))))
     beyond = omega arith
 
-    pub width-past : 1 ≡ width k
-    width-past = rw beyond
-
     pub row-past : (src t : List ℕ) (n r : ℕ) → true ≡ rowTest src n k t r
     row-past src t n r = rw beyond
+
+    pub past-thirteen : (k ≡ 10 → ⊥) → (k ≡ 11 → ⊥) → (k ≡ 12 → ⊥) → 13 ≤ k
+    past-thirteen a b c = omega arith
+
+  pub width-past : 13 ≤ k → 1 ≡ width k
+  width-past h = let e : k ≡ suc (suc (suc (suc (suc (suc (suc (suc (suc (suc (suc (suc (suc (k - 13))))))))))))) = omega arith in rw e
 
 -- zeros, cell by cell
 module _ (t : List ℕ) (i : ℕ) (r : Bool) (inv : zerosFrom t i ≡ r) where

@@ -98,15 +98,15 @@ module _ (src t : List ℕ) (r : ℕ) where
         (λ x. record { rule = x .0 .0 .0; span = x .0 .0 .1; precedence = x .0 .1; body = x .1 }, λ y. (((y .rule, y .span), y .precedence), y .body))
 
     -- each row as its table's test tells it
-    pub each-iff : ((n : ℕ) → v .low n) → ((src : List ℕ) (a b : ℕ) → v .whole src a b) → (k : ℕ) → (rowTest src (v .rules) k t r ≡ true) ↔ each src v k (rowAt (width k) t r)
-    each-iff free any zero = token-iff
-    each-iff free any (suc zero) = prec-iff free
-    each-iff free any (suc (suc zero)) = name-iff
-    each-iff free any (suc (suc (suc zero))) = name-iff
-    each-iff free any (suc (suc (suc (suc zero)))) = epp-iff v any
-    each-iff free any (suc (suc (suc (suc (suc zero))))) = kind-iff (width unused) (omega arith)
-    each-iff free any (suc (suc (suc (suc (suc (suc zero)))))) = rule-iff
-    each-iff free any (suc (suc (suc (suc (suc (suc (suc zero))))))) = production-iff
-    each-iff free any (suc (suc (suc (suc (suc (suc (suc (suc zero)))))))) = kind-iff (width symbols) (omega arith)
-    each-iff free any (suc (suc (suc (suc (suc (suc (suc (suc (suc zero))))))))) = repeat-iff
-    each-iff free any (suc (suc (suc (suc (suc (suc (suc (suc (suc (suc k)))))))))) = (λ e. tt, λ x. refl)
+    pub each-iff : ((n : ℕ) → v .low n) → ((src : List ℕ) (a b : ℕ) → v .whole src a b) → (k : ℕ) → k < 10 → (rowTest src (v .rules) k t r ≡ true) ↔ each src v k (rowAt (width k) t r)
+    each-iff free any zero h = token-iff
+    each-iff free any (suc zero) h = prec-iff free
+    each-iff free any (suc (suc zero)) h = name-iff
+    each-iff free any (suc (suc (suc zero))) h = name-iff
+    each-iff free any (suc (suc (suc (suc zero)))) h = epp-iff v any
+    each-iff free any (suc (suc (suc (suc (suc zero))))) h = kind-iff (width unused) (omega arith)
+    each-iff free any (suc (suc (suc (suc (suc (suc zero)))))) h = rule-iff
+    each-iff free any (suc (suc (suc (suc (suc (suc (suc zero))))))) h = production-iff
+    each-iff free any (suc (suc (suc (suc (suc (suc (suc (suc zero)))))))) h = kind-iff (width symbols) (omega arith)
+    each-iff free any (suc (suc (suc (suc (suc (suc (suc (suc (suc zero))))))))) h = repeat-iff
+    each-iff free any (suc (suc (suc (suc (suc (suc (suc (suc (suc (suc k)))))))))) h = absurd (omega arith)

@@ -227,6 +227,9 @@ pub fn width_of(k: u8) -> u32
         7 => tables::PRODUCTION_WIDTH,
         8 => tables::SYMBOL_WIDTH,
         9 => tables::REPEAT_WIDTH,
+        10 => tables::TAG_WIDTH,
+        11 => tables::TOKEN_NUMBER_WIDTH,
+        12 => tables::BODY_WIDTH,
         _ => 1,
     }
 }

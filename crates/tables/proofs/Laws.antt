@@ -16,7 +16,7 @@ use lib.Dec.{leb}
 use Rattle.scan.specs.Table.{same}
 use Rattle.scan.proofs.Bytes.{le-or-lt, within-true}
 use Rattle.scan.proofs.Table.{same-iff}
-use Rattle.tables.specs.Layout.{unused, productions, symbols, repeats, rowPlace}
+use Rattle.tables.specs.Layout.{unused, productions, symbols, repeats, bodies, rowPlace, posixFrom, tableNumber}
 use Rattle.tables.specs.Table.{cell, setCell, put, room, Added, added, addRow, lies, samePart, hasName, firstRow, findName, flag, enterToken}
 use Rattle.tables.specs.declared.Found.{Found}
 use Rattle.tables.specs.declared.Found.the-variants.{RowAt, NoRow}
@@ -196,16 +196,26 @@ module _ (src : List ℕ) (n a b : ℕ) (d : Bool) (t : List ℕ) (f : Found) (e
 pub past-row : (row : List ℕ) (k : ℕ) → length row ≤ k → 0 ≡ getD row k 0
 past-row row k h = sym (List·getD-eq-default row 0 {n = k} h)
 
--- and its place begins with its first cell but for four tables
-pub place-first : (k : ℕ) → (k ≡ unused → ⊥) → (k ≡ productions → ⊥) → (k ≡ symbols → ⊥) → (k ≡ repeats → ⊥) → 0 ≡ rowPlace k
-place-first zero a b c d = refl
-place-first (suc zero) a b c d = refl
-place-first (suc (suc zero)) a b c d = refl
-place-first (suc (suc (suc zero))) a b c d = refl
-place-first (suc (suc (suc (suc zero)))) a b c d = refl
-place-first (suc (suc (suc (suc (suc zero))))) a b c d = absurd (a refl)
-place-first (suc (suc (suc (suc (suc (suc zero)))))) a b c d = refl
-place-first (suc (suc (suc (suc (suc (suc (suc zero))))))) a b c d = absurd (b refl)
-place-first (suc (suc (suc (suc (suc (suc (suc (suc zero)))))))) a b c d = absurd (c refl)
-place-first (suc (suc (suc (suc (suc (suc (suc (suc (suc zero))))))))) a b c d = absurd (d refl)
-place-first (suc (suc (suc (suc (suc (suc (suc (suc (suc (suc k)))))))))) a b c d = refl
+-- and its place begins with its first cell but for five tables
+pub place-first : (k : ℕ) → (k ≡ unused → ⊥) → (k ≡ productions → ⊥) → (k ≡ symbols → ⊥) → (k ≡ repeats → ⊥) → (k ≡ bodies → ⊥) → 0 ≡ rowPlace k
+place-first zero a b c d e = refl
+place-first (suc zero) a b c d e = refl
+place-first (suc (suc zero)) a b c d e = refl
+place-first (suc (suc (suc zero))) a b c d e = refl
+place-first (suc (suc (suc (suc zero)))) a b c d e = refl
+place-first (suc (suc (suc (suc (suc zero))))) a b c d e = absurd (a refl)
+place-first (suc (suc (suc (suc (suc (suc zero)))))) a b c d e = refl
+place-first (suc (suc (suc (suc (suc (suc (suc zero))))))) a b c d e = absurd (b refl)
+place-first (suc (suc (suc (suc (suc (suc (suc (suc zero)))))))) a b c d e = absurd (c refl)
+place-first (suc (suc (suc (suc (suc (suc (suc (suc (suc zero))))))))) a b c d e = absurd (d refl)
+place-first (suc (suc (suc (suc (suc (suc (suc (suc (suc (suc zero)))))))))) a b c d e = refl
+place-first (suc (suc (suc (suc (suc (suc (suc (suc (suc (suc (suc zero))))))))))) a b c d e = refl
+place-first (suc (suc (suc (suc (suc (suc (suc (suc (suc (suc (suc (suc zero)))))))))))) a b c d e = absurd (e refl)
+place-first (suc (suc (suc (suc (suc (suc (suc (suc (suc (suc (suc (suc (suc k))))))))))))) a b c d e = refl
+
+-- the number of a table of the ten, and of one behind them
+pub number-low : (k : ℕ) → k < posixFrom → k + 1 ≡ tableNumber k
+number-low k h = rw (lt-ltb k posixFrom h, tableNumber)
+
+pub number-high : (k : ℕ) → posixFrom ≤ k → k + 5 ≡ tableNumber k
+number-high k h = rw (le-ltb k posixFrom h, tableNumber)

@@ -3,10 +3,10 @@
 ghost use mathlib.Core.Path.{_≡_};
 ghost use lib.ListN.{getD};
 ghost use Prim.Native.Nat.{_≤_};
-ghost use Rattle.tables.specs.Layout.{rowPlace};
+ghost use Rattle.tables.specs.Layout.{rowPlace, tableNumber};
 ghost use Rattle.tables.specs.Table.{Added, addRow, zeroed, cell, setCell, lies, samePart, findName};
 
-// The tables by index: table 1 is at 0.
+// The tables by index: table 1 is at 0; behind the ten are those of kind 4, tables 15 to 17.
 pub const TOKENS: u8 = 0;
 
 pub const PRECEDENCES: u8 = 1;
@@ -27,6 +27,14 @@ pub const SYMBOLS: u8 = 8;
 
 pub const REPEATS: u8 = 9;
 
+pub const POSIX_FROM: u8 = 10;
+
+pub const TAGS: u8 = 10;
+
+pub const TOKEN_NUMBERS: u8 = 11;
+
+pub const BODIES: u8 = 12;
+
 // The widths of their rows.
 pub const TOKEN_WIDTH: u32 = 3;
 
@@ -45,6 +53,12 @@ pub const PRODUCTION_WIDTH: u32 = 13;
 pub const SYMBOL_WIDTH: u32 = 4;
 
 pub const REPEAT_WIDTH: u32 = 5;
+
+pub const TAG_WIDTH: u32 = 4;
+
+pub const TOKEN_NUMBER_WIDTH: u32 = 3;
+
+pub const BODY_WIDTH: u32 = 3;
 
 // Table 14, the faults of a reading: number, from, to.
 pub const FAULT_WIDTH: u32 = 3;
@@ -90,6 +104,8 @@ pub const KNOWN_ROW: u32 = 3;
 pub const FIRST_PLACE: u32 = 1;
 
 pub const REPEATED_PLACE: u32 = 3;
+
+pub const BODY_PLACE: u32 = 1;
 
 // The row that a symbol has where there is no such rule or token.
 pub const NO_ROW: u32 = 4294967295;
@@ -155,8 +171,18 @@ pub fn cell_in_row(row: &[u32], k: u32) -> u32
     if i < row.len() { row[i] } else { 0 }
 }
 
+// The number of the table that has an index.
+pub fn table_number(k: u8) -> u32
+    ensures { λ r. ⌜ r ≡ tableNumber k ⌝ }
+{
+    if k < POSIX_FROM {
+        return k as u32 + 1;
+    }
+    k as u32 + 5
+}
+
 // The cell where the place of a row begins, which a refusal for want of room gives: behind the kind in tables 6 and 9, behind the rule's row in table 8, the
-// repeated place in table 10.
+// repeated place in table 10, behind the sort in table 17.
 pub fn row_place(k: u8) -> u32
     ensures { λ r. ⌜ r ≡ rowPlace k ⌝ }
     ensures { λ r. ⌜ r ≤ 3 ⌝ }
@@ -166,6 +192,7 @@ pub fn row_place(k: u8) -> u32
         7 => FROM,
         8 => 1,
         9 => REPEATED_PLACE,
+        12 => BODY_PLACE,
         _ => 0,
     }
 }

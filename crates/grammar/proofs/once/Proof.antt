@@ -1,21 +1,26 @@
 -- `grammar::once` meets its contract: a row that is found makes a repeat, else there is a row more, and its finder follows. Assumes nothing.
+use mathlib.Core.Path.{_∙_}
 use native.Mathlib.Omega.{arith}
 use denote.Ref.{now}
 use borrow.Author.Needs.{needs}
 use Rattle.finder.proofs.Laws.{grown-none}
+use Rattle.grammar.proofs.Counting.{count-low}
 use Rattle.grammar.proofs.Steps.{once-repeat, once-new, name-new}
 use Rattle.grammar.proofs.Spares.{tracked-repeated}
 use Rattle.grammar.proofs.once.Statement.{statement}
 use Rattle.grammar.proofs.once.Tie as tie
 
 sought : tie.Need-find-requires
-sought c κs = rw (c .before .before .before .before .count-of .ensures) (c .before .before .before .before .before .before .before .before .before .before .pre .1 .held)
+sought c κs =
+    let p = c .before .before .before .before .before .before .before .before .before .before in
+    let l = p .pre .0 .table in
+    rw (c .before .before .before .before .count-of .ensures ∙ count-low (p .args .s) (p .args .k) (omega arith)) (p .pre .1 .held)
 
 asks : tie.Need-push-entered-requires
 asks c κs = (
   c .before .before .before .before .before .before .before .before .before .before .before .before .before .before .before .pre .0,
   c .before .before .before .before .before .before .before .before .before .before .before .before .before .before .before .pre .1,
-  name-new _ (c .before .before .before .before .before .before .before .before .before .before .before .before .before .before .before .args .s) _ _ _ _ _ _ (now (c .before .before .before .before .before .before .before .before .before .before .before .before .before .before .before .args .row)) _ _ (c .before .before .before .before .before .before .before .before .before .count-of .ensures) (c .before .before .before .before .before .before .before .before .cell-in-row .ensures) (c .before .before .before .before .before .before .before .cell-in-row2 .ensures) (c .before .before .before .before .find .ensures) (c .before .before .enum-told .given .1),
+  name-new _ (c .before .before .before .before .before .before .before .before .before .before .before .before .before .before .before .args .s) (c .before .before .before .before .before .before .before .before .before .before .before .before .before .before .before .args .k) _ _ _ _ _ (now (c .before .before .before .before .before .before .before .before .before .before .before .before .before .before .before .args .row)) _ _ (c .before .before .before .before .before .before .before .before .before .count-of .ensures) (c .before .before .before .before .before .before .before .before .cell-in-row .ensures) (c .before .before .before .before .before .before .before .cell-in-row2 .ensures) (c .before .before .before .before .find .ensures) (c .before .before .enum-told .given .1),
 )
 
 repeated : tie.Need-returns

@@ -150,9 +150,36 @@ tried-15 p = first-miss _ _ _ _ _ _ (p .before .before .before .starts14 .ensure
 found-15 : tie.Need-returns-15
 found-15 c = let p = c .before .before in seen-placed _ _ _ (start-15 p .pre) _ (c .at-end15 .ensures ∙ first-hit _ _ _ _ _ _ (p .starts15 .ensures) (c .before .if15 .taken) ∙ tried-15 p)
 
+abbrev start-16 : tie.After-starts16 → tie.Start
+start-16 p = start-15 (p .before .before .before)
+
+tried-16 : (p : tie.After-starts16) → Tried (start-16 p) (drop 15 keywords)
+tried-16 p = first-miss _ _ _ _ _ _ (p .before .before .before .starts15 .ensures) (p .before .before .if15 .left) ∙ tried-15 (p .before .before .before)
+
+found-16 : tie.Need-returns-16
+found-16 c = let p = c .before .before in seen-placed _ _ _ (start-16 p .pre) _ (c .at-end16 .ensures ∙ first-hit _ _ _ _ _ _ (p .starts16 .ensures) (c .before .if16 .taken) ∙ tried-16 p)
+
+abbrev start-17 : tie.After-starts17 → tie.Start
+start-17 p = start-16 (p .before .before .before)
+
+tried-17 : (p : tie.After-starts17) → Tried (start-17 p) (drop 16 keywords)
+tried-17 p = first-miss _ _ _ _ _ _ (p .before .before .before .starts16 .ensures) (p .before .before .if16 .left) ∙ tried-16 (p .before .before .before)
+
+found-17 : tie.Need-returns-17
+found-17 c = let p = c .before .before in seen-placed _ _ _ (start-17 p .pre) _ (c .at-end17 .ensures ∙ first-hit _ _ _ _ _ _ (p .starts17 .ensures) (c .before .if17 .taken) ∙ tried-17 p)
+
+abbrev start-18 : tie.After-starts18 → tie.Start
+start-18 p = start-17 (p .before .before .before)
+
+tried-18 : (p : tie.After-starts18) → Tried (start-18 p) (drop 17 keywords)
+tried-18 p = first-miss _ _ _ _ _ _ (p .before .before .before .starts17 .ensures) (p .before .before .if17 .left) ∙ tried-17 (p .before .before .before)
+
+found-18 : tie.Need-returns-18
+found-18 c = let p = c .before .before in seen-placed _ _ _ (start-18 p .pre) _ (c .at-end18 .ensures ∙ first-hit _ _ _ _ _ _ (p .starts18 .ensures) (c .before .if18 .taken) ∙ tried-18 p)
+
 -- the answer where none stands here
-none : tie.Need-returns-16
-none c = let p = c .before .before in seen-placed _ _ _ (start-15 p .pre) _ (c .at-end16 .ensures ∙ first-none _ _ _ ∙ first-miss _ _ _ _ _ _ (p .starts15 .ensures) (c .before .if15 .left) ∙ tried-15 p)
+none : tie.Need-returns-19
+none c = let p = c .before .before in seen-placed _ _ _ (start-18 p .pre) _ (c .at-end19 .ensures ∙ first-none _ _ _ ∙ first-miss _ _ _ _ _ _ (p .starts18 .ensures) (c .before .if18 .left) ∙ tried-18 p)
 
 pub look-spec : {M : Type 1} → statement M
 look-spec =
@@ -233,5 +260,20 @@ look-spec =
     (λ c. let l = start-15 (c .before) in omega (arith, l .pre, l .good))
     (λ c κs. tt)
     found-15
+    (λ c. refl)
+    (λ c κs. tt)
+    (λ c. let l = start-16 (c .before) in omega (arith, l .pre, l .good))
+    (λ c κs. tt)
+    found-16
+    (λ c. refl)
+    (λ c κs. tt)
+    (λ c. let l = start-17 (c .before) in omega (arith, l .pre, l .good))
+    (λ c κs. tt)
+    found-17
+    (λ c. refl)
+    (λ c κs. tt)
+    (λ c. let l = start-18 (c .before) in omega (arith, l .pre, l .good))
+    (λ c κs. tt)
+    found-18
     (λ c κs. tt)
     none)

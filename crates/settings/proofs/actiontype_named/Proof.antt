@@ -12,6 +12,6 @@ actiontype-named-spec =
     (λ c. search needs)
     (λ c. search needs)
     (λ c κs. search needs)
-    (λ c. (actiontype-first _ _ _ _ (c .before .before .enum-told .given .1), refl))
+    (λ c. (actiontype-first _ _ _ _ (c .before .before .before .enum-told .given .1), refl))
     (λ c. search needs)
     (λ c. let p = c .before .before in (actiontype-again _ _ _ _ _ _ _ (p .before .before .before .p .given .1) (p .list-repeat .ensures .0), p .list-repeat .ensures .1)))

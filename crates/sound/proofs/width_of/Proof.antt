@@ -1,6 +1,6 @@
 -- `sound::width_of` meets its contract: each arm is its entry of the list. Assumes nothing.
 use borrow.Author.Needs.{needs}
-use Rattle.sound.proofs.Laws.{past-ten, width-past}
+use Rattle.sound.proofs.Laws.{past-ten, past-thirteen, width-past}
 use Rattle.sound.proofs.width_of.Statement.{statement}
 use Rattle.sound.proofs.width_of.Tie as tie
 
@@ -18,4 +18,7 @@ width-of-spec =
     (λ c. search needs)
     (λ c. search needs)
     (λ c. search needs)
-    (λ c. search (past-ten, width-past, needs)))
+    (λ c. search needs)
+    (λ c. search needs)
+    (λ c. search needs)
+    (λ c. search (past-ten, past-thirteen, width-past, needs)))

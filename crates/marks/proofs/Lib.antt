@@ -1,0 +1,4 @@
+pub mod Laws
+pub mod Far
+pub mod Appended
+pub mod Worded
