@@ -23,6 +23,10 @@ pub fn prune_input() {
     let mut t8 = [0u32; 13312];
     let mut t9 = [0u32; 4096];
     let mut t10 = [0u32; 5120];
+    // No kind but 4 fills tables 15 to 17.
+    let mut t15 = [0u32; 0];
+    let mut t16 = [0u32; 0];
+    let mut t17 = [0u32; 0];
     let mut i1 = [0u32; 2048];
     let mut i7 = [0u32; 2048];
     let mut work = [0u32; 64];
@@ -42,6 +46,9 @@ pub fn prune_input() {
         &mut t10,
         &mut i1,
         &mut i7,
+        &mut t15,
+        &mut t16,
+        &mut t17,
     );
     let j = r.answer;
     let c = r.counts;

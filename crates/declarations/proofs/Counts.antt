@@ -1,6 +1,6 @@
--- A list of tokens leaves the count of every table but 1; an avoid or implicit list that of every table but 1, its own and 10. Assumes nothing.
+-- Lists to the next `%` leave the count of every table of the ten but their own; an avoid or implicit list that of every table but 1, its own and 10. Assumes nothing.
 use Prim.Native.Nat.{ℕ, suc}
-use mathlib.Core.Path.{_≡_, refl}
+use mathlib.Core.Path.{_≡_, refl, _∙_}
 use mathlib.Core.List.{List}
 use mathlib.Core.Bool.{Bool, true, false}
 use lib.Dec.{leb}
@@ -9,54 +9,96 @@ use Rattle.scan.proofs.Loop.{Either, turns-keep}
 use Rattle.words.specs.declared.Token.{Token}
 use Rattle.words.specs.declared.Token.the-variants.{Found, NoToken}
 use Rattle.words.specs.Words.{tokenAt}
-use Rattle.tables.specs.Layout.{tokens, avoided, repeats, width}
+use Rattle.tables.specs.Layout.{tokens, avoided, unused, repeats, width}
 use Rattle.grammar.specs.declared.Answer.{Answer}
 use Rattle.grammar.specs.declared.Answer.the-variants.{Going, Done, Refused}
 use Rattle.grammar.specs.declared.Counts.{Counts}
 use Rattle.grammar.specs.declared.State.{State}
+use Rattle.grammar.specs.declared.Part.{Part}
 use Rattle.grammar.specs.declared.Gap.{Gap}
 use Rattle.grammar.specs.declared.Gap.the-variants.{GapTo, GapRefused}
 use Rattle.grammar.specs.declared.Repeat.{Repeat}
-use Rattle.grammar.specs.Cells.{nameCells}
-use Rattle.grammar.specs.State.{Out1, Out3, gapAt, enterStep, onceStep}
+use Rattle.grammar.specs.Cells.{nameCells, kindCells}
+use Rattle.grammar.specs.State.{Out3, withAt, gapAt, pushRow, enterStep, onceStep}
 use Rattle.grammar.proofs.Kept.{onward-keep}
-use Rattle.grammar.proofs.Spares.{Spares, spares-none, spares-on, spares-enter, spares-once, spares-behind}
-use Rattle.lists.specs.Lists.{tokenFound, tokenItem, listItem, ends, afterItem, listTurn, percentList, listFrom, listDecl}
+use Rattle.grammar.proofs.Spares.{Spares, spares-none, spares-on, spares-push, spares-enter, spares-once, spares-behind}
+use Rattle.marks.specs.Marks.{Leading, tagRow}
+use Rattle.marks.proofs.Laws.{lead-counts, tag-counts, behind-counts}
+use Rattle.lists.specs.declared.Spelling.{Spelling}
+use Rattle.lists.specs.declared.Spelling.the-variants.{Spelled, Unspelled}
+use Rattle.lists.specs.declared.WordList.{WordList}
+use Rattle.lists.specs.declared.WordList.the-variants.{TokenList, UnusedList, TypeList}
+use Rattle.lists.specs.Lists.{tokenFound, tokenItem, spelledAt, unusedRow, unusedSpelled, unusedItem, typeRow, typeSpelled, typeItem, listItem, ends, afterItem, listTurn, percentList, leadList, listLed, listBody, listFrom, listDecl}
 use Rattle.lines.specs.Avoided.{avoidEntered, avoidNamed, avoidFound, avoidItem, avoidEnd, avoidTurn, avoidList, avoidFrom, avoidDecl}
 
-module _ (k : ℕ) (first : tokens ≡ k → ⊥) (src : List ℕ) where
-  -- a list of tokens
-  token : (s : State) (t : List ℕ) → Spares k (s .counts) (tokenItem src s t .state .counts)
-  unfolding tokenItem
-  token s t = go (tokenAt src (s .at))
+-- a table that a list does not fill: of the ten it fills 1, 6 or none
+abbrev pub Beside : WordList → ℕ → Type 0
+Beside TokenList k = tokens ≡ k → ⊥
+Beside UnusedList k = unused ≡ k → ⊥
+Beside TypeList k = Unit {0}
+
+module _ (k : ℕ) (src : List ℕ) where
+  -- a list to the next `%`
+  listed : (what : WordList) → Beside what k → (s : State) (tag : Part) (t t15 t16 : List ℕ) → Spares k (s .counts) (listItem src s what tag t t15 t16 .state .counts)
+  unfolding tokenItem unusedItem unusedRow typeItem typeRow tagRow
+  listed TokenList other s tag t t15 t16 = go (tokenAt src (s .at))
     where
-      go : (x : Token) → Spares k (s .counts) (tokenFound x src s t .state .counts)
+      go : (x : Token) → Spares k (s .counts) (tokenFound x src s tag t t15 t16 .state .counts)
       go (Found p end q) =
           let o = enterStep src s (p .from) (p .to) true t in
-          spares-behind k src false end (o .answer) (o .state) (spares-enter k src s (p .from) (p .to) true t first)
+          let g = tagRow (o .answer) (o .state) tag (p .from) (p .to) t15 in
+          rw (behind-counts src false (p .from) (p .to) end (g .answer) (g .state) t16 ∙ tag-counts (o .answer) (o .state) tag (p .from) (p .to) t15)
+          (spares-enter k src s (p .from) (p .to) true t other)
       go (NoToken i) = spares-none k (s .counts)
+  listed UnusedList other s tag t t15 t16 = go (spelledAt src (s .at))
+    where
+      go : (x : Spelling) → Spares k (s .counts) (unusedSpelled x src s t .state .counts)
+      go (Spelled kind from to end) =
+          let o = pushRow s unused (kindCells kind from to) t in
+          spares-behind k src false end (o .answer) (o .state) (spares-push k s unused (kindCells kind from to) t other)
+      go (Unspelled i) = spares-none k (s .counts)
+  listed TypeList other s tag t t15 t16 = go (spelledAt src (s .at))
+    where
+      go : (x : Spelling) → Spares k (s .counts) (typeSpelled x src s tag t15 .state .counts)
+      go (Spelled kind from to end) =
+          let o = tagRow Going s tag from to t15 in
+          spares-behind k src false end (o .answer) (o .state) (rw (tag-counts Going s tag from to t15) (spares-none k (s .counts)))
+      go (Unspelled i) = spares-none k (s .counts)
 
-  abbrev SinceOne : Counts → Out1 → Type 0
-  SinceOne c o = Spares k c (o .state .counts)
+  abbrev Since : Counts → Out3 → Type 0
+  Since c o = Spares k c (o .state .counts)
 
-  tokens-turn : (c : Counts) (o : Out1) → SinceOne c o → Either (SinceOne c) (SinceOne c) (listTurn src true o)
+  list-turn : (c : Counts) (what : WordList) → Beside what k → (tag : Part) (o : Out3) → Since c o → Either (Since c) (Since c) (listTurn src what tag o)
   unfolding listTurn
-  tokens-turn c o x = go (ends src (o .state .at))
+  list-turn c what other tag o x = go (ends src (o .state .at))
     where
-      go : (b : Bool) → Either (SinceOne c) (SinceOne c) (afterItem b o (listItem src (o .state) true (o .a)))
-      go true = x
-      go false = onward-keep (SinceOne c) (listItem src (o .state) true (o .a) .answer) (listItem src (o .state) true (o .a)) (spares-on x (token (o .state) (o .a)))
+      next : Out3
+      next = listItem src (o .state) what tag (o .a) (o .b) (o .c)
 
-  pub tokens-spare : (s : State) (t : List ℕ) → Spares k (s .counts) (listDecl src s true t .state .counts)
-  unfolding listDecl percentList
-  tokens-spare s t = go (gapAt (s .kind) false src (s .at))
+      go : (b : Bool) → Either (Since c) (Since c) (afterItem b o (listItem src (o .state) what tag (o .a) (o .b) (o .c)))
+      go true = x
+      go false = onward-keep (Since c) (next .answer) next (spares-on x (listed what other (o .state) tag (o .a) (o .b) (o .c)))
+
+  pub list-spares : (what : WordList) → Beside what k → (s : State) (t t15 t16 : List ℕ) → Spares k (s .counts) (listDecl src s what t t15 t16 .state .counts)
+  unfolding listDecl listBody percentList
+  list-spares what other s t t15 t16 = gap (gapAt (s .kind) false src (s .at))
     where
-      go : (g : Gap) → Spares k (s .counts) (listFrom g src s true t .state .counts)
-      go (GapTo i n) = turns-keep (SinceOne (s .counts)) (listTurn src true) (tokens-turn (s .counts)) (suc (length src)) _ (spares-none k (s .counts))
-      go (GapRefused f) = spares-none k (s .counts)
+      led : (w : WordList) (u : State) → leadList w src u .state .counts ≡ u .counts
+      led TokenList u = lead-counts src u false false
+      led UnusedList u = refl
+      led TypeList u = lead-counts src u true false
+
+      body : (a : Answer) (l : Leading) → l .state .counts ≡ s .counts → Spares k (s .counts) (listLed a l src what t t15 t16 .state .counts)
+      body Going l e = turns-keep (Since (s .counts)) (listTurn src what (l .tag)) (list-turn (s .counts) what other (l .tag)) (suc (length src)) _ (rw e (spares-none k (s .counts)))
+      body Done l e = rw e (spares-none k (s .counts))
+      body (Refused f) l e = rw e (spares-none k (s .counts))
+
+      gap : (g : Gap) → Spares k (s .counts) (listFrom g src s what t t15 t16 .state .counts)
+      gap (GapTo i n) = body (leadList what src (withAt s i) .answer) (leadList what src (withAt s i)) (led what (withAt s i))
+      gap (GapRefused f) = spares-none k (s .counts)
 
   -- an avoid or implicit list
-  module _ (tenth : repeats ≡ k → ⊥) (j : ℕ) (other : j ≡ k → ⊥) (what : Repeat) where
+  module _ (first : tokens ≡ k → ⊥) (tenth : repeats ≡ k → ⊥) (j : ℕ) (other : j ≡ k → ⊥) (what : Repeat) where
     named : (s : State) (from to end : ℕ) (t1 t t10 : List ℕ) → Spares k (s .counts) (avoidNamed src s j what from to end t1 t t10 .state .counts)
     unfolding avoidNamed
     named s from to end t1 t t10 = go (enterStep src s from to false t1 .answer)
@@ -80,14 +122,11 @@ module _ (k : ℕ) (first : tokens ≡ k → ⊥) (src : List ℕ) where
         go (Found p end q) = named s (p .from) (p .to) end t1 t t10
         go (NoToken i) = spares-none k (s .counts)
 
-    abbrev SinceThree : Counts → Out3 → Type 0
-    SinceThree c o = Spares k c (o .state .counts)
-
-    avoid-turn : (c : Counts) (o : Out3) → SinceThree c o → Either (SinceThree c) (SinceThree c) (avoidTurn src j what o)
+    avoid-turn : (c : Counts) (o : Out3) → Since c o → Either (Since c) (Since c) (avoidTurn src j what o)
     unfolding avoidTurn
     avoid-turn c o x = next (avoidItem src (o .state) j what (o .a) (o .b) (o .c) .answer) (avoidItem src (o .state) j what (o .a) (o .b) (o .c)) (spares-on x (avoided-item (o .state) (o .a) (o .b) (o .c)))
       where
-        next : (a : Answer) (p : Out3) → SinceThree c p → Either (SinceThree c) (SinceThree c) (avoidEnd a p)
+        next : (a : Answer) (p : Out3) → Since c p → Either (Since c) (Since c) (avoidEnd a p)
         next Going p y = y
         next Done p y = y
         next (Refused f) p y = y
@@ -97,7 +136,7 @@ module _ (k : ℕ) (first : tokens ≡ k → ⊥) (src : List ℕ) where
     avoid-spares s t1 t t10 = by (leb (length src) (s .at)) refl
       where
         go : (g : Gap) → Spares k (s .counts) (avoidFrom g src s j what t1 t t10 .state .counts)
-        go (GapTo i n) = turns-keep (SinceThree (s .counts)) (avoidTurn src j what) (avoid-turn (s .counts)) (suc (length src)) _ (spares-none k (s .counts))
+        go (GapTo i n) = turns-keep (Since (s .counts)) (avoidTurn src j what) (avoid-turn (s .counts)) (suc (length src)) _ (spares-none k (s .counts))
         go (GapRefused f) = spares-none k (s .counts)
 
         by : (b : Bool) → leb (length src) (s .at) ≡ b → Spares k (s .counts) (avoidDecl src s j what t1 t t10 .state .counts)

@@ -71,3 +71,6 @@ module _ {src : List ℕ} {c d : Counts} {t2 t3 t4 t5 fx : List ℕ} (G : Givens
 -- and where table 1 is left too
 pub both-spared : {src : List ℕ} {c d : Counts} {t1 t2 t3 t4 t5 ix fx : List ℕ} → ((k : ℕ) → k < 5 → Spares k c d) → Tokens src c t1 ix × Givens src c t2 t3 t4 t5 fx → Tokens src d t1 ix × Givens src d t2 t3 t4 t5 fx
 both-spared f P = (spared (f tokens (omega arith)) (P .0), givens-spared (P .1) (λ k l m. f k m))
+
+pub both-counted : {src : List ℕ} {c d : Counts} {t1 t2 t3 t4 t5 ix fx : List ℕ} → d ≡ c → Tokens src c t1 ix × Givens src c t2 t3 t4 t5 fx → Tokens src d t1 ix × Givens src d t2 t3 t4 t5 fx
+both-counted e P = rw e P

@@ -4,3 +4,4 @@ pub mod Levels
 pub mod Counts
 pub mod Givens
 pub mod Spares
+pub mod Posix

@@ -2,25 +2,25 @@
 use Prim.Native.Nat.{ℕ, _<_}
 use mathlib.Core.Path.{_≡_, ap}
 use mathlib.Core.List.{List}
-use mathlib.Core.Bool.{Bool, true, false}
+use mathlib.Core.Bool.{Bool}
 use native.Mathlib.Omega.{arith}
 use Rattle.tables.specs.Layout.{tokens, precedences, avoided, implicit, epps, width}
 use Rattle.grammar.specs.declared.Answer.{Answer}
 use Rattle.grammar.specs.declared.Repeat.{Repeat}
 use Rattle.grammar.specs.declared.State.{State}
-use Rattle.grammar.specs.State.{Out0, Out1, Out2, Out3, Tokens, Follows}
+use Rattle.grammar.specs.State.{Out0, Out1, Out2, Out3, Out4, Tokens, Follows}
 use Rattle.grammar.proofs.Spares.{Spares, spared}
 use Rattle.settings.specs.Settings.{startDecl, expectDecl, actiontypeDecl, paramDecl, genericsDecl}
 use Rattle.settings.proofs.Spares.{start-spares, expect-spares, actiontype-spares, param-spares, generics-spares}
+use Rattle.lists.specs.declared.WordList.the-variants.{TokenList, UnusedList, TypeList}
 use Rattle.lists.specs.Lists.{listDecl}
-use Rattle.lists.proofs.Spares.{unused-spares}
 use Rattle.lines.specs.Precedences.{precDecl}
 use Rattle.lines.specs.Avoided.{avoidDecl}
 use Rattle.lines.proofs.Spares.{prec-spares}
 use Rattle.epps.specs.Epps.{eppDecl}
 use Rattle.epps.proofs.Spares.{epp-spares}
 use Rattle.declarations.specs.Declarations.{Givens}
-use Rattle.declarations.proofs.Counts.{tokens-spare, avoid-spares}
+use Rattle.declarations.proofs.Counts.{list-spares, avoid-spares}
 use Rattle.declarations.proofs.Givens.{Leaves, givens-spared, second-filled, third-filled, fourth-filled, fifth-filled, both-spared}
 
 module _ (src : List ℕ) (n : State) (t1 ix t2 t3 t4 t5 fx : List ℕ) (I : Tokens src (n .counts) t1 ix) (G : Givens src (n .counts) t2 t3 t4 t5 fx) (a : Answer) (s : State) where
@@ -40,9 +40,13 @@ module _ (src : List ℕ) (n : State) (t1 ix t2 t3 t4 t5 fx : List ℕ) (I : Tok
     pub by-expect : (rr : Bool) → record { answer = a; state = s; a = u } ≡ expectDecl src n rr t → Tokens src (s .counts) t1 ix × Givens src (s .counts) t2 t3 t4 t5 fx
     by-expect rr e = rw (ap (λ (o : Out1). o .state .counts) e) (both-spared (λ k l. expect-spares k src n (λ z. omega arith) t rr) (I, G))
 
-    -- which is lent the finder of table 1, and leaves it
-    pub by-unused : (jx : List ℕ) → record { answer = a; state = s; a = u } ≡ listDecl src n false t → jx ≡ ix → Tokens src (s .counts) t1 jx × Givens src (s .counts) t2 t3 t4 t5 fx
-    by-unused jx e f = rw (ap (λ (o : Out1). o .state .counts) e, f) (both-spared (λ k l. unused-spares k (λ z. omega arith) src n t) (I, G))
+  -- these are lent the finder of table 1, and leave it
+  module _ (t u v w x y jx : List ℕ) (f : jx ≡ ix) where
+    pub by-unused : record { answer = a; state = s; a = u; b = v; c = w } ≡ listDecl src n UnusedList t x y → Tokens src (s .counts) t1 jx × Givens src (s .counts) t2 t3 t4 t5 fx
+    by-unused e = rw (ap (λ (o : Out3). o .state .counts) e, f) (both-spared (λ k l. list-spares k src UnusedList (λ z. omega arith) n t x y) (I, G))
+
+    pub by-type : record { answer = a; state = s; a = u; b = v; c = w } ≡ listDecl src n TypeList t x y → Tokens src (s .counts) t1 jx × Givens src (s .counts) t2 t3 t4 t5 fx
+    by-type e = rw (ap (λ (o : Out3). o .state .counts) e, f) (both-spared (λ k l. list-spares k src TypeList tt n t x y) (I, G))
 
   module _ (u v w jx : List ℕ) where
     pub by-epp : record { answer = a; state = s; a = u; b = w } ≡ eppDecl src n t5 v → Follows src epps (width epps) 2 (s .counts) u fx jx → Tokens src (s .counts) t1 ix × Givens src (s .counts) t2 t3 t4 u jx
@@ -50,19 +54,19 @@ module _ (src : List ℕ) (n : State) (t1 ix t2 t3 t4 t5 fx : List ℕ) (I : Tok
         let spares : (k : ℕ) → k < 5 → (epps ≡ k → ⊥) → Spares k (n .counts) (s .counts) = λ k l d. rw (ap (λ (o : Out2). o .state .counts) e) (epp-spares k d (λ z. omega arith) src n t5 v) in
         (spared (spares tokens (omega arith) (λ z. omega arith)) I, fifth-filled G (λ k l. spares k) F)
 
-    pub by-prec : (assoc : ℕ) → record { answer = a; state = s; a = u; b = w } ≡ precDecl src n assoc t2 v → Follows src precedences (width precedences) 0 (s .counts) u fx jx → Tokens src (s .counts) t1 ix × Givens src (s .counts) u t3 t4 t5 jx
-    by-prec assoc e F =
-        let spares : (k : ℕ) → k < 5 → (precedences ≡ k → ⊥) → Spares k (n .counts) (s .counts) = λ k l d. rw (ap (λ (o : Out2). o .state .counts) e) (prec-spares k d (λ z. omega arith) src n assoc t2 v) in
+    pub by-prec : (x y p q : List ℕ) (assoc : ℕ) → record { answer = a; state = s; a = u; b = w; c = p; d = q } ≡ precDecl src n assoc t2 v x y → Follows src precedences (width precedences) 0 (s .counts) u fx jx → Tokens src (s .counts) t1 ix × Givens src (s .counts) u t3 t4 t5 jx
+    by-prec x y p q assoc e F =
+        let spares : (k : ℕ) → k < 5 → (precedences ≡ k → ⊥) → Spares k (n .counts) (s .counts) = λ k l d. rw (ap (λ (o : Out4). o .state .counts) e) (prec-spares k d (λ z. omega arith) src n assoc t2 v x y) in
         (spared (spares tokens (omega arith) (λ z. omega arith)) I, second-filled G (λ k l. spares k) F)
 
 -- those that fill table 1 keep its finder themselves
 module _ (src : List ℕ) (n : State) (t1 t2 t3 t4 t5 fx : List ℕ) (G : Givens src (n .counts) t2 t3 t4 t5 fx) (a : Answer) (s : State) (u : List ℕ) where
-  pub by-tokens : record { answer = a; state = s; a = u } ≡ listDecl src n true t1 → Givens src (s .counts) t2 t3 t4 t5 fx
-  by-tokens e = rw (ap (λ (o : Out1). o .state .counts) e) (givens-spared G (λ k l m. tokens-spare k (λ z. omega arith) src n t1))
+  pub by-tokens : (v w x y : List ℕ) → record { answer = a; state = s; a = u; b = v; c = w } ≡ listDecl src n TokenList t1 x y → Givens src (s .counts) t2 t3 t4 t5 fx
+  by-tokens v w x y e = rw (ap (λ (o : Out3). o .state .counts) e) (givens-spared G (λ k l m. list-spares k src TokenList (λ z. omega arith) n t1 x y))
 
   module _ (v w t10 jx : List ℕ) (what : Repeat) where
     leaves : (j : ℕ) (t : List ℕ) → record { answer = a; state = s; a = u; b = v; c = w } ≡ avoidDecl src n j what t1 t t10 → Leaves j (n .counts) (s .counts)
-    leaves j t e = λ k l m d. rw (ap (λ (o : Out3). o .state .counts) e) (avoid-spares k (λ z. omega arith) src (λ z. omega arith) j d what n t1 t t10)
+    leaves j t e = λ k l m d. rw (ap (λ (o : Out3). o .state .counts) e) (avoid-spares k src (λ z. omega arith) (λ z. omega arith) j d what n t1 t t10)
 
     pub by-avoided : record { answer = a; state = s; a = u; b = v; c = w } ≡ avoidDecl src n avoided what t1 t3 t10 → Follows src avoided (width avoided) 0 (s .counts) v fx jx → Givens src (s .counts) t2 v t4 t5 jx
     by-avoided e F = third-filled G (leaves avoided t3 e) F

@@ -1,3 +1,4 @@
 pub mod Declarations
+pub mod Posix
 pub mod Cases
 pub mod Levels

@@ -4,6 +4,7 @@ use grammar::Counts;
 use grammar::Expect;
 use grammar::Param;
 use grammar::Part;
+use grammar::PosixCounts;
 use grammar::Singles;
 use grammar::Told;
 use loading::Judgement;
@@ -12,8 +13,8 @@ use usage::Listing;
 use values::Valuation;
 ghost use Rattle.io.specs.Counts.{Counts as Leading};
 
-// The rooms of this program: 21,900 rows of tables 1, 2, 3, 4 and 7, 8,192 of table 5, 32,768 of tables 6, 8, 9, 10 and 14; work bits and a report for the rules and
-// tokens; a byte more than a source may have. No source of up to 65,536 bytes fills tables 1 to 7, 9, 10 and 14. One of little else than `|` has more productions than table 8 has room
+// The rooms of this program: 21,900 rows of tables 1, 2, 3, 4 and 7, 8,192 of table 5, 32,768 of tables 6, 8, 9, 10, 14 and 15, 22,000 of table 16, 16,400 of table 17; work bits and a report for the rules and
+// tokens; a byte more than a source may have. No source of up to 65,536 bytes fills tables 1 to 7, 9, 10 and 14 to 17. One of little else than `|` has more productions than table 8 has room
 // for, and is refused with 42.
 type Cells1 = [u32; 65700];
 
@@ -34,6 +35,12 @@ type Cells8 = [u32; 425984];
 type Cells9 = [u32; 131072];
 
 type Cells10 = [u32; 163840];
+
+type Cells15 = [u32; 131072];
+
+type Cells16 = [u32; 66000];
+
+type Cells17 = [u32; 49200];
 
 type Slots = [u32; 65536];
 
@@ -460,9 +467,17 @@ fn put_groups(o: &mut [u8], at: usize, t10: &[u32], n: u32) -> usize {
     p
 }
 
+// A refusal of reading at an offset.
+fn is_at_offset(number: u32) -> bool {
+    match number {
+        1..=19 | 50..=52 => true,
+        _ => false,
+    }
+}
+
 fn put_errors(o: &mut [u8], at: usize, told: Told, t10: &[u32], n: u32) -> usize {
     let p = put_groups(o, at, t10, n);
-    if (told.number < 1) | (19 < told.number) {
+    if !is_at_offset(told.number) {
         return p;
     }
     let q = put_error(o, p, told.number, told.from, told.to);
@@ -474,7 +489,7 @@ fn put_errors(o: &mut [u8], at: usize, told: Told, t10: &[u32], n: u32) -> usize
 // A refusal after which tables 1 to 9 are empty.
 fn is_fatal(number: u32) -> bool {
     match number {
-        1..=19 | 40..=43 | 45 => true,
+        1..=19 | 40..=43 | 45 | 50..=52 => true,
         _ => false,
     }
 }
@@ -1307,6 +1322,88 @@ fn put_outcome(
     )
 }
 
+// ---- What kind 4 has besides: three counts, and the rows of tables 15 to 17. ----
+
+fn put_tag(o: &mut [u8], at: usize, src: &[u8], t15: &[u32], row: u32) -> usize {
+    let p = put_label(o, at, 15, row);
+    let q = put_named(o, p, src, t15, tables::TAG_WIDTH, tables::NAME, row);
+    let a = tables::cell(t15, tables::TAG_WIDTH, row, 2);
+    let b = tables::cell(t15, tables::TAG_WIDTH, row, 3);
+    let r = put_part(o, q, src, a, b);
+    put(o, r, b'\n')
+}
+
+fn put_token_number(o: &mut [u8], at: usize, src: &[u8], t16: &[u32], row: u32) -> usize {
+    let p = put_label(o, at, 16, row);
+    let q = put_named(
+        o,
+        p,
+        src,
+        t16,
+        tables::TOKEN_NUMBER_WIDTH,
+        tables::NAME,
+        row,
+    );
+    put(o, q, b'\n')
+}
+
+fn put_body(o: &mut [u8], at: usize, src: &[u8], t17: &[u32], row: u32) -> usize {
+    let p = put_label(o, at, 17, row);
+    let q = put_cells(o, p, t17, tables::BODY_WIDTH, row, tables::BODY_WIDTH);
+    let a = tables::cell(t17, tables::BODY_WIDTH, row, tables::BODY_PLACE);
+    let b = tables::cell(t17, tables::BODY_WIDTH, row, tables::BODY_PLACE + 1);
+    let r = put_part(o, q, src, a, b);
+    put(o, r, b'\n')
+}
+
+fn put_tags(o: &mut [u8], at: usize, src: &[u8], t15: &[u32], n: u32) -> usize {
+    let mut p = at;
+    let mut row = 0;
+    while row < n {
+        p = put_tag(o, p, src, t15, row);
+        row += 1;
+    }
+    p
+}
+
+fn put_token_numbers(o: &mut [u8], at: usize, src: &[u8], t16: &[u32], n: u32) -> usize {
+    let mut p = at;
+    let mut row = 0;
+    while row < n {
+        p = put_token_number(o, p, src, t16, row);
+        row += 1;
+    }
+    p
+}
+
+fn put_bodies(o: &mut [u8], at: usize, src: &[u8], t17: &[u32], n: u32) -> usize {
+    let mut p = at;
+    let mut row = 0;
+    while row < n {
+        p = put_body(o, p, src, t17, row);
+        row += 1;
+    }
+    p
+}
+
+fn put_posix(
+    o: &mut [u8],
+    at: usize,
+    src: &[u8],
+    c: PosixCounts,
+    t15: &[u32],
+    t16: &[u32],
+    t17: &[u32],
+) -> usize {
+    let p = put_word(o, at, b"posix");
+    let q = put_place(o, p, c.n[0], c.n[1]);
+    let r = put_number(o, q, c.n[2]);
+    let s = put(o, r, b'\n');
+    let u = put_tags(o, s, src, t15, c.n[0]);
+    let v = put_token_numbers(o, u, src, t16, c.n[1]);
+    put_bodies(o, v, src, t17, c.n[2])
+}
+
 fn dump(
     o: &mut [u8],
     at: usize,
@@ -1322,18 +1419,40 @@ fn dump(
     t8: &mut [u32],
     t9: &mut [u32],
     t10: &mut [u32],
+    t15: &mut [u32],
+    t16: &mut [u32],
+    t17: &mut [u32],
     i1: &mut [u32],
     i7: &mut [u32],
     work: &mut [u32],
     out: &mut [u32],
     value: &mut [u8],
 ) -> usize {
-    let r = quiltrudder::load(src, kind, t1, t2, t3, t4, t5, t6, t7, t8, t9, t10, i1, i7);
+    let r = quiltrudder::load(
+        src,
+        kind,
+        t1,
+        t2,
+        t3,
+        t4,
+        t5,
+        t6,
+        t7,
+        t8,
+        t9,
+        t10,
+        i1,
+        i7,
+        t15,
+        t16,
+        t17,
+    );
     let j = r.answer;
     let c = r.counts;
     let g = r.singles;
+    let posix = r.posix;
     let spot = r.spot;
-    put_outcome(
+    let p = put_outcome(
         o,
         at,
         src,
@@ -1356,7 +1475,11 @@ fn dump(
         work,
         out,
         value,
-    )
+    );
+    if kind != 4 {
+        return p;
+    }
+    put_posix(o, p, src, posix, t15, t16, t17)
 }
 
 // The rows to lend: those asked for, but never more than one for each byte and two more, which no reading fills.
@@ -1411,6 +1534,9 @@ fn dump_lent(
     t8: &mut [u32],
     t9: &mut [u32],
     t10: &mut [u32],
+    t15: &mut [u32],
+    t16: &mut [u32],
+    t17: &mut [u32],
     i1: &mut [u32],
     i7: &mut [u32],
     work: &mut [u32],
@@ -1428,6 +1554,9 @@ fn dump_lent(
     let n8 = cells(t8, tables::PRODUCTION_WIDTH, rooms, 7, size);
     let n9 = cells(t9, tables::SYMBOL_WIDTH, rooms, 8, size);
     let n10 = cells(t10, tables::REPEAT_WIDTH, rooms, 9, size);
+    let n15 = cells(t15, tables::TAG_WIDTH, rooms, 10, size);
+    let n16 = cells(t16, tables::TOKEN_NUMBER_WIDTH, rooms, 11, size);
+    let n17 = cells(t17, tables::BODY_WIDTH, rooms, 12, size);
     let m1 = slots(i1, n1, tables::TOKEN_WIDTH);
     let m7 = slots(i7, n7, tables::RULE_WIDTH);
     dump(
@@ -1445,6 +1574,9 @@ fn dump_lent(
         &mut t8[..n8],
         &mut t9[..n9],
         &mut t10[..n10],
+        &mut t15[..n15],
+        &mut t16[..n16],
+        &mut t17[..n17],
         &mut i1[..m1],
         &mut i7[..m7],
         work,
@@ -1478,6 +1610,9 @@ fn dump_next(
     t8: &mut Cells8,
     t9: &mut Cells9,
     t10: &mut Cells10,
+    t15: &mut Cells15,
+    t16: &mut Cells16,
+    t17: &mut Cells17,
     i1: &mut Slots,
     i7: &mut Slots,
     work: &mut Words,
@@ -1512,6 +1647,9 @@ fn dump_next(
         t8,
         t9,
         t10,
+        t15,
+        t16,
+        t17,
         i1,
         i7,
         work,
@@ -1542,6 +1680,9 @@ fn dump_all(
     t8: &mut Cells8,
     t9: &mut Cells9,
     t10: &mut Cells10,
+    t15: &mut Cells15,
+    t16: &mut Cells16,
+    t17: &mut Cells17,
     i1: &mut Slots,
     i7: &mut Slots,
     work: &mut Words,
@@ -1572,6 +1713,9 @@ fn dump_all(
             t8,
             t9,
             t10,
+            t15,
+            t16,
+            t17,
             i1,
             i7,
             work,
@@ -1603,6 +1747,9 @@ pub fn dump_input() {
     let mut t8 = [0u32; 425984];
     let mut t9 = [0u32; 131072];
     let mut t10 = [0u32; 163840];
+    let mut t15 = [0u32; 131072];
+    let mut t16 = [0u32; 66000];
+    let mut t17 = [0u32; 49200];
     let mut i1 = [0u32; 65536];
     let mut i7 = [0u32; 65536];
     let mut work = [0u32; 1370];
@@ -1625,6 +1772,9 @@ pub fn dump_input() {
         &mut t8,
         &mut t9,
         &mut t10,
+        &mut t15,
+        &mut t16,
+        &mut t17,
         &mut i1,
         &mut i7,
         &mut work,

@@ -2,7 +2,7 @@
 use Prim.Native.Nat.{ℕ, _*_, _-_, _≤_, _<_}
 use mathlib.Core.Path.{_≡_, refl, sym, _∙_, ap}
 use mathlib.Core.List.{List}
-use mathlib.Core.Bool.{true, false}
+use mathlib.Core.Bool.{true}
 use mathlib.Core.Logic.{inl, inr}
 use native.Mathlib.Omega.{arith}
 use native.Mathlib.Decide.{decLt, ℕ-discrete}
@@ -10,20 +10,18 @@ use lib.ListN.{length, getD, replicate, getD-replicate, List·getD-eq-default, l
 use lib.Seq.{getD-drop}
 use Rattle.scan.specs.Scan.{isEol}
 use Rattle.scan.specs.Tally.{tallyAt}
-use Rattle.scan.proofs.Bytes.{told}
 use Rattle.scan.proofs.Tally.{tally-some}
-use Rattle.spacing.specs.declared.Spaced.the-variants.{To}
-use Rattle.spacing.specs.Spacing.{Spaces}
-use Rattle.spacing.proofs.Places.{spaces}
 use Rattle.tables.specs.Rows.{Clean, rowAt}
 use Rattle.tables.specs.Layout.{precedences, level, association, width}
 use Rattle.tables.proofs.Rows.{row-cell}
 use Rattle.grammar.specs.declared.State.{State}
 use Rattle.grammar.specs.declared.Answer.the-variants.{Going}
-use Rattle.grammar.specs.State.{Out2, Passed, count}
-use Rattle.lines.specs.Line.{LineWord, In, Earlier, isFeed, Without, LineOver, LineAt}
+use Rattle.grammar.specs.State.{Out4, Passed, count}
+use Rattle.marks.specs.Worded.{Worded}
+use Rattle.lines.specs.Line.{LineWord, In, Earlier, isFeed, Without, LineOver, PrecLine}
 use Rattle.lines.specs.Precedences.{precDecl}
-use Rattle.lines.proofs.Line.{line-passed, words-inside}
+use Rattle.lines.proofs.Worded.{Words, prec-words, prec-leads}
+use Rattle.lines.proofs.Line.{line-passed, head-passed, words-inside}
 use Rattle.lines.proofs.Order.{ends-on, words-ordered, words-plain, words-over}
 use Rattle.lines.specs.Grown.{Written, precRow}
 use Rattle.lines.proofs.Read.{line-words, line-rows}
@@ -66,27 +64,30 @@ pub laid-on : {src : List ℕ} {n : ℕ} {t : List ℕ} (at j : ℕ) → at ≤ 
 laid-on at j h l x = record { past = λ r k. past-on at j _ h l (x .past r k); pairs = x .pairs }
 
 -- A precedence line behind its keyword, where s stands; the rows before were laid down up to `at`, with lower levels.
-module _ (src : List ℕ) (s : State) (assoc : ℕ) (t2 t10 : List ℕ) (here : s .at ≤ length src) (ten : length (s .counts .n) ≡ 10) (g : precDecl src s assoc t2 t10 .answer ≡ Going) (at : ℕ) (h : at ≤ s .at) (x : Laid src at (count s precedences) t2) (low : (r : ℕ) → r < count s precedences → getD (precedenceRow t2 r) level 0 < s .level) where
-  abbrev after : Out2
-  after = precDecl src s assoc t2 t10
+module _ (src : List ℕ) (s : State) (assoc : ℕ) (t2 t10 t15 t16 : List ℕ) (here : s .at ≤ length src) (ten : length (s .counts .n) ≡ 10) (g : precDecl src s assoc t2 t10 t15 t16 .answer ≡ Going) (at : ℕ) (h : at ≤ s .at) (x : Laid src at (count s precedences) t2) (low : (r : ℕ) → r < count s precedences → getD (precedenceRow t2 r) level 0 < s .level) where
+  abbrev after : Out4
+  after = precDecl src s assoc t2 t10 t15 t16
 
-  l : LineAt (s .kind) src (s .at) (after .state .at)
-  l = line-words src s assoc t2 t10 here ten g
+  l : PrecLine (s .kind) src (s .at) (after .state .at)
+  l = line-words src s assoc t2 t10 t15 t16 here ten g
 
-  began : Spaces src (s .at) (To (l .start) (l .ends))
-  began = told (Spaces src (s .at)) (l .gap) (spaces (s .kind) false src (s .at) here)
+  W : Words src (Worded (s .kind) true src)
+  W = prec-words (s .kind) src
 
-  ended : Passed src (l .start) (after .state .at)
-  ended = line-passed (s .kind) src (began .1) (l .line)
+  began : Passed src (s .at) (l .head)
+  began = head-passed (s .kind) src W (prec-leads (s .kind) src) l here
+
+  ended : Passed src (l .head) (after .state .at)
+  ended = line-passed (s .kind) src W (began .inside) (l .line)
 
   rows : Written src (precRow (s .level) assoc) (width precedences) (l .words) (count s precedences) t2 (count (after .state) precedences) (after .a)
-  rows = line-rows src s assoc t2 t10 here ten g l
+  rows = line-rows src s assoc t2 t10 t15 t16 here ten g l
 
   -- a row before, and one of this line
   mixed : (y : List ℕ) → PastLine src at y → getD y level 0 < s .level → (w : LineWord) → In w (l .words) → LinesApart src y (precRow (s .level) assoc (w .place))
   mixed y p d w k =
-      let a = words-inside (s .kind) src (l .line) w k in
-      let b = began .0 in
+      let a = words-inside (s .kind) src W (l .line) w k in
+      let b = began .onward in
       let e = p .ends in
       let u = a .begins in
       let v = ended .inside in
@@ -103,7 +104,7 @@ module _ (src : List ℕ) (s : State) (assoc : ℕ) (t2 t10 : List ℕ) (here : 
 
   -- two rows of this line
   both : (v w : LineWord) → Earlier v w (l .words) → LinesApart src (precRow (s .level) assoc (v .place)) (precRow (s .level) assoc (w .place))
-  both v w e = record { ordered = words-ordered (s .kind) src (l .line) v w e; rising = omega arith; one = λ q. words-plain (s .kind) src (l .line) v w e; two = λ q. absurd (q refl) }
+  both v w e = record { ordered = words-ordered (s .kind) src W (l .line) v w e; rising = omega arith; one = λ q. words-plain (s .kind) src W (l .line) v w e; two = λ q. absurd (q refl) }
 
   pairs : (q r : ℕ) → q < r → r < count (after .state) precedences → Dec (r < count s precedences) → Dec (q < count s precedences) → LinesApart src (precedenceRow (after .a) q) (precedenceRow (after .a) r)
   pairs q r a b (yes c) d = rw (rows .rows .old q (omega arith), rows .rows .old r c) (x .pairs q r a c)
@@ -111,14 +112,14 @@ module _ (src : List ℕ) (s : State) (assoc : ℕ) (t2 t10 : List ℕ) (here : 
   pairs q r a b (no c) (no d) = let k = rows .order q r (omega arith) a b in rw (k .is-first, k .is-second) (both (k .first) (k .second) (k .earlier))
 
   past : (r : ℕ) → r < count (after .state) precedences → Dec (r < count s precedences) → PastLine src (after .state .at) (precedenceRow (after .a) r)
-  past r b (yes c) = rw (rows .rows .old r c) (past-on at (after .state .at) _ (omega (arith, began .0, ended .onward)) (ended .inside) (x .past r c))
+  past r b (yes c) = rw (rows .rows .old r c) (past-on at (after .state .at) _ (omega (arith, began .onward, ended .onward)) (ended .inside) (x .past r c))
   past r b (no c) =
       let k = rows .rows .new r (omega arith) b in
-      let a = words-inside (s .kind) src (l .line) (k .word) (k .listed) in
-      rw (k .is) (record { ends = omega (arith, a .ends, a .before); over = words-over (s .kind) src (l .line) (k .word) (k .listed) })
+      let a = words-inside (s .kind) src W (l .line) (k .word) (k .listed) in
+      rw (k .is) (record { ends = omega (arith, a .ends, a .before); over = words-over (s .kind) src W (l .line) (k .word) (k .listed) })
 
   pub line-onward : s .at ≤ after .state .at
-  line-onward = omega (arith, began .0, ended .onward)
+  line-onward = omega (arith, began .onward, ended .onward)
 
   pub laid-line : Laid src (after .state .at) (count (after .state) precedences) (after .a)
   laid-line = record { past = λ r b. past r b (decLt r (count s precedences)); pairs = λ q r a b. pairs q r a b (decLt r (count s precedences)) (decLt q (count s precedences)) }

@@ -9,9 +9,8 @@ use lib.Dec.{leb}
 use lib.ListN.{length}
 use borrow.Author.Tests.{leb-false}
 use Rattle.scan.specs.declared.Place.{Place}
-use Rattle.scan.proofs.Bytes.{le-or-lt, on-test, told}
-use Rattle.spacing.specs.Spacing.{Spaces}
-use Rattle.spacing.proofs.Places.{spaces}
+use Rattle.scan.specs.Scan.{isAt}
+use Rattle.scan.proofs.Bytes.{le-or-lt, on-test, told, at-below}
 use Rattle.words.specs.declared.Name.{Name}
 use Rattle.words.specs.declared.Name.the-variants.{NameTo, NoName}
 use Rattle.words.specs.declared.Int.{Int}
@@ -20,38 +19,63 @@ use Rattle.words.specs.declared.Token.the-variants.{Found}
 use Rattle.words.specs.Words.{nameAt, tokenAt, Named, Tokened}
 use Rattle.words.specs.Numbers.{intAt, Counted}
 use Rattle.words.specs.Strings.{stringAt, Stringed}
+use Rattle.words.specs.Tags.{tagAt, Tagged}
 use Rattle.words.proofs.Words.{name-placed, token-placed}
 use Rattle.words.proofs.Numbers.{int-placed}
 use Rattle.words.proofs.Strings.{string-placed}
+use Rattle.words.proofs.Tags.{tag-placed}
 use Rattle.texts.specs.declared.ColonText.{ColonText}
 use Rattle.texts.specs.declared.ColonText.the-variants.{Upto, NoColon}
+use Rattle.texts.specs.declared.Brace.{Brace}
+use Rattle.texts.specs.declared.Brace.the-variants.{Closes, NeverCloses}
 use Rattle.texts.specs.Colon.{colonTextAt, ColonTexts}
 use Rattle.texts.specs.Line.{lineEndAt}
-use Rattle.texts.proofs.Laws.{colon-placed}
-use Rattle.tables.specs.Layout.{repeats}
+use Rattle.texts.specs.Action.{bracedAt, Braced}
+use Rattle.texts.specs.Mark.{markedAt, Marked}
+use Rattle.texts.proofs.Laws.{colon-placed, mark-placed, braces}
+use Rattle.tables.specs.Layout.{repeats, bodies}
+use Rattle.tables.specs.Table.{addRow}
 use Rattle.grammar.specs.declared.State.{State}
+use Rattle.grammar.specs.declared.Part.{Part}
 use Rattle.grammar.specs.declared.Answer.{Answer}
 use Rattle.grammar.specs.declared.Answer.the-variants.{Going}
 use Rattle.grammar.specs.declared.Repeat.{Repeat}
 use Rattle.grammar.specs.declared.Gap.{Gap}
 use Rattle.grammar.specs.declared.Gap.the-variants.{GapTo, GapRefused}
-use Rattle.grammar.specs.State.{Out1, Out3, Passed, gapAt, Gapped, passOn}
-use Rattle.grammar.specs.Sound.{Tables, Far}
+use Rattle.grammar.specs.Cells.{bodyCells}
+use Rattle.grammar.specs.State.{Out1, Out3, Passed, count, gapAt, Gapped, pushed, pushRow, passOn}
+use Rattle.grammar.specs.Sound.{AllTables, Far}
 use Rattle.grammar.proofs.Kept.{gapped, Held}
 use Rattle.settings.specs.Settings.{startName, startFrom, startDecl, expectInt, expectFrom, expectDecl, actiontypeFrom, actiontypeDecl, paramGiven, paramTyped, paramText, paramFrom, paramDecl, genericsFrom, genericsDecl}
 use Rattle.settings.proofs.Far.{line-end, start-held, expect-held, actiontype-held}
+use Rattle.marks.specs.Worded.{ListWord, TagBefore, headless, bare, tagged}
+use Rattle.marks.proofs.Worded.{worded-inside}
+use Rattle.bodies.specs.Bodies.{bodyRow, prologueClosed, prologueDecl, unionClosed, unionOpened, unionBody, unionFrom, unionDecl}
+use Rattle.bodies.proofs.Laws.{mark-inside, brace-inside}
+use Rattle.lists.specs.declared.WordList.{WordList}
+use Rattle.lists.specs.declared.WordList.the-variants.{TokenList, UnusedList, TypeList}
 use Rattle.lists.specs.Lists.{listDecl}
-use Rattle.lists.specs.Written.{Written, over, word, Listed, TokenWord, token, UnusedWord, rule, quote}
-use Rattle.lists.proofs.Meaning.{token-words, unused-words}
+use Rattle.lists.specs.Written.{Written, over, word, Leads, Listed, TokenWord, UnusedWord, rule, quote, TypeWord}
+use Rattle.lists.proofs.Meaning.{token-words, unused-words, type-words}
 use Rattle.lines.specs.Avoided.{avoidDecl}
 use Rattle.lines.specs.Grown.{NameTable}
-use Rattle.lines.proofs.Line.{line-passed}
+use Rattle.lines.proofs.Worded.{alone-words, untagged-leads}
+use Rattle.lines.proofs.Line.{line-at-passed}
 use Rattle.lines.proofs.Avoided.{avoid-words}
 use Rattle.epps.specs.Epps.{eppDecl}
 use Rattle.epps.proofs.Meaning.{epp-given}
 use Rattle.items.proofs.Far.{pass-onward}
 
-module _ {src : List ℕ} {done : ℕ} {s : State} {T : Tables} (f : Far src done s T) where
+-- a row more leaves the reading where it stood
+push-stays : (s : State) (k : ℕ) (row t : List ℕ) → pushRow s k row t .state .at ≡ s .at
+unfolding pushRow
+push-stays s k row t = go (addRow (count s k) row t .ok)
+  where
+    go : (b : Bool) → pushed b s k row (addRow (count s k) row t .cells) .state .at ≡ s .at
+    go true = refl
+    go false = refl
+
+module _ {src : List ℕ} {done : ℕ} {s : State} {T : AllTables} (f : Far src done s T) where
   -- spacing behind a step that stayed where it stood
   passed : (j : ℕ) (a : Answer) (u : State) → u .at ≡ s .at → s .at ≤ j → j ≤ length src → s .at ≤ passOn src false j a u .state .at
   passed j a u e h k = let x = pass-onward src j u a k .forth (omega arith) in omega arith
@@ -128,6 +152,39 @@ module _ {src : List ℕ} {done : ℕ} {s : State} {T : Tables} (f : Far src don
       go (GapTo i n) x = let a = x .0 in text i (omega arith) (colonTextAt src i) (colon-placed src i (x .1) (colonTextAt src i) refl .1)
       go (GapRefused e) x = omega arith
 
+  -- a body up to its end
+  body-onward : (sort from to end : ℕ) → s .at ≤ end → end ≤ length src → s .at ≤ bodyRow src s sort from to end (T .t17) .state .at
+  unfolding bodyRow
+  body-onward sort from to end h k = let o = pushRow s bodies (bodyCells sort from to) (T .t17) in passed end (o .answer) (o .state) (push-stays s bodies (bodyCells sort from to) (T .t17)) h k
+
+  pub prologue-onward : (at : ℕ) → s .at ≤ prologueDecl src s at (T .t17) .state .at
+  unfolding prologueDecl
+  prologue-onward at = go (markedAt src (s .at)) (mark-placed src (s .at) (markedAt src (s .at)) refl .1)
+    where
+      go : (b : Brace) → Marked src (s .at) b → s .at ≤ prologueClosed b src s at (T .t17) .state .at
+      go (Closes to n) x = let y = mark-inside src (s .at) (Closes to n) to n x refl in let a = y .0 in body-onward 1 (s .at) to (to + 2) (omega arith) (y .1)
+      go NeverCloses x = omega arith
+
+  pub union-onward : (at : ℕ) → s .at ≤ unionDecl src s at (T .t17) .state .at
+  unfolding unionDecl unionBody
+  union-onward at = gap (gapAt (s .kind) false src (s .at)) (gapped (s .kind) false src (s .at) (f .here))
+    where
+      brace : (i : ℕ) → s .at ≤ i → (b : Brace) → Braced src (i + 1) b → s .at ≤ unionClosed b src s at i (T .t17) .state .at
+      brace i h (Closes to n) x =
+          let y = brace-inside src (i + 1) (Closes to n) to n x refl in
+          let a = y .0 in
+          let b = y .1 in
+          body-onward 2 (i + 1) to (to + 1) (omega arith) (omega arith)
+      brace i h NeverCloses x = omega arith
+
+      open-at : (i : ℕ) → s .at ≤ i → (b : Bool) → isAt 123 src i ≡ b → s .at ≤ unionOpened b src s at i (T .t17) .state .at
+      open-at i h true e = let l = at-below src i 123 e in brace i h (bracedAt src (i + 1)) (braces src (i + 1) (omega arith))
+      open-at i h false e = omega arith
+
+      gap : (g : Gap) → Gapped src (s .at) g → s .at ≤ unionFrom g src s at (T .t17) .state .at
+      gap (GapTo i n) x = let a = x .0 in open-at i (omega arith) (isAt 123 src i) refl
+      gap (GapRefused e) x = omega arith
+
 -- where spacing led
 gap-to : (kind : ℕ) (ok : Bool) (src : List ℕ) (at i n : ℕ) → at ≤ length src → gapAt kind ok src at ≡ GapTo i n → Passed src at i
 gap-to kind ok src at i n h e = let x = told (Gapped src at) e (gapped kind ok src at h) in record { onward = omega (arith, x .0); inside = x .1 }
@@ -142,23 +199,46 @@ module _ (kind : ℕ) {A : Type 0} (Word : ℕ → ℕ → A → Type 0) (src : 
       let c = written-onward l in
       omega (arith, a .onward, b .onward)
 
-  listed-onward : (at j : ℕ) (xs : List A) → at ≤ length src → Listed kind Word src at j xs → at ≤ j
-  listed-onward at j xs h l = let a = gap-to kind false src at (l .from) (l .lines) h (l .gap) in let b = written-onward (l .words) in omega (arith, a .onward)
+-- a tag in front of the words, or none
+tag-passed : {kind : ℕ} {wanted line : Bool} {src : List ℕ} {i j : ℕ} {tag : Part} → i ≤ length src → TagBefore kind wanted line src i j tag → Passed src i j
+tag-passed h (headless d) = record { onward = omega arith; inside = h }
+tag-passed h (bare k w e) = record { onward = omega arith; inside = h }
+tag-passed {kind} {src = src} h (tagged {i} {end} {j} {n} {p} k e g l) =
+    let a = told (Tagged src i) e (tag-placed src i (tagAt src i) refl .1) in
+    let b = gap-to kind true src end j n (a .3) g in
+    record { onward = omega (arith, a .0, a .1, a .2, b .onward); inside = b .inside }
+
+lead-onward : (what : WordList) (kind : ℕ) (src : List ℕ) (i j : ℕ) (tag : Part) → i ≤ length src → Leads what kind src i j tag → i ≤ j
+lead-onward TokenList kind src i j tag h x = tag-passed h x .onward
+lead-onward UnusedList kind src i j tag h x = let e = x .0 in omega arith
+lead-onward TypeList kind src i j tag h x = tag-passed h x .onward
+
+module _ (what : WordList) (kind : ℕ) {A : Type 0} (Word : ℕ → ℕ → A → Type 0) (src : List ℕ) (goes : (i end : ℕ) (x : A) → Word i end x → Passed src i end) where
+  listed-onward : (at j : ℕ) (tag : Part) (xs : List A) → at ≤ length src → Listed what kind Word src at j tag xs → at ≤ j
+  listed-onward at j tag xs h l =
+      let a = gap-to kind false src at (l .from) (l .lines) h (l .gap) in
+      let b = lead-onward what kind src (l .from) (l .head) tag (a .inside) (l .lead) in
+      let c = written-onward kind Word src goes (l .words) in
+      omega (arith, a .onward)
 
 token-passed : (src : List ℕ) (i : ℕ) (p : Place) (end : ℕ) (quoted : Bool) → tokenAt src i ≡ Found p end quoted → Passed src i end
 token-passed src i p end quoted e = let x = told (Tokened src i) e (token-placed src i (tokenAt src i) refl .1) in record { onward = omega (arith, x .0, x .1, x .2); inside = x .3 }
 
-token-word : (src : List ℕ) (i end : ℕ) (p : Place) → TokenWord src i end p → Passed src i end
-token-word src i end p (token e) = token-passed src i _ end _ e
+token-word : (kind : ℕ) (src : List ℕ) (i end : ℕ) (w : ListWord) → TokenWord kind src i end w → Passed src i end
+token-word kind src i end w x = let a = worded-inside x in let b = a .0 in record { onward = omega arith; inside = a .1 }
 
 unused-word : (src : List ℕ) (i end : ℕ) (x : List ℕ) → UnusedWord src i end x → Passed src i end
 unused-word src i end x (rule e) = let y = told (Named src i) e (name-placed src i (nameAt src i) refl .1) in record { onward = omega (arith, y .0); inside = y .1 }
 unused-word src i end x (quote n e) = token-passed src i _ end _ e
 
+type-word : (src : List ℕ) (i end : ℕ) (p : Place) → TypeWord src i end p → Passed src i end
+type-word src i end p x = unused-word src i end _ (x .1)
+
 module _ (src : List ℕ) (s : State) (here : s .at ≤ length src) (ten : length (s .counts .n) ≡ 10) where
-  pub list-onward : (which : Bool) (t : List ℕ) → listDecl src s which t .answer ≡ Going → s .at ≤ listDecl src s which t .state .at
-  list-onward true t g = let x = token-words src s t ten g in listed-onward (s .kind) (TokenWord src) src (token-word src) (s .at) _ (x .0) here (x .1)
-  list-onward false t g = let x = unused-words src s t ten g in listed-onward (s .kind) (UnusedWord src) src (unused-word src) (s .at) _ (x .0) here (x .1)
+  pub list-onward : (what : WordList) (t t15 t16 : List ℕ) → listDecl src s what t t15 t16 .answer ≡ Going → s .at ≤ listDecl src s what t t15 t16 .state .at
+  list-onward TokenList t t15 t16 g = let x = token-words src s t t15 t16 ten g in listed-onward TokenList (s .kind) (TokenWord (s .kind) src) src (token-word (s .kind) src) (s .at) _ (x .0) (x .1) here (x .2)
+  list-onward UnusedList t t15 t16 g = let x = unused-words src s t t15 t16 ten g in listed-onward UnusedList (s .kind) (UnusedWord src) src (unused-word src) (s .at) _ _ (x .0) here (x .1)
+  list-onward TypeList t t15 t16 g = let x = type-words src s t t15 t16 g in listed-onward TypeList (s .kind) (TypeWord src) src (type-word src) (s .at) _ (x .0) (x .1) here (x .2)
 
   pub avoid-onward : (k : ℕ) → NameTable k → (what : Repeat) (t1 t t10 : List ℕ) → avoidDecl src s k what t1 t t10 .answer ≡ Going → s .at ≤ avoidDecl src s k what t1 t t10 .state .at
   unfolding avoidDecl
@@ -168,11 +248,7 @@ module _ (src : List ℕ) (s : State) (here : s .at ≤ length src) (ten : lengt
       end h = on-test (λ (o : Out3). s .at ≤ o .state .at) (leb (length src) (s .at)) _ _ (λ e. omega arith) (λ e. absurd (let x = leb-false (length src) (s .at) e in omega arith))
 
       line : s .at < length src → s .at ≤ avoidDecl src s k what t1 t t10 .state .at
-      line h =
-          let l = avoid-words src k nt what s t1 t t10 ten h g in
-          let x = told (Spaces src (s .at)) (l .gap) (spaces (s .kind) false src (s .at) here) in
-          let y = line-passed (s .kind) src (x .1) (l .line) in
-          omega (arith, x .0, y .onward)
+      line h = line-at-passed (s .kind) src (alone-words src) (untagged-leads src) (avoid-words src k nt what s t1 t t10 ten h g) here .onward
 
   pub epp-onward : (t5 t10 : List ℕ) → eppDecl src s t5 t10 .answer ≡ Going → s .at ≤ eppDecl src s t5 t10 .state .at
   epp-onward t5 t10 g =

@@ -18,15 +18,16 @@ use Rattle.grammar.specs.declared.State.{State}
 use Rattle.grammar.specs.declared.Answer.{Answer}
 use Rattle.grammar.specs.declared.Answer.the-variants.{Going, Done, Refused}
 use Rattle.grammar.specs.State.{count, fresh}
-use Rattle.grammar.specs.Sound.{Tables, Indexes, zeroAll}
+use Rattle.grammar.specs.Sound.{AllTables, Indexes, zeroAll}
 use Rattle.grammar.proofs.Far.{fresh-far}
 use Rattle.declarations.specs.Declarations.{Out, declAll}
 use Rattle.declarations.proofs.Far.{FarAll, declarations-far}
 use Rattle.lines.specs.Line.{isFeed}
-use Rattle.reader.specs.declared.Admission.{Admission}
-use Rattle.reader.specs.declared.Admission.the-variants.{Fit, Unfit}
+use Rattle.sections.specs.declared.Admission.{Admission}
+use Rattle.sections.specs.declared.Admission.the-variants.{Fit, Unfit}
+use Rattle.sections.specs.Sections.{asText, sized, sizedText, admitted, Short, restAll, declared, sectionsFrom, sectionsAll, attemptOf, attempted}
 use Rattle.reader.specs.declared.Reading.{Reading}
-use Rattle.reader.specs.Read.{Result, asText, sized, sizedText, admitted, restAll, declared, sectionsFrom, sectionsAll, attemptOf, attempted, endedAt, result, finished, finishedRun, indexed, filledIn, readNames, readAll}
+use Rattle.reader.specs.Read.{Result, endedAt, result, finished, finishedRun, indexed, filledIn, readNames, readAll}
 use Rattle.reader.specs.Allowed.{Full}
 use Rattle.reader.proofs.Sound.{read-sound}
 use Rattle.levels.specs.Levels.{tokenFrom, tokenTo, levelOf, TwoRows, NoFeedBetween, NoLineEndBetween}
@@ -39,14 +40,14 @@ data Left (src : List ℕ) (o : Result) : Type 0 where
   full : Full (o .answer) → (n : ℕ) → Numbered n (o .tables .t2) → AllApart src n (o .tables .t2) → Left src o
 
 -- a reading that ended, behind the declarations
-ended : (src : List ℕ) (X : Indexes) (d : Out) → Numbered (count (d .state) precedences) (d .tables .t2) → ApartIn src d → (s : State) (T : Tables) → T .t2 ≡ d .tables .t2 → Left src (filledIn src (indexed src X (finished Going s T)))
+ended : (src : List ℕ) (X : Indexes) (d : Out) → Numbered (count (d .state) precedences) (d .tables .t2) → ApartIn src d → (s : State) (T : AllTables) → T .t2 ≡ d .tables .t2 → Left src (filledIn src (indexed src X (finished Going s T)))
 unfolding endedAt
 ended src X d f p s T e =
     on-test (λ (r : Reading). Left src (filledIn src (indexed src X (result r T)))) (eqb (count s repeats) 0) _ _
     (λ q. full tt (count (d .state) precedences) (rw e f) (rw e p))
     (λ q. full tt (count (d .state) precedences) (rw e f) (rw e p))
 
-sections-left : (src : List ℕ) (kind : ℕ) (T : Tables) (X : Indexes) → length src ≤ 65536 → Left src (filledIn src (indexed src X (finishedRun (sectionsAll src (fresh kind) (zeroAll T)))))
+sections-left : (src : List ℕ) (kind : ℕ) (T : AllTables) (X : Indexes) → length src ≤ 65536 → Left src (filledIn src (indexed src X (finishedRun (sectionsAll src (fresh kind) (zeroAll T)))))
 unfolding sectionsAll
 sections-left src kind T X h =
     let U = zeroAll T in
@@ -54,7 +55,7 @@ sections-left src kind T X h =
     let f = fresh-far src kind T h in
     go (o .answer) o (declarations-far src 0 (fresh kind) (declared U) U f) (section-pairs src 0 (fresh kind) (declared U) U f (laid-none src 0 (U .t2)))
   where
-    rest : (a : Answer) (d : Out) → FarAll src 0 (zeroAll T) d → ApartIn src d → (s : State) (U : Tables) → U .t2 ≡ d .tables .t2 → Left src (filledIn src (indexed src X (finished a s U)))
+    rest : (a : Answer) (d : Out) → FarAll src 0 (zeroAll T) d → ApartIn src d → (s : State) (U : AllTables) → U .t2 ≡ d .tables .t2 → Left src (filledIn src (indexed src X (finished a s U)))
     rest Going d f p s U e = ended src X d (far-numbered f) p s U e
     rest Done d f p s U e = ended src X d (far-numbered f) p s U e
     rest (Refused r) d f p s U e = none refl
@@ -65,32 +66,28 @@ sections-left src kind T X h =
     go (Refused r) o f p = none refl
 
 -- a source that can be read is not too long
-abbrev Admits : List ℕ → Admission → Type 0
-Admits src Fit = length src ≤ 65536
-Admits src (Unfit f) = Unit {0}
-
-admits : (src : List ℕ) (kind : ℕ) (fit : Bool) → Admits src (admitted src kind fit)
+admits : (src : List ℕ) (kind : ℕ) (fit : Bool) → Short src (admitted src kind fit)
 unfolding admitted
-admits src kind fit = on-test (Admits src) (ltb kind 1 || ltb 3 kind) _ _ (λ e. tt) (λ e. by fit)
+admits src kind fit = on-test (Short src) (ltb kind 1 || ltb 4 kind) _ _ (λ e. tt) (λ e. by fit)
   where
-    go : (c : Checked) → length src ≤ 65536 → Admits src (asText c)
+    go : (c : Checked) → length src ≤ 65536 → Short src (asText c)
     go Good h = h
     go (BadAt i) h = tt
 
-    by : (b : Bool) → Admits src (sizedText b src)
-    by true = on-test (Admits src) (ltb 65536 (length src)) _ _ (λ h. tt) (λ h. go (checkAt src 0) (ltb-false _ _ h))
+    by : (b : Bool) → Short src (sizedText b src)
+    by true = on-test (Short src) (ltb 65536 (length src)) _ _ (λ h. tt) (λ h. go (checkAt src 0) (ltb-false _ _ h))
     by false = tt
 
-left : (src : List ℕ) (kind : ℕ) (T : Tables) (X : Indexes) → Left src (readAll src kind T X)
+left : (src : List ℕ) (kind : ℕ) (T : AllTables) (X : Indexes) → Left src (readAll src kind T X)
 unfolding readAll readNames attempted
 left src kind T X = go (admitted src kind (sized T X)) (admits src kind (sized T X))
   where
-    go : (m : Admission) → Admits src m → Left src (filledIn src (indexed src X (finishedRun (attemptOf m src kind (zeroAll T)))))
+    go : (m : Admission) → Short src m → Left src (filledIn src (indexed src X (finishedRun (attemptOf m src kind (zeroAll T)))))
     go Fit h = sections-left src kind T X h
     go (Unfit f) h = none refl
 
 -- In any reading, whatever its answer; where it was refused for more than repeats, there are no rows.
-module _ (src : List ℕ) (kind : ℕ) (T : Tables) (X : Indexes) (q r : ℕ) (two : TwoRows (readAll src kind T X) q r) where
+module _ (src : List ℕ) (kind : ℕ) (T : AllTables) (X : Indexes) (q r : ℕ) (two : TwoRows (readAll src kind T X) q r) where
   abbrev o : Result
   o = readAll src kind T X
 

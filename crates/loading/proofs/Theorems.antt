@@ -15,7 +15,7 @@ use Rattle.grammar.specs.declared.Counts.{Counts}
 use Rattle.grammar.specs.declared.Singles.{Singles}
 use Rattle.grammar.specs.declared.Refusal.{Refusal}
 use Rattle.grammar.specs.Refusals.{numberOf}
-use Rattle.grammar.specs.Sound.{Tables, Indexes, Sound}
+use Rattle.grammar.specs.Sound.{Tables, AllTables, tenOf, Indexes, Sound}
 use Rattle.reader.specs.declared.Verdict.{Verdict}
 use Rattle.reader.specs.declared.Verdict.the-variants.{Accepted, Rejected}
 use Rattle.reader.specs.Read.{Result, readAll}
@@ -54,42 +54,42 @@ unfolding validity
 sound-first src c g T X s = rw (validity, sound-iff src c g T X .1 s)
 
 -- an accepted reading is one that the walk over the tests can go through at once, and its first fault is validation's
-module _ (src : List ℕ) (kind : ℕ) (T : Tables) (X : Indexes) (o : Result) (e : o ≡ readAll src kind T X) (i : ℕ) (h : o .answer ≡ Accepted i) where
-  accepted-sound : Sound src (o .counts) (o .singles) (o .tables) (o .indexes)
+module _ (src : List ℕ) (kind : ℕ) (T : AllTables) (X : Indexes) (o : Result) (e : o ≡ readAll src kind T X) (i : ℕ) (h : o .answer ≡ Accepted i) where
+  accepted-sound : Sound src (o .counts) (o .singles) (tenOf (o .tables)) (o .indexes)
   accepted-sound =
-      told (λ (r : Result). Sound src (r .counts) (r .singles) (r .tables) (r .indexes)) (sym e)
+      told (λ (r : Result). Sound src (r .counts) (r .singles) (tenOf (r .tables)) (r .indexes)) (sym e)
       (read-sound src kind T X (told (λ (v : Verdict). Full v) (sym h ∙ ap (λ (r : Result). r .answer) e) tt))
 
   pub accepted-walkable : Walkable src (o .counts) (o .tables .t1) (o .tables .t7) (o .tables .t8) (o .tables .t9) (o .indexes .rules)
-  accepted-walkable = sound-walkable src (o .counts) (o .singles) (o .tables) (o .indexes) accepted-sound
+  accepted-walkable = sound-walkable src (o .counts) (o .singles) (tenOf (o .tables)) (o .indexes) accepted-sound
 
   pub accepted-judged : (j : Judgement) → j ≡ judged (Accepted i) (first (faults src (o .counts) (o .singles) (o .tables .t1) (o .tables .t2) (o .tables .t4) (o .tables .t5) (o .tables .t6) (o .tables .t7) (o .tables .t8) (o .tables .t9)))
-      → _≡_ {A = LoadResult} (record { answer = j; counts = o .counts; singles = o .singles; tables = o .tables; indexes = o .indexes }) (loadAll src kind T X)
+      → _≡_ {A = LoadResult} (record { answer = j; counts = o .counts; posix = o .posix; singles = o .singles; tables = o .tables; indexes = o .indexes }) (loadAll src kind T X)
   unfolding loadAll
   accepted-judged j q =
-      let w = validity src (o .counts) (o .singles) (o .tables) (o .indexes) in
-      let k : j ≡ judged (o .answer) w = q ∙ ap (λ (v : Validity). judged (Accepted i) v) (sym (sound-first src (o .counts) (o .singles) (o .tables) (o .indexes) accepted-sound)) ∙ ap (λ (v : Verdict). judged v w) (sym h) in
+      let w = validity src (o .counts) (o .singles) (tenOf (o .tables)) (o .indexes) in
+      let k : j ≡ judged (o .answer) w = q ∙ ap (λ (v : Validity). judged (Accepted i) v) (sym (sound-first src (o .counts) (o .singles) (tenOf (o .tables)) (o .indexes) accepted-sound)) ∙ ap (λ (v : Verdict). judged v w) (sym h) in
       rw k (ap (judgedRead src) e)
 
-pub rejected-judged : (src : List ℕ) (kind : ℕ) (T : Tables) (X : Indexes) (o : Result) → o ≡ readAll src kind T X → (f : Refusal) → o .answer ≡ Rejected f
-    → _≡_ {A = LoadResult} (record { answer = NotRead f; counts = o .counts; singles = o .singles; tables = o .tables; indexes = o .indexes }) (loadAll src kind T X)
+pub rejected-judged : (src : List ℕ) (kind : ℕ) (T : AllTables) (X : Indexes) (o : Result) → o ≡ readAll src kind T X → (f : Refusal) → o .answer ≡ Rejected f
+    → _≡_ {A = LoadResult} (record { answer = NotRead f; counts = o .counts; posix = o .posix; singles = o .singles; tables = o .tables; indexes = o .indexes }) (loadAll src kind T X)
 unfolding loadAll
 rejected-judged src kind T X o e f h =
-    let k : NotRead f ≡ judged (o .answer) (validity src (o .counts) (o .singles) (o .tables) (o .indexes)) = rw h in
+    let k : NotRead f ≡ judged (o .answer) (validity src (o .counts) (o .singles) (tenOf (o .tables)) (o .indexes)) = rw h in
     rw k (ap (judgedRead src) e)
 
-module _ (src : List ℕ) (kind : ℕ) (T : Tables) (X : Indexes) where
+module _ (src : List ℕ) (kind : ℕ) (T : AllTables) (X : Indexes) where
   abbrev read : Result
   read = readAll src kind T X
 
   abbrev fitness : Validity
-  fitness = validity src (read .counts) (read .singles) (read .tables) (read .indexes)
+  fitness = validity src (read .counts) (read .singles) (tenOf (read .tables)) (read .indexes)
 
   -- After an accepted read validation does not say that the tables are unsound,
   never-unsound : (i : ℕ) → read .answer ≡ Accepted i → fitness ≡ UnsoundTables → ⊥
   never-unsound i h u =
       let s = read-sound src kind T X (told (λ (v : Verdict). Full v) (sym h) tt) in
-      false≢true (sym (validity-unsound src (read .counts) (read .singles) (read .tables) (read .indexes) .0 u) ∙ sound-iff src (read .counts) (read .singles) (read .tables) (read .indexes) .1 s)
+      false≢true (sym (validity-unsound src (read .counts) (read .singles) (tenOf (read .tables)) (read .indexes) .0 u) ∙ sound-iff src (read .counts) (read .singles) (tenOf (read .tables)) (read .indexes) .1 s)
 
   -- so each answer of a load says just what the read came to and what validation says: loaded, and where it ended,
   pub load-loaded : (i : ℕ) → (loadAll src kind T X .answer ≡ Loaded i) ↔ ((read .answer ≡ Accepted i) × (fitness ≡ Valid))
@@ -103,7 +103,7 @@ module _ (src : List ℕ) (kind : ℕ) (T : Tables) (X : Indexes) where
       go (Rejected f) w a b e = let z : _≡_ {A = ℕ} 0 1 = cc in absurd (omega arith)
 
   -- what was loaded is valid,
-  pub load-valid : (i : ℕ) → loadAll src kind T X .answer ≡ Loaded i → validity src (loadAll src kind T X .counts) (loadAll src kind T X .singles) (loadAll src kind T X .tables) (loadAll src kind T X .indexes) ≡ Valid
+  pub load-valid : (i : ℕ) → loadAll src kind T X .answer ≡ Loaded i → validity src (loadAll src kind T X .counts) (loadAll src kind T X .singles) (tenOf (loadAll src kind T X .tables)) (loadAll src kind T X .indexes) ≡ Valid
   unfolding loadAll
   load-valid i e = load-loaded i .0 e .1
 
@@ -134,11 +134,12 @@ module _ (src : List ℕ) (kind : ℕ) (T : Tables) (X : Indexes) where
   unfolding loadAll
   load-not-44 = go (read .answer) fitness refl
     where
-      no-44 : (n : ℕ) → ReadNumber n → n ≡ 44 → ⊥
+      no-44 : (n : ℕ) → ReadNumber kind n → n ≡ 44 → ⊥
       no-44 n (inl h) e = omega arith
       no-44 n (inr (inl h)) e = omega arith
       no-44 n (inr (inr (inl h))) e = omega arith
-      no-44 n (inr (inr (inr h))) e = omega arith
+      no-44 n (inr (inr (inr (inl h)))) e = omega arith
+      no-44 n (inr (inr (inr (inr h)))) e = omega arith
 
       go : (v : Verdict) (w : Validity) → read .answer ≡ v → getD (judgementNumbers (judged v w)) 0 0 ≡ 44 → ⊥
       go (Accepted k) Valid a e = omega arith
@@ -147,7 +148,7 @@ module _ (src : List ℕ) (kind : ℕ) (T : Tables) (X : Indexes) where
       go (Rejected f) w a e = no-44 (numberOf f) (refusal-documented src kind T X f a .number) e
 
   -- and leaves a full, sound reading where it is loaded, where it is not valid, and where repeats alone were refused;
-  pub load-sound : FullLoad (loadAll src kind T X .answer) → Sound src (loadAll src kind T X .counts) (loadAll src kind T X .singles) (loadAll src kind T X .tables) (loadAll src kind T X .indexes)
+  pub load-sound : FullLoad (loadAll src kind T X .answer) → Sound src (loadAll src kind T X .counts) (loadAll src kind T X .singles) (tenOf (loadAll src kind T X .tables)) (loadAll src kind T X .indexes)
   unfolding loadAll
   load-sound x = read-sound src kind T X (go (read .answer) fitness x)
     where
@@ -164,10 +165,10 @@ module _ (src : List ℕ) (kind : ℕ) (T : Tables) (X : Indexes) where
   unfolding loadAll
   load-values r h = read-values src kind T X r h
 
-  -- after any other refusal tables 1 to 9, both indexes and the counts are zero, and the singles absent.
+  -- after any other refusal tables 1 to 9 and 15 to 17, both indexes and the counts are zero, and the singles absent.
   pub load-clean : (f : Refusal) → loadAll src kind T X .answer ≡ NotRead f → (RepeatsOnly f → ⊥) → Cleared T X read
   load-clean f e n = stopped-clean src kind T X f (load-not-read f .0 e) n
 
 -- "Any two outcomes allowed by it are proved equal": the contract of `load` allows one.
-pub load-one : (src : List ℕ) (kind : ℕ) (T : Tables) (X : Indexes) (o p : LoadResult) → Allows src kind T X o → Allows src kind T X p → o ≡ p
+pub load-one : (src : List ℕ) (kind : ℕ) (T : AllTables) (X : Indexes) (o p : LoadResult) → Allows src kind T X o → Allows src kind T X p → o ≡ p
 load-one src kind T X o p e h = e ∙ sym h

@@ -4,10 +4,11 @@ use Prim.Native.Nat.{ℕ}
 use mathlib.Core.Path.{_≡_}
 use mathlib.Core.List.{List, [], _∷_, _++_}
 use Rattle.grammar.specs.declared.Counts.{Counts}
+use Rattle.grammar.specs.declared.PosixCounts.{PosixCounts}
 use Rattle.grammar.specs.declared.Singles.{Singles}
 use Rattle.grammar.specs.declared.Refusal.{Refusal}
 use Rattle.grammar.specs.Numbers.{refusalNumbers}
-use Rattle.grammar.specs.Sound.{Tables, Indexes}
+use Rattle.grammar.specs.Sound.{AllTables, tenOf, Indexes}
 use Rattle.reader.specs.declared.Verdict.{Verdict}
 use Rattle.reader.specs.declared.Verdict.the-variants.{Accepted, Rejected}
 use Rattle.reader.specs.Read.{Result, readAll}
@@ -40,25 +41,27 @@ judgementNumbers (NotValid f) = flawNumbers f ++ (0 ∷ [])
 pub record LoadResult : Type 0 where
   pub answer : Judgement
   pub counts : Counts
+  pub posix : PosixCounts
   pub singles : Singles
-  pub tables : Tables
+  pub tables : AllTables
   pub indexes : Indexes
 
 abbrev pub judgedRead : List ℕ → Result → LoadResult
 judgedRead src o =
     record {
-      answer = judged (o .answer) (validity src (o .counts) (o .singles) (o .tables) (o .indexes));
+      answer = judged (o .answer) (validity src (o .counts) (o .singles) (tenOf (o .tables)) (o .indexes));
       counts = o .counts;
+      posix = o .posix;
       singles = o .singles;
       tables = o .tables;
       indexes = o .indexes;
     }
 
-unfoldable pub loadAll : List ℕ → ℕ → Tables → Indexes → LoadResult
+unfoldable pub loadAll : List ℕ → ℕ → AllTables → Indexes → LoadResult
 loadAll src kind T X = judgedRead src (readAll src kind T X)
 
 -- "Any two outcomes allowed by it are proved equal": an outcome that the contract of `load` allows, on tables that held T and indexes that held X
-abbrev pub Allows : List ℕ → ℕ → Tables → Indexes → LoadResult → Type 0
+abbrev pub Allows : List ℕ → ℕ → AllTables → Indexes → LoadResult → Type 0
 Allows src kind T X o = o ≡ loadAll src kind T X
 
 -- the answers after which the tables hold a full reading: loaded, not valid, and not read for repeats only

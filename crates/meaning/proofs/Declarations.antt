@@ -4,9 +4,9 @@ use mathlib.Core.Path.{_≡_, refl, sym, _∙_, ap₂}
 use mathlib.Core.List.{List, [], _∷_}
 use mathlib.Core.Bool.{Bool, true, false, _&&_, and-eq-true-iff, false≢true}
 use native.Mathlib.Omega.{arith}
-use lib.Dec.{leb, eqb}
+use lib.Dec.{leb, eqb, ltb}
 use lib.ListN.{length}
-use Rattle.scan.specs.Scan.{startsAt}
+use Rattle.scan.specs.Scan.{isAt, startsAt}
 use Rattle.scan.specs.Table.{same}
 use Rattle.scan.proofs.Bytes.{on-test}
 use Rattle.scan.proofs.Loop.{Either, turns-keep}
@@ -18,21 +18,28 @@ use Rattle.words.specs.declared.Token.{Token}
 use Rattle.words.specs.declared.Token.the-variants.{Found, NoToken}
 use Rattle.words.specs.declared.Int.{Int}
 use Rattle.words.specs.declared.Int.the-variants.{Value, NoDigits, TooLarge}
+use Rattle.words.specs.declared.Tag.{Tag}
+use Rattle.words.specs.declared.Tag.the-variants.{TagTo, OpenTag, NoTag}
 use Rattle.words.specs.declared.Quote.{Quote}
 use Rattle.words.specs.declared.Quote.the-variants.{Closed, NotOpened, LineInside, BadEscape, NotClosed}
 use Rattle.words.specs.Words.{nameAt, tokenAt}
 use Rattle.words.specs.Numbers.{intAt}
 use Rattle.words.specs.Strings.{stringAt}
+use Rattle.words.specs.Tags.{tagAt}
 use Rattle.texts.specs.declared.ColonText.{ColonText}
 use Rattle.texts.specs.declared.ColonText.the-variants.{Upto, NoColon}
 use Rattle.texts.specs.Colon.{colonTextAt}
 use Rattle.texts.specs.Line.{lineEndAt}
+use Rattle.texts.specs.declared.Brace.{Brace}
+use Rattle.texts.specs.declared.Brace.the-variants.{Closes, NeverCloses}
+use Rattle.texts.specs.Action.{bracedAt}
+use Rattle.texts.specs.Mark.{markedAt}
 use Rattle.keywords.specs.declared.Keyword.{Keyword}
-use Rattle.keywords.specs.declared.Keyword.the-variants.{Percents, TokenWord, ActiontypeWord, StartWord, EppWord, ExpectRrWord, ExpectUnusedWord, ExpectWord, AvoidInsertWord, ParseParamWord, ParseGenericsWord, ImplicitTokensWord, LeftWord, RightWord, NonassocWord, NoKeyword}
+use Rattle.keywords.specs.declared.Keyword.the-variants.{Percents, TokenWord, ActiontypeWord, StartWord, EppWord, ExpectRrWord, ExpectUnusedWord, ExpectWord, AvoidInsertWord, ParseParamWord, ParseGenericsWord, ImplicitTokensWord, LeftWord, RightWord, NonassocWord, PrologueWord, UnionWord, TypeWord, NoKeyword}
 use Rattle.keywords.specs.declared.Seen.{Seen}
 use Rattle.keywords.specs.Keywords.{Entry, keywords, knows, firstOf, seenAt}
 use Rattle.keywords.specs.Cases.{numberOf}
-use Rattle.tables.specs.Layout.{precedences, avoided, implicit, epps, unused, keyName, width}
+use Rattle.tables.specs.Layout.{precedences, avoided, implicit, epps, unused, tags, tokenNumbers, bodies, keyName, width}
 use Rattle.grammar.specs.declared.Part.{Part}
 use Rattle.grammar.specs.declared.Part.the-variants.{Absent, At}
 use Rattle.grammar.specs.declared.Expect.{Expect}
@@ -45,20 +52,26 @@ use Rattle.grammar.specs.declared.Answer.{Answer}
 use Rattle.grammar.specs.declared.Answer.the-variants.{Going, Done, Refused}
 use Rattle.grammar.specs.declared.Gap.{Gap}
 use Rattle.grammar.specs.declared.Gap.the-variants.{GapTo, GapRefused}
-use Rattle.grammar.specs.Cells.{kindCells, precedenceCells, nameCells, eppCells}
-use Rattle.grammar.specs.State.{Out1, Out2, Out3, withAt, withSingles, gapAt, pushRow, enterStep, onceStep}
+use Rattle.grammar.specs.Cells.{kindCells, precedenceCells, nameCells, eppCells, tagCells, numberCells, bodyCells}
+use Rattle.grammar.specs.State.{Out0, Out1, Out3, Out4, withAt, withLevel, nextLevel, withSingles, gapAt, pushRow, enterStep, onceStep, passOn}
 use Rattle.grammar.proofs.Kept.{onward-keep}
 use Rattle.settings.specs.Singles.{withParam, withExpected, expectedOf}
 use Rattle.settings.specs.Settings.{startGiven, startNamed, startName, startFrom, startDecl, repeatedExpect, expectSeen, expectGiven, expectInt, expectFrom, expectDecl, actiontypeGiven, actiontypeNamed, actiontypeFrom, actiontypeDecl, paramGiven, paramTyped, paramText, paramFrom, paramDecl, genericsFrom, genericsDecl}
-use Rattle.lists.specs.Lists.{tokenFound, tokenItem, unusedRow, unusedToken, unusedName, unusedItem, listItem, ends, afterItem, listTurn, percentList, listFrom, listDecl}
-use Rattle.lines.specs.Precedences.{precFound, precItem, lineEnd, afterEnd, precTurn, precList, precFrom, precDecl}
+use Rattle.marks.specs.Marks.{Leading, noTag, tagFound, leadTag, tagGiven, tagRow, numberGiven, numberBehind, numberAfter, behindWord}
+use Rattle.lists.specs.declared.Spelling.{Spelling}
+use Rattle.lists.specs.declared.Spelling.the-variants.{Spelled, Unspelled}
+use Rattle.lists.specs.declared.WordList.{WordList}
+use Rattle.lists.specs.declared.WordList.the-variants.{TokenList, UnusedList, TypeList}
+use Rattle.lists.specs.Lists.{tokenFound, tokenItem, spelledAt, unusedRow, unusedSpelled, unusedItem, typeRow, typeSpelled, typeItem, listItem, ends, afterItem, listTurn, percentList, leadList, listLed, listBody, listFrom, listDecl}
+use Rattle.lines.specs.Precedences.{precFound, precItem, lineEnd, afterEnd, precTurn, precList, precLed, precBody, precFrom, precDecl}
 use Rattle.lines.specs.Avoided.{avoidEntered, avoidNamed, avoidFound, avoidItem, avoidEnd, avoidTurn, avoidList, avoidFrom, avoidDecl}
+use Rattle.bodies.specs.Bodies.{bodyRow, prologueClosed, prologueDecl, unionClosed, unionOpened, unionBody, unionFrom, unionDecl}
 use Rattle.epps.specs.Epps.{eppGiven, eppString, eppText, eppGap, eppValue, eppKey, eppFrom, eppDecl}
 use Rattle.declarations.specs.Declarations.{Declared, Out, byKeyword, declStep, afterEnd as sectionEnd, declTurn, declRun, allFrom, declAll}
 use Rattle.meaning.specs.Regions.{paramWord, ParamMade}
 use Rattle.meaning.specs.Made.{MadeAt}
 use Rattle.meaning.proofs.Regions.{word-region}
-use Rattle.meaning.proofs.Rows.{Other, low-other, push-other, repeat-made, once-made, enter-made, pass-made}
+use Rattle.meaning.proofs.Rows.{Other, low-other, high-other, push-other, repeat-made, once-made, enter-made, pass-made}
 
 -- where the keyword of the parse parameter is seen, it stands as it is spelled
 record SeesParam (src : List ℕ) (at : ℕ) (r : Seen) : Type 0 where
@@ -83,8 +96,8 @@ module _ (kind : ℕ) (src : List ℕ) (at : ℕ) where
   first-param [] l = λ p. absurd (false≢true p)
   first-param (e ∷ es) l =
       let k = and-eq-true-iff _ (spelled es) .0 l in
-      on-test Sees (knows kind (e .only) && startsAt (e .word) src at) _ _
-      (λ t p. spelt (isParam (e .is)) p (k .0) (and-eq-true-iff (knows kind (e .only)) _ .0 t .1))
+      on-test Sees (knows kind (e .kinds) && startsAt (e .word) src at) _ _
+      (λ t p. spelt (isParam (e .is)) p (k .0) (and-eq-true-iff (knows kind (e .kinds)) _ .0 t .1))
       (λ t. first-param es (k .1))
     where
       Sees : Seen → Type 0
@@ -165,40 +178,75 @@ module _ (src : List ℕ) (kind : ℕ) (t7 t8 t9 : List ℕ) where
         go (GapTo i n) = pass-made src kind _ t7 t8 t9 x false (lineEndAt src i) Going
         go (GapRefused f) = x
 
-    -- a declared token, and what is expected unused,
-    list-item-made : (tokens : Bool) (t : List ℕ) → I (listItem src s tokens t .state)
-    unfolding tokenItem unusedItem unusedRow
-    list-item-made true t = go (tokenAt src (s .at))
+    -- a tag in front of a list's words, and a row of table 15 for each,
+    lead-made : (wanted line : Bool) → I (leadTag src s wanted line .state)
+    unfolding leadTag
+    lead-made wanted line = on-test (λ (l : Leading). I (l .state)) (eqb (s .kind) 4) _ _ (λ e. tag (tagAt src (s .at))) (λ e. x)
       where
-        go : (r : Token) → I (tokenFound r src s t .state)
-        go (Found p end q) = let o = enterStep src s (p .from) (p .to) true t in pass-made src kind (o .state) t7 t8 t9 (enter-made src kind s t7 t8 t9 x (p .from) (p .to) true t) false end (o .answer)
-        go (NoToken k) = x
-    list-item-made false t = name (nameAt src (s .at))
+        none : (w : Bool) (i : ℕ) → I (noTag w i s .state)
+        none true i = x
+        none false i = x
+
+        tag : (t : Tag) → I (tagFound t src s wanted line .state)
+        tag (TagTo p end) = pass-made src kind s t7 t8 t9 x line end Going
+        tag (OpenTag i) = x
+        tag (NoTag i) = none wanted i
+
+    given-made : (g : Part) (from to : ℕ) (t : List ℕ) → I (tagGiven g s from to t .state)
+    given-made Absent from to t = x
+    given-made (At i j) from to t = push-other src kind s t7 t8 t9 x tags (tagCells from to i j) t (high-other tags (omega arith))
+
+    tag-made : (a : Answer) (g : Part) (from to : ℕ) (t : List ℕ) → I (tagRow a s g from to t .state)
+    unfolding tagRow
+    tag-made Going g from to t = given-made g from to t
+    tag-made Done g from to t = x
+    tag-made (Refused f) g from to t = x
+
+    -- a number behind a word,
+    number-made : (line : Bool) (from to : ℕ) (t : List ℕ) → I (numberBehind src line from to s t .state)
+    unfolding numberBehind
+    number-made line from to t = on-test (λ (o : Out1). I (o .state)) (eqb (s .kind) 4) _ _ (λ e. int (intAt src (s .at))) (λ e. x)
       where
-        row : (sort from to end : ℕ) → I (unusedRow src s sort from to end t .state)
-        row sort from to end =
-            let o = pushRow s unused (kindCells sort from to) t in
-            pass-made src kind (o .state) t7 t8 t9 (push-other src kind s t7 t8 t9 x unused (kindCells sort from to) t (low-other unused (omega arith))) false end (o .answer)
+        int : (i : Int) → I (numberGiven i src line from to s t .state)
+        int (Value v end) =
+            let row = numberCells from to v in
+            let o = pushRow s tokenNumbers row t in
+            on-test (λ (o : Out1). I (o .state)) (ltb 4294967295 v) _ _ (λ e. x)
+            (λ e. pass-made src kind (o .state) t7 t8 t9 (push-other src kind s t7 t8 t9 x tokenNumbers row t (high-other tokenNumbers (omega arith))) line end (o .answer))
+        int (NoDigits k) = x
+        int (TooLarge k) = x
 
-        token : (r : Token) → I (unusedToken r src s t .state)
-        token (Found p end q) = row 2 (p .from) (p .to) end
-        token (NoToken k) = x
+    -- a body,
+    body-made : (sort from to end : ℕ) (t : List ℕ) → I (bodyRow src s sort from to end t .state)
+    unfolding bodyRow
+    body-made sort from to end t =
+        let row = bodyCells sort from to in
+        let o = pushRow s bodies row t in
+        pass-made src kind (o .state) t7 t8 t9 (push-other src kind s t7 t8 t9 x bodies row t (high-other bodies (omega arith))) false end (o .answer)
 
-        name : (n : Name) → I (unusedName n src s t .state)
-        name (NameTo j) = row 1 (s .at) j j
-        name (NoName k) = token (tokenAt src (s .at))
-
-    -- a word of a precedence line,
-    prec-item-made : (level assoc : ℕ) (t2 t10 : List ℕ) → I (precItem src s level assoc t2 t10 .state)
-    unfolding precItem
-    prec-item-made level assoc t2 t10 = go (tokenAt src (s .at))
+    prologue-made : (at : ℕ) (t : List ℕ) → I (prologueDecl src s at t .state)
+    unfolding prologueDecl
+    prologue-made at t = go (markedAt src (s .at))
       where
-        go : (r : Token) → I (precFound r src s level assoc t2 t10 .state)
-        go (Found p end q) =
-            let row = precedenceCells (p .from) (p .to) level assoc in
-            let o = onceStep src s precedences (width precedences) 0 RepeatedPrecedence row t2 t10 in
-            pass-made src kind (o .state) t7 t8 t9 (once-made src kind s t7 t8 t9 x precedences (width precedences) 0 RepeatedPrecedence row t2 t10 (low-other precedences (omega arith))) true end (o .answer)
-        go (NoToken k) = x
+        go : (b : Brace) → I (prologueClosed b src s at t .state)
+        go (Closes to n) = body-made 1 (s .at) to (to + 2) t
+        go NeverCloses = x
+
+    union-made : (at : ℕ) (t : List ℕ) → I (unionDecl src s at t .state)
+    unfolding unionDecl unionBody
+    union-made at t = gap (gapAt (s .kind) false src (s .at))
+      where
+        brace : (i : ℕ) (b : Brace) → I (unionClosed b src s at i t .state)
+        brace i (Closes to n) = body-made 2 (i + 1) to (to + 1) t
+        brace i NeverCloses = x
+
+        opened : (i : ℕ) (b : Bool) → I (unionOpened b src s at i t .state)
+        opened i true = brace i (bracedAt src (i + 1))
+        opened i false = x
+
+        gap : (g : Gap) → I (unionFrom g src s at t .state)
+        gap (GapTo i n) = opened i (isAt 123 src i)
+        gap (GapRefused f) = x
 
     -- one of an avoid or implicit list,
     avoid-item-made : (k : ℕ) → Other k → (what : Repeat) (t1 t t10 : List ℕ) → I (avoidItem src s k what t1 t t10 .state)
@@ -268,46 +316,111 @@ module _ (src : List ℕ) (kind : ℕ) (t7 t8 t9 : List ℕ) where
         go (GapTo i n) e = text i n e (colonTextAt src i) refl
         go (GapRefused f) e = x
 
-  -- lists
-  list-made : (s : State) → I s → (tokens : Bool) (t : List ℕ) → I (listDecl src s tokens t .state)
-  unfolding listDecl percentList listTurn
-  list-made s x tokens t = go (gapAt (s .kind) false src (s .at))
+  -- the spacing behind a word, and what number follows it
+  behind-made : (line : Bool) (from to end : ℕ) (a : Answer) (s : State) (t : List ℕ) → I s → I (behindWord src line from to end a s t .state)
+  unfolding behindWord
+  behind-made line from to end a s t x = go (passOn src line end a s) (passOn src line end a s .answer) (pass-made src kind s t7 t8 t9 x line end a)
     where
-      J : Out1 → Type 0
+      go : (o : Out0) (b : Answer) → I (o .state) → I (numberAfter o src line from to b t .state)
+      go o Going y = number-made (o .state) y line from to t
+      go o Done y = y
+      go o (Refused f) y = y
+
+  -- behind a step, the row of a word's tag, the spacing and a number
+  word-made : (line : Bool) (tag : Part) (from to end : ℕ) (a : Answer) (s : State) (t15 t16 : List ℕ) → I s → let r = tagRow a s tag from to t15 in I (behindWord src line from to end (r .answer) (r .state) t16 .state)
+  word-made line tag from to end a s t15 t16 x = let r = tagRow a s tag from to t15 in behind-made line from to end (r .answer) (r .state) t16 (tag-made s x a tag from to t15)
+
+  module _ (s : State) (x : I s) where
+    -- a declared token, what is expected unused, and what has a type,
+    list-item-made : (what : WordList) (tag : Part) (t t15 t16 : List ℕ) → I (listItem src s what tag t t15 t16 .state)
+    unfolding tokenItem unusedItem unusedRow typeItem typeRow
+    list-item-made TokenList tag t t15 t16 = go (tokenAt src (s .at))
+      where
+        go : (r : Token) → I (tokenFound r src s tag t t15 t16 .state)
+        go (Found p end q) =
+            let o = enterStep src s (p .from) (p .to) true t in
+            word-made false tag (p .from) (p .to) end (o .answer) (o .state) t15 t16 (enter-made src kind s t7 t8 t9 x (p .from) (p .to) true t)
+        go (NoToken k) = x
+    list-item-made UnusedList tag t t15 t16 = go (spelledAt src (s .at))
+      where
+        go : (r : Spelling) → I (unusedSpelled r src s t .state)
+        go (Spelled sort from to end) =
+            let o = pushRow s unused (kindCells sort from to) t in
+            pass-made src kind (o .state) t7 t8 t9 (push-other src kind s t7 t8 t9 x unused (kindCells sort from to) t (low-other unused (omega arith))) false end (o .answer)
+        go (Unspelled k) = x
+    list-item-made TypeList tag t t15 t16 = go (spelledAt src (s .at))
+      where
+        go : (r : Spelling) → I (typeSpelled r src s tag t15 .state)
+        go (Spelled sort from to end) = let o = tagGiven tag s from to t15 in pass-made src kind (o .state) t7 t8 t9 (given-made s x tag from to t15) false end (o .answer)
+        go (Unspelled k) = x
+
+    -- and a word of a precedence line.
+    prec-item-made : (level assoc : ℕ) (tag : Part) (t2 t10 t15 t16 : List ℕ) → I (precItem src s level assoc tag t2 t10 t15 t16 .state)
+    unfolding precItem
+    prec-item-made level assoc tag t2 t10 t15 t16 = go (tokenAt src (s .at))
+      where
+        go : (r : Token) → I (precFound r src s level assoc tag t2 t10 t15 t16 .state)
+        go (Found p end q) =
+            let row = precedenceCells (p .from) (p .to) level assoc in
+            let o = onceStep src s precedences (width precedences) 0 RepeatedPrecedence row t2 t10 in
+            word-made true tag (p .from) (p .to) end (o .answer) (o .state) t15 t16 (once-made src kind s t7 t8 t9 x precedences (width precedences) 0 RepeatedPrecedence row t2 t10 (low-other precedences (omega arith)))
+        go (NoToken k) = x
+
+  -- lists
+  list-made : (s : State) → I s → (what : WordList) (t t15 t16 : List ℕ) → I (listDecl src s what t t15 t16 .state)
+  unfolding listDecl listBody percentList listTurn
+  list-made s x what t t15 t16 = go (gapAt (s .kind) false src (s .at))
+    where
+      J : Out3 → Type 0
       J o = I (o .state)
 
-      turn : (o : Out1) → J o → Either J J (listTurn src tokens o)
-      turn o y = by (ends src (o .state .at))
+      turn : (tag : Part) (o : Out3) → J o → Either J J (listTurn src what tag o)
+      turn tag o y = by (ends src (o .state .at))
         where
-          by : (b : Bool) → Either J J (afterItem b o (listItem src (o .state) tokens (o .a)))
+          by : (b : Bool) → Either J J (afterItem b o (listItem src (o .state) what tag (o .a) (o .b) (o .c)))
           by true = y
-          by false = let p = listItem src (o .state) tokens (o .a) in onward-keep J (p .answer) p (list-item-made (o .state) y tokens (o .a))
+          by false = let p = listItem src (o .state) what tag (o .a) (o .b) (o .c) in onward-keep J (p .answer) p (list-item-made (o .state) y what tag (o .a) (o .b) (o .c))
 
-      go : (g : Gap) → I (listFrom g src s tokens t .state)
-      go (GapTo i n) = turns-keep J (listTurn src tokens) turn (suc (length src)) _ x
+      lead : (w : WordList) (u : State) → I u → I (leadList w src u .state)
+      lead TokenList u y = lead-made u y false false
+      lead UnusedList u y = y
+      lead TypeList u y = lead-made u y true false
+
+      led : (a : Answer) (l : Leading) → I (l .state) → J (listLed a l src what t t15 t16)
+      led Going l y = turns-keep J (listTurn src what (l .tag)) (turn (l .tag)) (suc (length src)) _ y
+      led Done l y = y
+      led (Refused f) l y = y
+
+      go : (g : Gap) → J (listFrom g src s what t t15 t16)
+      go (GapTo i n) = let u = withAt s i in led (leadList what src u .answer) (leadList what src u) (lead what u x)
       go (GapRefused f) = x
 
-  prec-made : (s : State) → I s → (assoc : ℕ) (t2 t10 : List ℕ) → I (precDecl src s assoc t2 t10 .state)
-  unfolding precDecl precList precTurn
-  prec-made s x assoc t2 t10 = go (gapAt (s .kind) false src (s .at))
+  prec-made : (s : State) → I s → (assoc : ℕ) (t2 t10 t15 t16 : List ℕ) → I (precDecl src s assoc t2 t10 t15 t16 .state)
+  unfolding precDecl precBody precList precTurn
+  prec-made s x assoc t2 t10 t15 t16 = go (gapAt (s .kind) false src (s .at))
     where
-      J : Out2 → Type 0
+      J : Out4 → Type 0
       J o = I (o .state)
 
-      next : (a : Answer) (p : Out2) → J p → Either J J (lineEnd a p)
+      next : (a : Answer) (p : Out4) → J p → Either J J (lineEnd a p)
       next Going p y = y
       next Done p y = y
       next (Refused f) p y = y
 
-      turn : (o : Out2) → J o → Either J J (precTurn src (s .level) assoc o)
-      turn o y = by (leb (length src) (o .state .at))
+      turn : (tag : Part) (o : Out4) → J o → Either J J (precTurn src (s .level) assoc tag o)
+      turn tag o y = by (leb (length src) (o .state .at))
         where
-          by : (b : Bool) → Either J J (afterEnd b o (precItem src (o .state) (s .level) assoc (o .a) (o .b)))
+          by : (b : Bool) → Either J J (afterEnd b o (precItem src (o .state) (s .level) assoc tag (o .a) (o .b) (o .c) (o .d)))
           by true = y
-          by false = let p = precItem src (o .state) (s .level) assoc (o .a) (o .b) in next (p .answer) p (prec-item-made (o .state) y (s .level) assoc (o .a) (o .b))
+          by false = let p = precItem src (o .state) (s .level) assoc tag (o .a) (o .b) (o .c) (o .d) in next (p .answer) p (prec-item-made (o .state) y (s .level) assoc tag (o .a) (o .b) (o .c) (o .d))
 
-      go : (g : Gap) → I (precFrom g src s assoc t2 t10 .state)
-      go (GapTo i n) = turns-keep J (precTurn src (s .level) assoc) turn (suc (length src)) _ x
+      led : (a : Answer) (l : Leading) → I (l .state) → J (precLed a l src (s .level) assoc t2 t10 t15 t16)
+      led Going l y = turns-keep J (precTurn src (s .level) assoc (l .tag)) (turn (l .tag)) (suc (length src)) _ y
+      led Done l y = y
+      led (Refused f) l y = y
+
+      go : (g : Gap) → J (precFrom g src s assoc t2 t10 t15 t16)
+      go (GapTo i n) = let u = withLevel (withAt s i) (nextLevel (s .level)) in led (leadTag src u false true .answer) (leadTag src u false true) (lead-made u x false true)
       go (GapRefused f) = x
 
   avoid-made : (s : State) → I s → (k : ℕ) → Other k → (what : Repeat) (t1 t t10 : List ℕ) → I (avoidDecl src s k what t1 t t10 .state)
@@ -336,20 +449,23 @@ module _ (src : List ℕ) (kind : ℕ) (t7 t8 t9 : List ℕ) where
     by-keyword : (s : State) → I s → (D : Declared) (w : Keyword) (j : ℕ) → (isParam w ≡ true → SeesParam src (s .at) (record { word = w; end = j })) → K (byKeyword w src s (withAt s j) D)
     unfolding numberOf
     by-keyword s x D Percents j p = x
-    by-keyword s x D TokenWord j p = list-made (withAt s j) x true (D .t1)
+    by-keyword s x D TokenWord j p = list-made (withAt s j) x TokenList (D .t1) (D .t15) (D .t16)
     by-keyword s x D ActiontypeWord j p = actiontype-made (withAt s j) x (D .t10)
     by-keyword s x D StartWord j p = start-made (withAt s j) x (D .t10)
     by-keyword s x D EppWord j p = epp-made (withAt s j) x (D .t5) (D .t10)
     by-keyword s x D ExpectRrWord j p = expect-made (withAt s j) x true (D .t10)
-    by-keyword s x D ExpectUnusedWord j p = list-made (withAt s j) x false (D .t6)
+    by-keyword s x D ExpectUnusedWord j p = list-made (withAt s j) x UnusedList (D .t6) (D .t15) (D .t16)
     by-keyword s x D ExpectWord j p = expect-made (withAt s j) x false (D .t10)
     by-keyword s x D AvoidInsertWord j p = avoid-made (withAt s j) x avoided (low-other avoided (omega arith)) RepeatedAvoidInsert (D .t1) (D .t3) (D .t10)
     by-keyword s x D ParseParamWord j p = let q = p refl in param-made (withAt s j) x t (s .at) (q .stands) (q .behind)
     by-keyword s x D ParseGenericsWord j p = generics-made (withAt s j) x
     by-keyword s x D ImplicitTokensWord j p = avoid-made (withAt s j) x implicit (low-other implicit (omega arith)) RepeatedImplicitTokens (D .t1) (D .t4) (D .t10)
-    by-keyword s x D LeftWord j p = prec-made (withAt s j) x 1 (D .t2) (D .t10)
-    by-keyword s x D RightWord j p = prec-made (withAt s j) x 2 (D .t2) (D .t10)
-    by-keyword s x D NonassocWord j p = prec-made (withAt s j) x 3 (D .t2) (D .t10)
+    by-keyword s x D LeftWord j p = prec-made (withAt s j) x 1 (D .t2) (D .t10) (D .t15) (D .t16)
+    by-keyword s x D RightWord j p = prec-made (withAt s j) x 2 (D .t2) (D .t10) (D .t15) (D .t16)
+    by-keyword s x D NonassocWord j p = prec-made (withAt s j) x 3 (D .t2) (D .t10) (D .t15) (D .t16)
+    by-keyword s x D PrologueWord j p = prologue-made (withAt s j) x (s .at) (D .t17)
+    by-keyword s x D UnionWord j p = union-made (withAt s j) x (s .at) (D .t17)
+    by-keyword s x D TypeWord j p = list-made (withAt s j) x TypeList (D .t6) (D .t15) (D .t16)
     by-keyword s x D NoKeyword j p = x
 
     step-made : (s : State) → I s → (D : Declared) → K (declStep src s D)

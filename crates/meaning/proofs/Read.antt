@@ -24,15 +24,17 @@ use Rattle.grammar.specs.declared.State.{State}
 use Rattle.grammar.specs.declared.Answer.{Answer}
 use Rattle.grammar.specs.declared.Answer.the-variants.{Going, Done, Refused}
 use Rattle.grammar.specs.State.{count, fresh}
-use Rattle.grammar.specs.Sound.{Tables, Indexes, zeroAll}
+use Rattle.grammar.specs.Sound.{AllTables, Indexes, zeroAll}
 use Rattle.declarations.specs.Declarations.{Out, declAll}
 use Rattle.rules.specs.Rules.{Ruled, rulesAll}
-use Rattle.reader.specs.declared.Admission.{Admission}
-use Rattle.reader.specs.declared.Admission.the-variants.{Fit, Unfit}
+use Rattle.sections.specs.declared.Admission.{Admission}
+use Rattle.sections.specs.declared.Admission.the-variants.{Fit, Unfit}
+use Rattle.sections.specs.Sections.{asText, sized, sizedText, admitted, restFrom, restAll, declared, sectionsFrom, sectionsAll, attemptOf, attempted}
 use Rattle.reader.specs.declared.Reading.{Reading}
-use Rattle.reader.specs.Read.{Result, asText, sized, sizedText, admitted, restFrom, restAll, declared, sectionsFrom, sectionsAll, attemptOf, attempted, endedAt, finished, finishedRun, indexed, filledIn, readNames, readAll}
+use Rattle.reader.specs.Read.{Result, endedAt, finished, finishedRun, indexed, filledIn, readNames, readAll}
 use Rattle.meaning.specs.Regions.{ParamMade, ActionMade}
-use Rattle.meaning.specs.Made.{SymbolMade, TypeMade, ParamFrom, Made, MadeAt, MadeOf}
+use Rattle.meaning.specs.Made.{SymbolMade, TypeMade, ParamFrom, Made, MadeAt}
+use Rattle.meaning.specs.Left.{MadeOf}
 use Rattle.meaning.proofs.Rules.{MadeIn, rules-made, programs-made}
 use Rattle.meaning.proofs.Declarations.{declarations-made}
 
@@ -42,7 +44,7 @@ none-made src kind c t7 t8 t9 a b d = record { rules = λ q r l. absurd (omega a
 
 module _ (src : List ℕ) (kind : ℕ) where
   -- the sections of a source that is a text
-  sections-made : Text src → (T : Tables) → let r = sectionsAll src (fresh kind) T in MadeAt src kind (r .state) (r .tables .t7) (r .tables .t8) (r .tables .t9)
+  sections-made : Text src → (T : AllTables) → let r = sectionsAll src (fresh kind) T in MadeAt src kind (r .state) (r .tables .t7) (r .tables .t8) (r .tables .t9)
   unfolding sectionsAll restAll
   sections-made t T =
       let o = declAll src (fresh kind) (declared T) in
@@ -71,7 +73,7 @@ module _ (src : List ℕ) (kind : ℕ) where
       same : (r k : ℕ) → k < knownRow → getD (rowAt (width symbols) (filledRows g t9 n) r) k 0 ≡ getD (rowAt (width symbols) t9 r) k 0
       same r k h = fill-cell g t9 n r k h
 
-  finished-made : (X : Indexes) (a : Answer) (s : State) (T : Tables) → MadeAt src kind s (T .t7) (T .t8) (T .t9) → MadeOf src kind (filledIn src (indexed src X (finished a s T)))
+  finished-made : (X : Indexes) (a : Answer) (s : State) (T : AllTables) → MadeAt src kind s (T .t7) (T .t8) (T .t9) → MadeOf src kind (filledIn src (indexed src X (finished a s T)))
   unfolding endedAt
   finished-made X a s T x = go a
     where
@@ -90,7 +92,7 @@ module _ (src : List ℕ) (kind : ℕ) where
 
   admits : (fit : Bool) → Admits (admitted src kind fit)
   unfolding admitted
-  admits fit = on-test Admits (ltb kind 1 || ltb 3 kind) _ _ (λ e. tt) (λ e. by fit)
+  admits fit = on-test Admits (ltb kind 1 || ltb 4 kind) _ _ (λ e. tt) (λ e. by fit)
     where
       go : (c : Checked) → checkAt src 0 ≡ c → Admits (asText c)
       go Good e = good-iff src .0 e
@@ -101,7 +103,7 @@ module _ (src : List ℕ) (kind : ℕ) where
       by false = tt
 
   -- Each row of tables 7, 8 and 9 that a read leaves, and the parse parameter, is made from the source as it should be.
-  pub read-made : (T : Tables) (X : Indexes) → MadeOf src kind (readAll src kind T X)
+  pub read-made : (T : AllTables) (X : Indexes) → MadeOf src kind (readAll src kind T X)
   unfolding readAll readNames attempted
   read-made T X = go (admitted src kind (sized T X)) (admits (sized T X))
     where
@@ -109,7 +111,7 @@ module _ (src : List ℕ) (kind : ℕ) where
       go Fit t = let r = sectionsAll src (fresh kind) (zeroAll T) in finished-made X (r .answer) (r .state) (r .tables) (sections-made t (zeroAll T))
       go (Unfit f) t = none-made src kind _ _ _ _ refl refl refl
 
-  module _ (T : Tables) (X : Indexes) where
+  module _ (T : AllTables) (X : Indexes) where
     abbrev o : Result
     o = readAll src kind T X
 

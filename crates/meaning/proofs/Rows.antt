@@ -27,6 +27,7 @@ use Rattle.grammar.specs.declared.Gap.the-variants.{GapTo, GapRefused}
 use Rattle.grammar.specs.Refusals.{numberOfRepeat}
 use Rattle.grammar.specs.Cells.{tokenCells, ruleCells, repeatCells}
 use Rattle.grammar.specs.State.{count, withCount, gapAt, pushed, pushRow, listRepeat, entered, enterStep, onceFound, onceStep, past, pastGap, passOn}
+use Rattle.grammar.proofs.Counting.{count-other}
 use Rattle.meaning.specs.Regions.{Arrowed}
 use Rattle.meaning.specs.Made.{SymbolMade, ProductionMade, TypeMade, EachRow, MadeAt}
 
@@ -53,6 +54,9 @@ pub record Other (k : ℕ) : Type 0 where
 pub low-other : (k : ℕ) → k < rules → Other k
 low-other k h = record { no-rules = λ e. omega arith; no-productions = λ e. omega arith; no-symbols = λ e. omega arith }
 
+pub high-other : (k : ℕ) → symbols < k → Other k
+high-other k h = record { no-rules = λ e. omega arith; no-productions = λ e. omega arith; no-symbols = λ e. omega arith }
+
 -- the type of a rule whose name ends at `end`, in kind 2
 abbrev pub TypeGiven : ℕ → List ℕ → ℕ → Part → Type 0
 TypeGiven kind src end Absent = ⊥
@@ -63,9 +67,9 @@ module _ (src : List ℕ) (kind : ℕ) (s : State) (t7 t8 t9 : List ℕ) (x : Ma
   pub count-made : (k m : ℕ) → Other k → MadeAt src kind (withCount s k m) t7 t8 t9
   count-made k m o = (
     record {
-      rules = λ q. rw (getD-set-other (s .counts .n) k rules m 0 (o .no-rules)) (x .0 .rules q);
-      productions = rw (getD-set-other (s .counts .n) k productions m 0 (o .no-productions)) (x .0 .productions);
-      symbols = rw (getD-set-other (s .counts .n) k symbols m 0 (o .no-symbols)) (x .0 .symbols);
+      rules = λ q. rw (count-other s k m rules (o .no-rules)) (x .0 .rules q);
+      productions = rw (count-other s k m productions (o .no-productions)) (x .0 .productions);
+      symbols = rw (count-other s k m symbols (o .no-symbols)) (x .0 .symbols);
       param = x .0 .param;
     },
     x .1,
@@ -83,7 +87,7 @@ module _ (src : List ℕ) (kind : ℕ) (s : State) (t7 t8 t9 : List ℕ) (x : Ma
   -- a repeat listed,
   pub repeat-made : (what : Repeat) (a b c d : ℕ) (t : List ℕ) → MadeAt src kind (listRepeat s what a b c d t .state) t7 t8 t9
   unfolding listRepeat
-  repeat-made what a b c d t = push-other repeats (repeatCells (numberOfRepeat what) a b c d) t (record { no-rules = λ e. omega arith; no-productions = λ e. omega arith; no-symbols = λ e. omega arith })
+  repeat-made what a b c d t = push-other repeats (repeatCells (numberOfRepeat what) a b c d) t (high-other repeats (omega arith))
 
   -- what may be given once to a name,
   pub once-made : (k w name : ℕ) (what : Repeat) (row t t10 : List ℕ) → Other k → MadeAt src kind (onceStep src s k w name what row t t10 .state) t7 t8 t9

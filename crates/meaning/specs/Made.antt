@@ -12,7 +12,6 @@ use Rattle.grammar.specs.declared.Param.{Param}
 use Rattle.grammar.specs.declared.Param.the-variants.{NoParam, ParamAt}
 use Rattle.grammar.specs.declared.Counts.{Counts}
 use Rattle.grammar.specs.declared.State.{State}
-use Rattle.reader.specs.Read.{Result}
 use Rattle.meaning.specs.Regions.{ParamMade, Arrowed, ActionMade}
 
 -- "9 symbols (kind, place)": the place is that of a token as it stands in the source, and a symbol of kind "1 rule" is a bare one; "A bare token has no dots."
@@ -52,7 +51,3 @@ pub record Made (src : List ℕ) (kind : ℕ) (c : Counts) (p : Param) (t7 t8 t9
 -- the same of a reading under way, which is one of the kind
 abbrev pub MadeAt : List ℕ → ℕ → State → List ℕ → List ℕ → List ℕ → Type 0
 MadeAt src kind s t7 t8 t9 = Made src kind (s .counts) (s .singles .param) t7 t8 t9 × (s .kind ≡ kind)
-
--- and of what a read left
-abbrev pub MadeOf : List ℕ → ℕ → Result → Type 0
-MadeOf src kind o = Made src kind (o .counts) (o .singles .param) (o .tables .t7) (o .tables .t8) (o .tables .t9)

@@ -6,7 +6,6 @@ use mathlib.Core.Bool.{Bool, true, false, _&&_, _||_}
 use native.Mathlib.Omega.{arith}
 use lib.Dec.{leb, eqb}
 use lib.ListN.{length, getD, length-set}
-use lib.Seq.{getD-set-same, getD-set-other}
 use borrow.Author.Tests.{eq-eqb}
 use Rattle.scan.specs.Scan.{isAt, startsAt, begins}
 use Rattle.scan.specs.Loop.{Turn, more, stop, turns}
@@ -23,7 +22,7 @@ use Rattle.texts.proofs.Laws.{action-placed}
 use Rattle.tables.specs.declared.Entered.{Entered}
 use Rattle.tables.specs.declared.Entered.the-variants.{Rows, Full}
 use Rattle.tables.specs.Table.{Added, put, flag, enterToken}
-use Rattle.tables.specs.Layout.{tokens, productions, symbols, width}
+use Rattle.tables.specs.Layout.{tokens, productions, symbols, posixFrom, width}
 use Rattle.tables.proofs.Cases.{add-cases}
 use Rattle.grammar.specs.declared.State.{State}
 use Rattle.grammar.specs.declared.Refusal.{Refusal}
@@ -34,7 +33,8 @@ use Rattle.grammar.specs.declared.Gap.the-variants.{GapTo, GapRefused}
 use Rattle.grammar.specs.Cells.{symbolCells, tokenCells}
 use Rattle.grammar.specs.State.{Out1, count, withAt, gapAt, Gapped, pushed, pushRow, entered, enterStep, past, pastGap, passOn}
 use Rattle.grammar.proofs.Far.{far-at}
-use Rattle.grammar.specs.Sound.{Tables, Far}
+use Rattle.grammar.specs.Sound.{AllTables, Far}
+use Rattle.grammar.proofs.Counting.{same-low, count-other}
 use Rattle.grammar.proofs.Touch.{refused-going, done-going, pass-counts, pass-going}
 use Rattle.grammar.proofs.Kept.{gapped}
 use Rattle.productions.specs.declared.Production.{Production}
@@ -59,11 +59,11 @@ pub record RowPushed (s : State) (k : ℕ) (row t : List ℕ) (o : Out1) : Type 
   pub other : (j : ℕ) → (j ≡ k → ⊥) → count (o .state) j ≡ count s j
   pub at : o .state .at ≡ s .at
 
-pub push-is : (s : State) (k : ℕ) (row t : List ℕ) → k < length (s .counts .n) → pushRow s k row t .answer ≡ Going → RowPushed s k row t (pushRow s k row t)
+pub push-is : (s : State) (k : ℕ) (row t : List ℕ) → k < posixFrom → k < length (s .counts .n) → pushRow s k row t .answer ≡ Going → RowPushed s k row t (pushRow s k row t)
 unfolding pushRow
-push-is s k row t h =
+push-is s k row t b h =
     add-cases (λ (o : Added). pushed (o .ok) s k row (o .cells) .answer ≡ Going → RowPushed s k row t (pushed (o .ok) s k row (o .cells))) (count s k) row t
-    (λ room low g. record { room = room; low = low; cells = refl; counted = getD-set-same (s .counts .n) k (count s k + 1) 0 h; other = λ j d. getD-set-other (s .counts .n) k j (count s k + 1) 0 d; at = refl })
+    (λ room low g. record { room = room; low = low; cells = refl; counted = same-low s k (count s k + 1) b h; other = count-other s k (count s k + 1); at = refl })
     (λ full g. absurd (refused-going _ g))
 
 -- a token entered counts tokens alone
@@ -77,14 +77,14 @@ unfolding enterStep
 enter-still src s a b d t = go (enterToken src (count s tokens) a b d t .entered) (enterToken src (count s tokens) a b d t .cells)
   where
     go : (q : Entered) (x : List ℕ) → TokensAlone s (entered q s (tokenCells a b (flag d)) x .state)
-    go (Rows m) x = record { other = λ j e. getD-set-other (s .counts .n) tokens j m 0 e; ten = length-set (s .counts .n) tokens m; at = refl }
+    go (Rows m) x = record { other = count-other s tokens m; ten = length-set (s .counts .n) tokens m; at = refl }
     go Full x = record { other = λ j e. refl; ten = refl; at = refl }
 
 -- A symbol's row is added behind those counted in v, and the reading comes to stand at u.
 symbol-nested : {src : List ℕ} (s : State) (d : Production) {t8 t9 : List ℕ} → Nested src s d t8 t9 → Actionless (d .action) → (v : State) → length (v .counts .n) ≡ 10 → count v symbols ≡ count s symbols → count v productions ≡ count s productions → (kind from to end : ℕ) → s .at ≤ from → from < to → to ≤ end → let o = pushRow v symbols (symbolCells kind from to) t9 in o .answer ≡ Going → (u : State) → u .counts ≡ o .state .counts → end ≤ u .at → Nested src u (withTo d end) t8 (o .a)
 symbol-nested {src} s d {t8} {t9} x free v ten c9 c8 kind from to end a b c g u k l =
     let row = symbolCells kind from to in
-    let p = push-is v symbols row t9 (rw ten (omega arith)) g in
+    let p = push-is v symbols row t9 (omega arith) (rw ten (omega arith)) g in
     let room = p .room in
     let low = p .low in
     let n : count u symbols ≡ count s symbols + 1 = rw k (p .counted ∙ rw c9) in
@@ -119,7 +119,7 @@ module _ {src : List ℕ} (s : State) (d : Production) {t8 t9 : List ℕ} (here 
       entry i h Going v z g =
           let o = pushRow (v .state) symbols (symbolCells 2 from to) t9 in
           let tens = z .ten ∙ ten in
-          let p = push-is (v .state) symbols (symbolCells 2 from to) t9 (rw tens (omega arith)) g in
+          let p = push-is (v .state) symbols (symbolCells 2 from to) t9 (omega arith) (rw tens (omega arith)) g in
           let l = z .at in
           let k = p .at in
           symbol-nested s d x free (v .state) tens (z .other symbols (λ e. omega arith)) (z .other productions (λ e. omega arith)) 2 from to end a b c g (o .state) refl (omega arith)
@@ -213,7 +213,7 @@ module _ {src : List ℕ} (s : State) (d : Production) {t8 t9 : List ℕ} (ten :
   end-nested : let o = endProduction (withAt s j) d t8 in o .answer ≡ Going → (u : State) → u .counts ≡ o .state .counts → j ≤ u .at → Settled u (o .a) t9
   unfolding endProduction pushProduction
   end-nested g u k l =
-      let p = push-is (withAt s j) productions _ t8 (rw ten (omega arith)) g in
+      let p = push-is (withAt s j) productions _ t8 (omega arith) (rw ten (omega arith)) g in
       let n : count u symbols ≡ count s symbols = rw k (p .other symbols (λ e. omega arith)) in
       let m : count u productions ≡ count s productions + 1 = rw k (p .counted) in
       rw (n, m, p .cells) (lying-over d x (p .room) (p .low) (u .at) (omega arith))
@@ -272,7 +272,7 @@ pub record Kept (src : List ℕ) (o : Made3) : Type 0 where
   pub next : o .answer ≡ Going → Nested src (o .state) (o .draft) (o .t8) (o .t9)
   pub over : o .answer ≡ Done → Settled (o .state) (o .t8) (o .t9)
 
-module _ {src : List ℕ} {done : ℕ} {s : State} {d : Production} (T : Tables) (f : Far src done s T) (w : Draft src done s d) (x : Nested src s d (T .t8) (T .t9)) where
+module _ {src : List ℕ} {done : ℕ} {s : State} {d : Production} (T : AllTables) (f : Far src done s T) (w : Draft src done s d) (x : Nested src s d (T .t8) (T .t9)) where
   by-sort : (k : Sort) (j : ℕ) → s .at ≤ j → j ≤ length src → ((k ≡ BareSort → ⊥) → s .at < j) → (mayEnd src (s .at) ≡ true → Ending k) → Kept src (bySort k src s (withAt s j) d (T .t1) (T .t8) (T .t9))
   unfolding barItem endItem
   by-sort BarSort j h l b e =
@@ -305,17 +305,17 @@ module _ {src : List ℕ} {done : ℕ} {s : State} {d : Production} (T : Tables)
   item-nested = let y = spots src (s .at) (f .here) in by-sort (sortAt src (s .at) .sort) (sortAt src (s .at) .end) (y .onward) (y .inside) (y .beyond) (ending src (s .at))
 
 -- A rule under way: sound so far and nested; and one whose items are over.
-pub record Both (src : List ℕ) (T : Tables) (at : ℕ) (o : Made3) : Type 0 where
+pub record Both (src : List ℕ) (T : AllTables) (at : ℕ) (o : Made3) : Type 0 where
   pub going : Ongoing src T at o
   pub nested : Nested src (o .state) (o .draft) (o .t8) (o .t9)
 
-abbrev Onto : List ℕ → Tables → ℕ → Made3 → Made3 → Type 0
+abbrev Onto : List ℕ → AllTables → ℕ → Made3 → Made3 → Type 0
 Onto src T at o p = Both src T at p × (length src - p .state .at < length src - o .state .at)
 
 abbrev Ends : Made3 → Type 0
 Ends o = o .answer ≡ Going → Settled (o .state) (o .t8) (o .t9)
 
-turn-nested : (src : List ℕ) (T : Tables) (at : ℕ) (o : Made3) → Both src T at o → Either (Onto src T at o) Ends (itemTurn src o)
+turn-nested : (src : List ℕ) (T : AllTables) (at : ℕ) (o : Made3) → Both src T at o → Either (Onto src T at o) Ends (itemTurn src o)
 unfolding itemTurn
 turn-nested src T at o z = go (leb (length src) (o .state .at))
   where
@@ -338,7 +338,7 @@ turn-nested src T at o z = go (leb (length src) (o .state .at))
         next (itemStep src (o .state) (o .draft) (o .t1) (o .t8) (o .t9) .answer) (itemStep src (o .state) (o .draft) (o .t1) (o .t8) (o .t9)) refl (item-far U (x .far) (x .draft)) (item-nested U (x .far) (x .draft) (z .nested))
 
 -- The items of a rule: where it ended with `;`, all is settled.
-pub items-nested : {src : List ℕ} {done : ℕ} {s : State} {d : Production} (T : Tables) → Far src done s T → Draft src done s d → Nested src s d (T .t8) (T .t9) → let o = itemList src s d (T .t1) (T .t8) (T .t9) in o .answer ≡ Going → Settled (o .state) (o .t8) (o .t9)
+pub items-nested : {src : List ℕ} {done : ℕ} {s : State} {d : Production} (T : AllTables) → Far src done s T → Draft src done s d → Nested src s d (T .t8) (T .t9) → let o = itemList src s d (T .t1) (T .t8) (T .t9) in o .answer ≡ Going → Settled (o .state) (o .t8) (o .t9)
 unfolding itemList
 items-nested {src} {done} {s} {d} T f w x =
     turns-end (Both src T (s .at)) Ends (λ o. length src - o .state .at) (itemTurn src) (turn-nested src T (s .at)) (suc (length src)) _ (omega arith)

@@ -26,7 +26,7 @@ use Rattle.grammar.specs.declared.Part.{Part}
 use Rattle.grammar.specs.declared.Part.the-variants.{Absent, At}
 use Rattle.grammar.specs.Cells.{ruleCells}
 use Rattle.grammar.specs.State.{Passed, count, withAt, passOn, onward}
-use Rattle.grammar.specs.Sound.{Tables, setTab, Far}
+use Rattle.grammar.specs.Sound.{AllTables, setTab, Far}
 use Rattle.grammar.proofs.Far.{far-at}
 use Rattle.grammar.proofs.Touch.{refused-going, done-going, push-apart, pass-counts, pass-going}
 use Rattle.items.specs.Items.{begun, itemList}
@@ -51,7 +51,7 @@ start-stays s from to = go (s .singles .start)
     go (At a b) = refl
 
 -- a rule's head counts no production
-module _ {src : List ℕ} {done : ℕ} {s : State} {T : Tables} (f : Far src done s T) where
+module _ {src : List ℕ} {done : ℕ} {s : State} {T : AllTables} (f : Far src done s T) where
   rule-count : (u : State) (from to : ℕ) (given : Part) (t7 : List ℕ) → count (enterRule src u from to given t7 .state) productions ≡ count u productions
   unfolding enterRule
   rule-count u from to given t7 = go (findName src (width rules) 0 (count u rules) t7 from to)
@@ -101,7 +101,7 @@ lies-done : (s u : State) {t8 t9 : List ℕ} → count u symbols ≡ count s sym
 lies-done s u n m x = record { going = λ g. absurd (done-going g); done = λ g. (s .at, rw (n, m) x) }
 
 -- a rule's body
-body-nested : {src : List ℕ} {done : ℕ} {s : State} (T : Tables) → Far src done s T → done ≡ count s symbols → (row : ℕ) → row < count s rules → Settled s (T .t8) (T .t9) → let o = ruleBody src s row (T .t1) (T .t8) (T .t9) in LainUnless (o .answer) (o .state) (o .t8) (o .t9)
+body-nested : {src : List ℕ} {done : ℕ} {s : State} (T : AllTables) → Far src done s T → done ≡ count s symbols → (row : ℕ) → row < count s rules → Settled s (T .t8) (T .t9) → let o = ruleBody src s row (T .t1) (T .t8) (T .t9) in LainUnless (o .answer) (o .state) (o .t8) (o .t9)
 unfolding ruleBody
 body-nested {src} {done} {s} T f e row h x = let o = passMark src s (58 ∷ []) MissingColon in go (o .answer) (o .state) (mark-far f (58 ∷ []) MissingColon)
   where
@@ -118,7 +118,7 @@ body-nested {src} {done} {s} T f e row h x = let o = passMark src s (58 ∷ []) 
 abbrev pub LiesIn : Ruled → Type 0
 LiesIn o = LainUnless (o .answer) (o .state) (o .t8) (o .t9)
 
-module _ {src : List ℕ} {done : ℕ} {s : State} (T : Tables) (f : Far src done s T) (e : done ≡ count s symbols) (x : Settled s (T .t8) (T .t9)) where
+module _ {src : List ℕ} {done : ℕ} {s : State} (T : AllTables) (f : Far src done s T) (e : done ≡ count s symbols) (x : Settled s (T .t8) (T .t9)) where
   -- a rule,
   rule-nested : LiesIn (ruleStep src s (T .t1) (T .t7) (T .t8) (T .t9))
   unfolding ruleStep
@@ -149,11 +149,11 @@ module _ {src : List ℕ} {done : ℕ} {s : State} (T : Tables) (f : Far src don
       spaced (Refused r) u h y = y
 
 -- rules under way
-record Both (src : List ℕ) (T : Tables) (o : Ruled) : Type 0 where
+record Both (src : List ℕ) (T : AllTables) (o : Ruled) : Type 0 where
   far : Far src (count (o .state) symbols) (o .state) (ruled T o)
   settled : Settled (o .state) (o .t8) (o .t9)
 
-turn-nested : (src : List ℕ) (T : Tables) (o : Ruled) → Both src T o → Either (λ (p : Ruled). Both src T p × (length src - p .state .at < length src - o .state .at)) LiesIn (rulesTurn src o)
+turn-nested : (src : List ℕ) (T : AllTables) (o : Ruled) → Both src T o → Either (λ (p : Ruled). Both src T p × (length src - p .state .at < length src - o .state .at)) LiesIn (rulesTurn src o)
 unfolding rulesTurn
 turn-nested src T o z = go (leb (length src) (o .state .at)) (startsAt percents src (o .state .at))
   where
@@ -171,7 +171,7 @@ turn-nested src T o z = go (leb (length src) (o .state .at)) (startsAt percents 
     go false false = let p = nextRule src (o .state) (o .t1) (o .t7) (o .t8) (o .t9) in next (p .answer) p refl (next-far (ruled T o) (z .far) refl) (next-nested (ruled T o) (z .far) refl (z .settled))
 
 -- The rules section.
-pub rules-nested : {src : List ℕ} {done : ℕ} {s : State} (T : Tables) → Far src done s T → done ≡ count s symbols → Settled s (T .t8) (T .t9) → LiesIn (rulesAll src s (T .t1) (T .t7) (T .t8) (T .t9))
+pub rules-nested : {src : List ℕ} {done : ℕ} {s : State} (T : AllTables) → Far src done s T → done ≡ count s symbols → Settled s (T .t8) (T .t9) → LiesIn (rulesAll src s (T .t1) (T .t7) (T .t8) (T .t9))
 unfolding rulesAll rulesRun
 rules-nested {src} {done} {s} T f e x = let o = passMark src s percents UnknownDeclaration in go (o .answer) (o .state) (mark-far f percents UnknownDeclaration)
   where

@@ -25,7 +25,7 @@ use Rattle.grammar.specs.declared.Counts.{Counts}
 use Rattle.grammar.specs.declared.Singles.{Singles}
 use Rattle.grammar.specs.declared.Told.{Told}
 use Rattle.grammar.specs.State.{Passed}
-use Rattle.grammar.specs.Sound.{Tables, Indexes, Sound}
+use Rattle.grammar.specs.Sound.{Tables, AllTables, Indexes, Sound}
 use Rattle.loading.specs.Load.{judgementNumbers, LoadResult, loadAll}
 use Rattle.loading.proofs.Theorems.{flaw-number}
 use Rattle.sound.specs.Test.{countAt, soundTest}
@@ -48,7 +48,7 @@ use Rattle.names.specs.Name.{nowhere, rowPlace, namePlace}
 use Rattle.values.specs.declared.Valuation.{Valuation}
 use Rattle.values.specs.Value.{valuationNumbers, Valued, eppValue}
 use Rattle.numbers.specs.Numbers.{toldNumbers}
-use Rattle.quiltrudder.specs.Face.{halves, answerSpot, spotCells, loadingNumbers, LoadFace, loadFaceOf, loadFace, countsOf, partOf, expectOf, paramOf, singlesOf, validityCells, validateFace, FaultsFace, countedCells, faultListingCells, faultsFaceOf, faultsFace, ReportFace, MarkFace, standingOf, standingCells, NextFace, readingAfter, PruneFace, nameAt, nameCells, nameFace, ValueFace, valuationCells, valueFaceOf, valueFace}
+use Rattle.quiltrudder.specs.Face.{halves, answerSpot, spotCells, posixCells, loadingNumbers, LoadFace, loadFaceOf, loadFace, countsOf, partOf, expectOf, paramOf, singlesOf, validityCells, validateFace, FaultsFace, countedCells, faultListingCells, faultsFaceOf, faultsFace, ReportFace, MarkFace, standingOf, standingCells, NextFace, readingAfter, PruneFace, nameAt, nameCells, nameFace, ValueFace, valuationCells, valueFaceOf, valueFace}
 
 -- a single by its flag
 module _ (f a b : ℕ) where
@@ -107,7 +107,7 @@ module _ (src : List ℕ) (t : Told) (s : Spot) (hs : s ≡ answerSpot src (told
 -- ---- answers in numbers
 
 -- a load
-pub face-load : (src : List ℕ) (kind : ℕ) (T : Tables) (X : Indexes) (o : LoadResult) (m : List ℕ) (s : Spot) → m ≡ loadingNumbers o ++ spotCells s → s ≡ answerSpot src (judgementNumbers (o .answer)) → o ≡ loadAll src kind T X
+pub face-load : (src : List ℕ) (kind : ℕ) (T : AllTables) (X : Indexes) (o : LoadResult) (m : List ℕ) (s : Spot) → m ≡ loadingNumbers o ++ (posixCells (o .posix) ++ spotCells s) → s ≡ answerSpot src (judgementNumbers (o .answer)) → o ≡ loadAll src kind T X
     → _≡_ {A = LoadFace} (record { answer = m; tables = o .tables; indexes = o .indexes }) (loadFace src kind T X)
 face-load src kind T X o m s h k e = rw (h, k) (ap (loadFaceOf src) e)
 

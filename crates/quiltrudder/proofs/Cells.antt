@@ -1,10 +1,10 @@
 -- What the C names' proofs cite: cells stored as far as there is room, and the numbers of a load put together. Assumes nothing.
 use Prim.Native.Nat.{ℕ, zero, suc, _+_, _≤_, _<_}
 use mathlib.Core.Path.{_≡_, refl, sym, ap, _∙_}
-use mathlib.Core.List.{List, [], _∷_, _++_}
+use mathlib.Core.List.{List, [], _∷_, _++_, append-assoc}
 use native.Mathlib.Omega.{arith}
 use native.Mathlib.Numerals.{add-one}
-use lib.ListN.{length, getD, set, take, replicate, length-set}
+use lib.ListN.{length, getD, set, take, replicate, length-set, length-append}
 use lib.Seq.{set-out}
 use Rattle.places.specs.declared.Spot.{Spot}
 use Rattle.tables.specs.Table.{put}
@@ -15,13 +15,14 @@ use Rattle.grammar.specs.declared.Expect.the-variants.{NotExpected, Expected}
 use Rattle.grammar.specs.declared.Param.{Param}
 use Rattle.grammar.specs.declared.Param.the-variants.{NoParam, ParamAt}
 use Rattle.grammar.specs.declared.Counts.{Counts}
+use Rattle.grammar.specs.declared.PosixCounts.{PosixCounts}
 use Rattle.grammar.specs.declared.Singles.{Singles}
 use Rattle.grammar.specs.declared.Told.{Told}
 use Rattle.grammar.specs.Numbers.{partNumbers, paramNumbers}
 use Rattle.loading.specs.declared.Judgement.{Judgement}
 use Rattle.loading.specs.Load.{judgementNumbers}
 use Rattle.numbers.specs.Numbers.{toldNumbers}
-use Rattle.quiltrudder.specs.Face.{spotCells, expectCells, singlesCells, countsCells, loadingCells}
+use Rattle.quiltrudder.specs.Face.{spotCells, posixCells, expectCells, singlesCells, countsCells, loadingCells}
 
 -- past the end nothing is stored
 pub put-past : (vs t : List ℕ) (at : ℕ) → length t ≤ at → put t at vs ≡ t
@@ -90,16 +91,18 @@ put-behind [] t vs = refl
 put-behind (x ∷ pre) t vs = rw (← add-one (length pre)) (put-cons x vs (pre ++ t) (length pre) ∙ ap (λ (l : List ℕ). x ∷ l) (put-behind pre t vs))
 
 -- a load's numbers, stored one behind the other, with line and column
-module _ (j : Judgement) (c : Counts) (g : Singles) (p : Spot) (t : Told) (s m1 m2 m3 m4 : List ℕ) where
+module _ (j : Judgement) (c : Counts) (g : Singles) (q : PosixCounts) (p : Spot) (t : Told) (s m1 m2 m3 m4 m5 : List ℕ) where
   abbrev front : List ℕ
   front = toldNumbers t ++ countsCells c
 
-  pub loading-put : toldNumbers t ≡ judgementNumbers j → s ≡ singlesCells g → m1 ≡ put (replicate 40 0) 0 (toldNumbers t) → m2 ≡ put m1 4 (countsCells c) → m3 ≡ put m2 14 s → m4 ≡ put m3 38 (spotCells p) → m4 ≡ loadingCells j c g ++ spotCells p
+  pub loading-put : toldNumbers t ≡ judgementNumbers j → s ≡ singlesCells g → m1 ≡ put (replicate 43 0) 0 (toldNumbers t) → m2 ≡ put m1 4 (countsCells c) → m3 ≡ put m2 14 s → m4 ≡ put m3 38 (posixCells q) → m5 ≡ put m4 41 (spotCells p) → m5 ≡ loadingCells j c g ++ (posixCells q ++ spotCells p)
   unfolding loadingCells
-  loading-put ht hs k1 k2 k3 k4 =
+  loading-put ht hs k1 k2 k3 k4 k5 =
       let n : length s ≡ 24 = ap length hs ∙ singles-length g in
-      let e2 : m2 ≡ front ++ (replicate 24 0 ++ (0 ∷ 0 ∷ [])) = rw (k2, k1) in
-      let e3 : m3 ≡ (front ++ s) ++ (0 ∷ 0 ∷ []) = k3 ∙ ap (λ (l : List ℕ). put l 14 s) e2 ∙ put-behind front _ s ∙ ap (λ (l : List ℕ). front ++ l) (put-over (replicate 24 0) (0 ∷ 0 ∷ []) s n) in
+      let e2 : m2 ≡ front ++ (replicate 24 0 ++ replicate 5 0) = rw (k2, k1) in
+      let e3 : m3 ≡ (front ++ s) ++ replicate 5 0 = k3 ∙ ap (λ (l : List ℕ). put l 14 s) e2 ∙ put-behind front _ s ∙ ap (λ (l : List ℕ). front ++ l) (put-over (replicate 24 0) (replicate 5 0) s n) in
       let z : length (front ++ s) ≡ 38 = omega (arith, n) in
-      let e4 : m4 ≡ (front ++ s) ++ spotCells p = k4 ∙ ap (λ (l : List ℕ). put l 38 (spotCells p)) e3 ∙ ap (λ (k : ℕ). put ((front ++ s) ++ (0 ∷ 0 ∷ [])) k (spotCells p)) (sym z) ∙ put-behind (front ++ s) (0 ∷ 0 ∷ []) (spotCells p) in
-      e4 ∙ ap (λ (l : List ℕ). (l ++ countsCells c ++ s) ++ spotCells p) ht ∙ ap (λ (l : List ℕ). (judgementNumbers j ++ countsCells c ++ l) ++ spotCells p) hs
+      let e4 : m4 ≡ (front ++ s) ++ (posixCells q ++ (0 ∷ 0 ∷ [])) = k4 ∙ ap (λ (l : List ℕ). put l 38 (posixCells q)) e3 ∙ ap (λ (k : ℕ). put ((front ++ s) ++ replicate 5 0) k (posixCells q)) (sym z) ∙ put-behind (front ++ s) (replicate 5 0) (posixCells q) in
+      let y : length ((front ++ s) ++ posixCells q) ≡ 41 = length-append (front ++ s) (posixCells q) ∙ omega (arith, z) in
+      let e5 : m5 ≡ ((front ++ s) ++ posixCells q) ++ spotCells p = k5 ∙ ap (λ (l : List ℕ). put l 41 (spotCells p)) (e4 ∙ sym (append-assoc (front ++ s) (posixCells q) (0 ∷ 0 ∷ []))) ∙ ap (λ (k : ℕ). put (((front ++ s) ++ posixCells q) ++ (0 ∷ 0 ∷ [])) k (spotCells p)) (sym y) ∙ put-behind ((front ++ s) ++ posixCells q) (0 ∷ 0 ∷ []) (spotCells p) in
+      e5 ∙ append-assoc (front ++ s) (posixCells q) (spotCells p) ∙ ap (λ (l : List ℕ). (l ++ countsCells c ++ s) ++ (posixCells q ++ spotCells p)) ht ∙ ap (λ (l : List ℕ). (judgementNumbers j ++ countsCells c ++ l) ++ (posixCells q ++ spotCells p)) hs

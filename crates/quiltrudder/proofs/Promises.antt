@@ -16,8 +16,9 @@ use Rattle.grammar.specs.declared.Singles.{Singles}
 use Rattle.grammar.specs.declared.Refusal.the-variants.{Fault, Repeated, NoRoom as no-room, TooLong, BadKind, BadIndex}
 use Rattle.grammar.specs.Refusals.{numberOfCause}
 use Rattle.grammar.proofs.Repeats.{repeat-least}
+use Rattle.refusals.specs.Refusal.{CauseNumber}
 use Rattle.refusals.proofs.Read.{cause-number}
-use Rattle.grammar.specs.Sound.{Tables, Indexes}
+use Rattle.grammar.specs.Sound.{Tables, AllTables, tenOf, Indexes}
 use Rattle.loading.specs.declared.Judgement.{Judgement}
 use Rattle.loading.specs.declared.Judgement.the-variants.{Loaded, NotRead, NotValid}
 use Rattle.loading.specs.Load.{judgementNumbers, LoadResult, loadAll, FullLoad}
@@ -46,13 +47,16 @@ use Rattle.quiltrudder.proofs.Operations.{validate-not-44, faults-not-4
 -- ---- which answer has which number
 
 -- the number of a fatal cause is none of a full reading
-no-full : (n : ℕ) → ((1 ≤ n) × (n ≤ 19)) ⊎ (n ≡ 40) → FullNumber n → ⊥
+no-full : (n : ℕ) → CauseNumber n → FullNumber n → ⊥
 no-full n (inl h) (inl e) = omega arith
 no-full n (inl h) (inr (inl e)) = omega arith
 no-full n (inl h) (inr (inr e)) = omega arith
-no-full n (inr h) (inl e) = omega arith
-no-full n (inr h) (inr (inl e)) = omega arith
-no-full n (inr h) (inr (inr e)) = omega arith
+no-full n (inr (inl h)) (inl e) = omega arith
+no-full n (inr (inl h)) (inr (inl e)) = omega arith
+no-full n (inr (inl h)) (inr (inr e)) = omega arith
+no-full n (inr (inr h)) (inl e) = omega arith
+no-full n (inr (inr h)) (inr (inl e)) = omega arith
+no-full n (inr (inr h)) (inr (inr e)) = omega arith
 
 module _ (src : List ℕ) where
   validity-0 : (v : Validity) → getD (validityCells src v) 0 0 ≡ 0 → v ≡ Valid
@@ -84,7 +88,7 @@ module _ (src : List ℕ) where
   valuation-number NotString = refl
   valuation-number NoTextRoom = refl
 
-module _ (src : List ℕ) (kind : ℕ) (T : Tables) (X : Indexes) where
+module _ (src : List ℕ) (kind : ℕ) (T : AllTables) (X : Indexes) where
   abbrev o : LoadResult
   o = loadAll src kind T X
 
@@ -93,7 +97,7 @@ module _ (src : List ℕ) (kind : ℕ) (T : Tables) (X : Indexes) where
   m = loadFace src kind T X .answer
 
   abbrev left : Tables
-  left = loadFace src kind T X .tables
+  left = tenOf (loadFace src kind T X .tables)
 
   abbrev slots : Indexes
   slots = loadFace src kind T X .indexes
@@ -109,31 +113,31 @@ module _ (src : List ℕ) (kind : ℕ) (T : Tables) (X : Indexes) where
   back P p = told (λ (c : Counts). P c (singlesOf m)) (sym (face-back .0)) (told (P (o .counts)) (sym (face-back .1)) p)
 
   -- So they give what the operations give on the reading: the validation in numbers,
-  pub same-validity : validateFace src m left slots ≡ validityCells src (validity src (o .counts) (o .singles) (o .tables) (o .indexes))
+  pub same-validity : validateFace src m left slots ≡ validityCells src (validity src (o .counts) (o .singles) (tenOf (o .tables)) (o .indexes))
   same-validity = forth (λ c g. validateFace src m left slots ≡ validityCells src (validity src c g left slots)) refl
 
   -- all faults with their answer in numbers,
-  pub same-faults : (t : List ℕ) → faultsFace src m left slots t ≡ faultsFaceOf src (faultListing src (o .counts) (o .singles) (o .tables) (o .indexes) t)
+  pub same-faults : (t : List ℕ) → faultsFace src m left slots t ≡ faultsFaceOf src (faultListing src (o .counts) (o .singles) (tenOf (o .tables)) (o .indexes) t)
   same-faults t = forth (λ c g. faultsFace src m left slots t ≡ faultsFaceOf src (faultListing src c g left slots t)) refl
 
   -- the report with its answer in numbers,
-  pub same-report : (ws₀ ws out₀ out a : List ℕ) → ReportFace src m left slots ws₀ ws out₀ out a ↔ ((l : Listing) × Reported src (o .counts) (o .singles) (o .tables) (o .indexes) l ws₀ ws out₀ out × (a ≡ listingCells src l))
+  pub same-report : (ws₀ ws out₀ out a : List ℕ) → ReportFace src m left slots ws₀ ws out₀ out a ↔ ((l : Listing) × Reported src (o .counts) (o .singles) (tenOf (o .tables)) (o .indexes) l ws₀ ws out₀ out × (a ≡ listingCells src l))
   same-report ws₀ ws out₀ out a = (
     (λ r. (r .listing, forth (λ c g. Reported src c g left slots (r .listing) ws₀ ws out₀ out) (r .reported), r .numbers)),
     (λ r. record { listing = r .0; reported = back (λ c g. Reported src c g left slots (r .0) ws₀ ws out₀ out) (r .1); numbers = r .2 }),
   )
 
   -- the place of a row's name,
-  pub same-place : (table row : ℕ) → nameFace src m left slots table row ≡ nameCells src (nameAt src (o .counts) (o .singles) (o .tables) (o .indexes) table row)
+  pub same-place : (table row : ℕ) → nameFace src m left slots table row ≡ nameCells src (nameAt src (o .counts) (o .singles) (tenOf (o .tables)) (o .indexes) table row)
   same-place table row = forth (λ c g. nameFace src m left slots table row ≡ nameCells src (nameAt src c g left slots table row)) refl
 
   -- at which the name stands in the source,
-  pub same-name : (table row : ℕ) → let a = nameFace src m left slots table row in partAt src (record { from = getD a 0 0; to = getD a 1 0 }) ≡ nameOf src (o .counts) (o .singles) (o .tables) (o .indexes) table row
+  pub same-name : (table row : ℕ) → let a = nameFace src m left slots table row in partAt src (record { from = getD a 0 0; to = getD a 1 0 }) ≡ nameOf src (o .counts) (o .singles) (tenOf (o .tables)) (o .indexes) table row
   same-name table row =
       name-part src (countsOf m) (singlesOf m) left slots table row ∙ forth (λ c g. nameOf src (countsOf m) (singlesOf m) left slots table row ≡ nameOf src c g left slots table row) refl
 
   -- and the value with its answer in numbers.
-  pub same-value : (row : ℕ) (out : List ℕ) → valueFace src m left slots row out ≡ valueFaceOf src (eppValue src (o .counts) (o .singles) (o .tables) (o .indexes) row out)
+  pub same-value : (row : ℕ) (out : List ℕ) → valueFace src m left slots row out ≡ valueFaceOf src (eppValue src (o .counts) (o .singles) (tenOf (o .tables)) (o .indexes) row out)
   same-value row out = forth (λ c g. valueFace src m left slots row out ≡ valueFaceOf src (eppValue src c g left slots row out)) refl
 
   -- The tables hold a full reading where load's number says so.
@@ -182,11 +186,11 @@ module _ (src : List ℕ) (kind : ℕ) (T : Tables) (X : Indexes) where
     excuses = excusesRead src o
 
     module _ (ws₀ ws out₀ out a : List ℕ) (valid : getD (validateFace src m left slots) 0 0 ≡ 0) (r : ReportFace src m left slots ws₀ ws out₀ out a) where
-      reading-valid : validity src (o .counts) (o .singles) (o .tables) (o .indexes) ≡ Valid
+      reading-valid : validity src (o .counts) (o .singles) (tenOf (o .tables)) (o .indexes) ≡ Valid
       reading-valid = validity-0 src _ (rw same-validity at valid)
 
       -- what the operation reported, and the numbers that tell it
-      told-by : {Q : Type 0} → ((l : Listing) → Reported src (o .counts) (o .singles) (o .tables) (o .indexes) l ws₀ ws out₀ out → a ≡ listingCells src l → Q) → Q
+      told-by : {Q : Type 0} → ((l : Listing) → Reported src (o .counts) (o .singles) (tenOf (o .tables)) (o .indexes) l ws₀ ws out₀ out → a ≡ listingCells src l → Q) → Q
       told-by f = let q = same-report ws₀ ws out₀ out a .0 r in f (q .0) (q .1) (q .2)
 
       -- line and column of an answer without a place

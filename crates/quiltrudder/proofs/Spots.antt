@@ -2,7 +2,7 @@
 use Prim.Native.Nat.{ℕ, _+_, _≤_, _<_}
 use mathlib.Core.Path.{_≡_, refl, sym, ap, _∙_}
 use mathlib.Core.Bool.{Bool, true, false}
-use mathlib.Core.List.{List, [], _∷_, _++_}
+use mathlib.Core.List.{List, [], _∷_, _++_, append-assoc}
 use mathlib.Core.Logic.{⊎-elim}
 use native.Mathlib.Omega.{arith}
 use lib.ListN.{length, getD, take, length-append, List·getD-append}
@@ -16,7 +16,7 @@ use Rattle.grammar.specs.declared.Counts.{Counts}
 use Rattle.grammar.specs.declared.Singles.{Singles}
 use Rattle.grammar.specs.declared.Refusal.{Refusal}
 use Rattle.grammar.specs.Refusals.{fromOf}
-use Rattle.grammar.specs.Sound.{Tables, Indexes}
+use Rattle.grammar.specs.Sound.{Tables, AllTables, tenOf, Indexes}
 use Rattle.reader.specs.declared.Verdict.{Verdict}
 use Rattle.reader.specs.declared.Verdict.the-variants.{Rejected}
 use Rattle.reader.specs.Read.{readAll}
@@ -52,7 +52,7 @@ use Rattle.values.specs.declared.Valuation.{Valuation}
 use Rattle.values.specs.declared.Valuation.the-variants.{Written, OfUnsoundTables, PastCount, NotString, NoTextRoom}
 use Rattle.values.specs.Value.{valuationNumbers, eppValue}
 use Rattle.names.specs.Name.{nowhere, namePlace}
-use Rattle.quiltrudder.specs.Face.{halves, answerSpot, spotCells, AnswerSpotted, CellsSpotted, singlesCells, countsCells, loadingCells, loadingNumbers, loadFace, countsOf, singlesOf, validateFace, countedCells, faultsFace, ReportFace, MarkFace, NextFace, PruneFace, nameAt, nameFace, valueFace}
+use Rattle.quiltrudder.specs.Face.{halves, answerSpot, spotCells, posixCells, AnswerSpotted, CellsSpotted, singlesCells, countsCells, loadingCells, loadingNumbers, loadFace, countsOf, singlesOf, validateFace, countedCells, faultsFace, ReportFace, MarkFace, NextFace, PruneFace, nameAt, nameFace, valueFace}
 use Rattle.quiltrudder.proofs.Answers.{flaw-from, validity-from, place-lies}
 use Rattle.quiltrudder.proofs.Cells.{singles-length}
 use Rattle.quiltrudder.proofs.Face.{judgement-four}
@@ -66,7 +66,7 @@ flaw-spotted src c g T X f e =
     let p = h .1 in
     spotted src (getD (flawNumbers f) 1 0) (h .0) (omega (arith, p .onward, p .inside))
 
-module _ (src : List ℕ) (kind : ℕ) (T : Tables) (X : Indexes) where
+module _ (src : List ℕ) (kind : ℕ) (T : AllTables) (X : Indexes) where
   -- a refusal of the read: a source that is too long is refused at its begin, and the places of the others lie in the source
   refused-spotted : (f : Refusal) → readAll src kind T X .answer ≡ Rejected f → Spotted src (fromOf f) (spotAt src (fromOf f))
   refused-spotted f e =
@@ -224,9 +224,11 @@ valuation-five NotString = refl
 valuation-five NoTextRoom = refl
 
 -- Load's,
-pub face-load-spotted : (src : List ℕ) (kind : ℕ) (T : Tables) (X : Indexes) → CellsSpotted src (loadFace src kind T X .answer) 1 38
+pub face-load-spotted : (src : List ℕ) (kind : ℕ) (T : AllTables) (X : Indexes) → CellsSpotted src (loadFace src kind T X .answer) 1 41
 unfolding loadingCells
-face-load-spotted src kind T X = cells-spotted src (loadingNumbers o) 1 38 (getD (judgementNumbers (o .answer)) 1 0) _ long from (load-spotted src kind T X)
+face-load-spotted src kind T X =
+    told (λ (l : List ℕ). CellsSpotted src l 1 41) (append-assoc (loadingNumbers o) (posixCells (o .posix)) (spotCells (answerSpot src (judgementNumbers (o .answer)))))
+    (cells-spotted src (loadingNumbers o ++ posixCells (o .posix)) 1 41 (getD (judgementNumbers (o .answer)) 1 0) _ long from (load-spotted src kind T X))
   where
     o : LoadResult
     o = loadAll src kind T X
@@ -237,11 +239,14 @@ face-load-spotted src kind T X = cells-spotted src (loadingNumbers o) 1 38 (getD
     front : length (judgementNumbers (o .answer) ++ countsCells (o .counts)) ≡ 14
     front = let a = length-append (judgementNumbers (o .answer)) (countsCells (o .counts)) in omega (arith, a, four)
 
-    long : length (loadingNumbers o) ≡ 38
-    long = let a = length-append (judgementNumbers (o .answer) ++ countsCells (o .counts)) (singlesCells (o .singles)) in omega (arith, a, front, singles-length (o .singles))
+    read : length (loadingNumbers o) ≡ 38
+    read = let a = length-append (judgementNumbers (o .answer) ++ countsCells (o .counts)) (singlesCells (o .singles)) in omega (arith, a, front, singles-length (o .singles))
 
-    from : getD (loadingNumbers o ++ spotCells (answerSpot src (judgementNumbers (o .answer)))) 1 0 ≡ getD (judgementNumbers (o .answer)) 1 0
-    from = List·getD-append (loadingNumbers o) _ 0 1 (omega (arith, long)) ∙ List·getD-append (judgementNumbers (o .answer) ++ countsCells (o .counts)) _ 0 1 (omega (arith, front)) ∙ List·getD-append (judgementNumbers (o .answer)) _ 0 1 (omega (arith, four))
+    long : length (loadingNumbers o ++ posixCells (o .posix)) ≡ 41
+    long = let a = length-append (loadingNumbers o) (posixCells (o .posix)) in omega (arith, a, read)
+
+    from : getD ((loadingNumbers o ++ posixCells (o .posix)) ++ spotCells (answerSpot src (judgementNumbers (o .answer)))) 1 0 ≡ getD (judgementNumbers (o .answer)) 1 0
+    from = List·getD-append (loadingNumbers o ++ posixCells (o .posix)) _ 0 1 (omega (arith, long)) ∙ List·getD-append (loadingNumbers o) _ 0 1 (omega (arith, read)) ∙ List·getD-append (judgementNumbers (o .answer) ++ countsCells (o .counts)) _ 0 1 (omega (arith, front)) ∙ List·getD-append (judgementNumbers (o .answer)) _ 0 1 (omega (arith, four))
 
 -- and the others', of any numbers, tables and indexes.
 module _ (src m : List ℕ) (T : Tables) (X : Indexes) where

@@ -17,9 +17,10 @@ use Rattle.grammar.specs.declared.Expect.the-variants.{NotExpected, Expected}
 use Rattle.grammar.specs.declared.Param.{Param}
 use Rattle.grammar.specs.declared.Param.the-variants.{NoParam, ParamAt}
 use Rattle.grammar.specs.declared.Counts.{Counts}
+use Rattle.grammar.specs.declared.PosixCounts.{PosixCounts}
 use Rattle.grammar.specs.declared.Singles.{Singles}
 use Rattle.grammar.specs.Numbers.{partNumbers, paramNumbers}
-use Rattle.grammar.specs.Sound.{Tables, Indexes}
+use Rattle.grammar.specs.Sound.{Tables, AllTables, Indexes}
 use Rattle.loading.specs.declared.Judgement.{Judgement}
 use Rattle.loading.specs.Load.{judgementNumbers, LoadResult, loadAll}
 use Rattle.sound.specs.Test.{soundTest}
@@ -80,6 +81,10 @@ abbrev pub countsCells : Counts → List ℕ
 countsCells c =
     getD (c .n) 0 0 ∷ getD (c .n) 1 0 ∷ getD (c .n) 2 0 ∷ getD (c .n) 3 0 ∷ getD (c .n) 4 0 ∷ getD (c .n) 5 0 ∷ getD (c .n) 6 0 ∷ getD (c .n) 7 0 ∷ getD (c .n) 8 0 ∷ getD (c .n) 9 0 ∷ []
 
+-- and "counts beside the ten" (document 02, request Nine), of tables 15 to 17
+abbrev pub posixCells : PosixCounts → List ℕ
+posixCells p = getD (p .n) 0 0 ∷ getD (p .n) 1 0 ∷ getD (p .n) 2 0 ∷ []
+
 -- in the order number, from, to, table, the ten counts, then each single
 unfoldable pub loadingCells : Judgement → Counts → Singles → List ℕ
 loadingCells j c g = judgementNumbers j ++ countsCells c ++ singlesCells g
@@ -90,14 +95,14 @@ loadingNumbers o = loadingCells (o .answer) (o .counts) (o .singles)
 -- a load's answer, and what it left in the tables and the indexes
 pub record LoadFace : Type 0 where
   pub answer : List ℕ
-  pub tables : Tables
+  pub tables : AllTables
   pub indexes : Indexes
 
--- line and column stand last, so that no other number has moved for them
+-- the three counts stand behind them, and line and column last, so that no count and no single has moved for them
 abbrev pub loadFaceOf : List ℕ → LoadResult → LoadFace
-loadFaceOf src o = record { answer = loadingNumbers o ++ spotCells (answerSpot src (judgementNumbers (o .answer))); tables = o .tables; indexes = o .indexes }
+loadFaceOf src o = record { answer = loadingNumbers o ++ (posixCells (o .posix) ++ spotCells (answerSpot src (judgementNumbers (o .answer)))); tables = o .tables; indexes = o .indexes }
 
-abbrev pub loadFace : List ℕ → ℕ → Tables → Indexes → LoadFace
+abbrev pub loadFace : List ℕ → ℕ → AllTables → Indexes → LoadFace
 loadFace src kind T X = loadFaceOf src (loadAll src kind T X)
 
 -- "0 accepted", or "20 Precedence, [..] 27 EPP repeated", or validation's 30 to 35: the numbers after which "all tables hold the full reading"

@@ -4,6 +4,7 @@ use grammar::Counts;
 use grammar::Expect;
 use grammar::Param;
 use grammar::Part;
+use grammar::PosixCounts;
 use grammar::Singles;
 use grammar::Told;
 use loading::Judgement;
@@ -34,12 +35,13 @@ ghost use Rattle.walks.specs.Walk.{nextNumbers};
 ghost use Rattle.names.specs.Name.{nameOf};
 ghost use Rattle.values.specs.Value.{valuationNumbers, Valued, eppValue};
 ghost use Rattle.numbers.specs.Numbers.{toldNumbers};
-ghost use Rattle.quiltrudder.specs.Face.{halves, answerSpot, spotCells, expectCells, singlesCells, loadingCells, LoadFace, loadFace, countsOf, partOf, expectOf, paramOf, singlesOf, validateFace, FaultsFace, faultsFace, ReportFace, MarkFace, NextFace, readingAfter, PruneFace, nameAt, nameCells, nameFace, ValueFace, valueFace};
+ghost use Rattle.quiltrudder.specs.Face.{halves, answerSpot, spotCells, expectCells, singlesCells, posixCells, loadingCells, LoadFace, loadFace, countsOf, partOf, expectOf, paramOf, singlesOf, validateFace, FaultsFace, faultsFace, ReportFace, MarkFace, NextFace, readingAfter, PruneFace, nameAt, nameCells, nameFace, ValueFace, valueFace};
 
 // A load's answer, its counts and singles, and line and column of the answer's place.
 pub struct LoadingAt {
     pub answer: Judgement,
     pub counts: Counts,
+    pub posix: PosixCounts,
     pub singles: Singles,
     pub spot: Spot,
 }
@@ -92,7 +94,7 @@ fn spot_of(src: &[u8], t: Told) -> Spot
     places::locate(src, from)
 }
 
-// Reads a source of kind 1, 2 or 3 into the lent tables and, where that is accepted, validates what was read.
+// Reads a source of kind 1, 2, 3 or 4 into the lent tables and, where that is accepted, validates what was read.
 pub fn load(
     src: &[u8],
     kind: u32,
@@ -108,17 +110,40 @@ pub fn load(
     t10: &mut [u32],
     i1: &mut [u32],
     i7: &mut [u32],
+    t15: &mut [u32],
+    t16: &mut [u32],
+    t17: &mut [u32],
 ) -> LoadingAt
-    ensures { λ r. ⌜ _≡_ {A = LoadResult} (record { answer = r .answer; counts = r .counts; singles = r .singles; tables = record { t1 = now (t1 .exit); t2 = now (t2 .exit); t3 = now (t3 .exit); t4 = now (t4 .exit); t5 = now (t5 .exit); t6 = now (t6 .exit); t7 = now (t7 .exit); t8 = now (t8 .exit); t9 = now (t9 .exit); t10 = now (t10 .exit) }; indexes = record { tokens = now (i1 .exit); rules = now (i7 .exit) } }) (loadAll (now (src .entry)) kind (record { t1 = now (t1 .entry); t2 = now (t2 .entry); t3 = now (t3 .entry); t4 = now (t4 .entry); t5 = now (t5 .entry); t6 = now (t6 .entry); t7 = now (t7 .entry); t8 = now (t8 .entry); t9 = now (t9 .entry); t10 = now (t10 .entry) }) (record { tokens = now (i1 .entry); rules = now (i7 .entry) })) ⌝ }
+    ensures { λ r. ⌜ _≡_ {A = LoadResult} (record { answer = r .answer; counts = r .counts; posix = r .posix; singles = r .singles; tables = record { t1 = now (t1 .exit); t2 = now (t2 .exit); t3 = now (t3 .exit); t4 = now (t4 .exit); t5 = now (t5 .exit); t6 = now (t6 .exit); t7 = now (t7 .exit); t8 = now (t8 .exit); t9 = now (t9 .exit); t10 = now (t10 .exit); t15 = now (t15 .exit); t16 = now (t16 .exit); t17 = now (t17 .exit) }; indexes = record { tokens = now (i1 .exit); rules = now (i7 .exit) } }) (loadAll (now (src .entry)) kind (record { t1 = now (t1 .entry); t2 = now (t2 .entry); t3 = now (t3 .entry); t4 = now (t4 .entry); t5 = now (t5 .entry); t6 = now (t6 .entry); t7 = now (t7 .entry); t8 = now (t8 .entry); t9 = now (t9 .entry); t10 = now (t10 .entry); t15 = now (t15 .entry); t16 = now (t16 .entry); t17 = now (t17 .entry) }) (record { tokens = now (i1 .entry); rules = now (i7 .entry) })) ⌝ }
     ensures { λ r. ⌜ r .spot ≡ answerSpot (now (src .entry)) (judgementNumbers (r .answer)) ⌝ }
 {
-    let r = loading::load(src, kind, t1, t2, t3, t4, t5, t6, t7, t8, t9, t10, i1, i7);
+    let r = loading::load(
+        src,
+        kind,
+        t1,
+        t2,
+        t3,
+        t4,
+        t5,
+        t6,
+        t7,
+        t8,
+        t9,
+        t10,
+        i1,
+        i7,
+        t15,
+        t16,
+        t17,
+    );
     let answer = r.answer;
     let counts = r.counts;
+    let posix = r.posix;
     let singles = r.singles;
     LoadingAt {
         answer,
         counts,
+        posix,
         singles,
         spot: spot_of(src, numbers::of_judgement(answer)),
     }
@@ -484,9 +509,9 @@ fn single_cells(g: Singles) -> [u32; 24]
     m
 }
 
-// What a load answers: number, place and table, the ten counts, the singles, line and column.
-fn loading_cells(j: Judgement, c: Counts, g: Singles, s: Spot) -> [u32; 40]
-    ensures { λ r. ⌜ r ≡ loadingCells j c g ++ spotCells s ⌝ }
+// What a load answers: number, place and table, the ten counts, the singles, the counts of kind 4's tables, line and column.
+fn loading_cells(j: Judgement, c: Counts, p: PosixCounts, g: Singles, s: Spot) -> [u32; 43]
+    ensures { λ r. ⌜ r ≡ loadingCells j c g ++ (posixCells p ++ spotCells s) ⌝ }
 {
     let t = numbers::of_judgement(j);
     let told = [t.number, t.from, t.to, t.table];
@@ -504,11 +529,13 @@ fn loading_cells(j: Judgement, c: Counts, g: Singles, s: Spot) -> [u32; 40]
     ];
     let singles = single_cells(g);
     let spot = [s.line, s.column];
-    let mut m = [0u32; 40];
+    let posix = [p.n[0], p.n[1], p.n[2]];
+    let mut m = [0u32; 43];
     put_cells(&mut m, 0, &told);
     put_cells(&mut m, 4, &counts);
     put_cells(&mut m, 14, &singles);
-    put_cells(&mut m, 38, &spot);
+    put_cells(&mut m, 38, &posix);
+    put_cells(&mut m, 41, &spot);
     m
 }
 
@@ -541,7 +568,7 @@ fn param_of(f: u32, a: u32, b: u32, c: u32, d: u32) -> Param
 }
 
 // The ten counts of a reading's numbers.
-fn counts_of(m: &[u32; 40]) -> Counts
+fn counts_of(m: &[u32; 43]) -> Counts
     ensures { λ r. ⌜ r ≡ countsOf (now (m .entry)) ⌝ }
 {
     Counts {
@@ -560,7 +587,7 @@ fn counts_of(m: &[u32; 40]) -> Counts
     }
 }
 
-fn singles_of(m: &[u32; 40]) -> Singles
+fn singles_of(m: &[u32; 43]) -> Singles
     ensures { λ r. ⌜ r ≡ singlesOf (now (m .entry)) ⌝ }
 {
     Singles {
@@ -633,7 +660,7 @@ fn name_cells(
     [from, p.to as u32, s.line, s.column]
 }
 
-// Reads a source of kind 1, 2 or 3 into the lent tables and, where that is accepted, validates what was read.
+// Reads a source of kind 1, 2, 3 or 4 into the lent tables and, where that is accepted, validates what was read.
 #[no_mangle]
 pub extern "C" fn quiltrudder_load(
     src: &[u8],
@@ -650,23 +677,45 @@ pub extern "C" fn quiltrudder_load(
     t10: &mut [u32],
     i1: &mut [u32],
     i7: &mut [u32],
-    answer: &mut [u32; 40],
+    t15: &mut [u32],
+    t16: &mut [u32],
+    t17: &mut [u32],
+    answer: &mut [u32; 43],
 )
-    ensures { λ r. ⌜ _≡_ {A = LoadFace} (record { answer = now (answer .exit); tables = record { t1 = now (t1 .exit); t2 = now (t2 .exit); t3 = now (t3 .exit); t4 = now (t4 .exit); t5 = now (t5 .exit); t6 = now (t6 .exit); t7 = now (t7 .exit); t8 = now (t8 .exit); t9 = now (t9 .exit); t10 = now (t10 .exit) }; indexes = record { tokens = now (i1 .exit); rules = now (i7 .exit) } }) (loadFace (now (src .entry)) kind (record { t1 = now (t1 .entry); t2 = now (t2 .entry); t3 = now (t3 .entry); t4 = now (t4 .entry); t5 = now (t5 .entry); t6 = now (t6 .entry); t7 = now (t7 .entry); t8 = now (t8 .entry); t9 = now (t9 .entry); t10 = now (t10 .entry) }) (record { tokens = now (i1 .entry); rules = now (i7 .entry) })) ⌝ }
+    ensures { λ r. ⌜ _≡_ {A = LoadFace} (record { answer = now (answer .exit); tables = record { t1 = now (t1 .exit); t2 = now (t2 .exit); t3 = now (t3 .exit); t4 = now (t4 .exit); t5 = now (t5 .exit); t6 = now (t6 .exit); t7 = now (t7 .exit); t8 = now (t8 .exit); t9 = now (t9 .exit); t10 = now (t10 .exit); t15 = now (t15 .exit); t16 = now (t16 .exit); t17 = now (t17 .exit) }; indexes = record { tokens = now (i1 .exit); rules = now (i7 .exit) } }) (loadFace (now (src .entry)) kind (record { t1 = now (t1 .entry); t2 = now (t2 .entry); t3 = now (t3 .entry); t4 = now (t4 .entry); t5 = now (t5 .entry); t6 = now (t6 .entry); t7 = now (t7 .entry); t8 = now (t8 .entry); t9 = now (t9 .entry); t10 = now (t10 .entry); t15 = now (t15 .entry); t16 = now (t16 .entry); t17 = now (t17 .entry) }) (record { tokens = now (i1 .entry); rules = now (i7 .entry) })) ⌝ }
 {
-    let r = load(src, kind, t1, t2, t3, t4, t5, t6, t7, t8, t9, t10, i1, i7);
+    let r = load(
+        src,
+        kind,
+        t1,
+        t2,
+        t3,
+        t4,
+        t5,
+        t6,
+        t7,
+        t8,
+        t9,
+        t10,
+        i1,
+        i7,
+        t15,
+        t16,
+        t17,
+    );
     let j = r.answer;
     let c = r.counts;
+    let p = r.posix;
     let g = r.singles;
     let s = r.spot;
-    *answer = loading_cells(j, c, g, s);
+    *answer = loading_cells(j, c, p, g, s);
 }
 
 // Whether a reading is valid, or the first that it lacks. `reading` is the array that `quiltrudder_load` wrote.
 #[no_mangle]
 pub extern "C" fn quiltrudder_validate(
     src: &[u8],
-    reading: &[u32; 40],
+    reading: &[u32; 43],
     t1: &[u32],
     t2: &[u32],
     t3: &[u32],
@@ -696,7 +745,7 @@ pub extern "C" fn quiltrudder_validate(
 #[no_mangle]
 pub extern "C" fn quiltrudder_faults(
     src: &[u8],
-    reading: &[u32; 40],
+    reading: &[u32; 43],
     t1: &[u32],
     t2: &[u32],
     t3: &[u32],
@@ -743,7 +792,7 @@ pub extern "C" fn quiltrudder_faults(
 #[no_mangle]
 pub extern "C" fn quiltrudder_report(
     src: &[u8],
-    reading: &[u32; 40],
+    reading: &[u32; 43],
     t1: &[u32],
     t2: &[u32],
     t3: &[u32],
@@ -792,7 +841,7 @@ pub extern "C" fn quiltrudder_report(
 #[no_mangle]
 pub extern "C" fn quiltrudder_mark(
     src: &[u8],
-    reading: &[u32; 40],
+    reading: &[u32; 43],
     t1: &[u32],
     t2: &[u32],
     t3: &[u32],
@@ -840,7 +889,7 @@ pub extern "C" fn quiltrudder_mark(
 #[no_mangle]
 pub extern "C" fn quiltrudder_next_unused(
     src: &[u8],
-    reading: &[u32; 40],
+    reading: &[u32; 43],
     t1: &[u32],
     t2: &[u32],
     t3: &[u32],
@@ -891,7 +940,7 @@ pub extern "C" fn quiltrudder_next_unused(
 }
 
 // The numbers of a reading behind a pruning: the counts are those that are left.
-fn reading_after(m: &[u32; 40], p: Pruning, d: Counts) -> [u32; 40]
+fn reading_after(m: &[u32; 43], p: Pruning, d: Counts) -> [u32; 43]
     ensures { λ r. ⌜ r ≡ readingAfter p d (now (m .entry)) ⌝ }
 {
     let mut r = *m;
@@ -919,7 +968,7 @@ fn reading_after(m: &[u32; 40], p: Pruning, d: Counts) -> [u32; 40]
 #[no_mangle]
 pub extern "C" fn quiltrudder_prune(
     src: &[u8],
-    reading: &mut [u32; 40],
+    reading: &mut [u32; 43],
     t1: &mut [u32],
     t2: &[u32],
     t3: &mut [u32],
@@ -969,7 +1018,7 @@ pub extern "C" fn quiltrudder_prune(
 #[no_mangle]
 pub extern "C" fn quiltrudder_name(
     src: &[u8],
-    reading: &[u32; 40],
+    reading: &[u32; 43],
     t1: &[u32],
     t2: &[u32],
     t3: &[u32],
@@ -1015,7 +1064,7 @@ pub extern "C" fn quiltrudder_name(
 #[no_mangle]
 pub extern "C" fn quiltrudder_epp_value(
     src: &[u8],
-    reading: &[u32; 40],
+    reading: &[u32; 43],
     t1: &[u32],
     t2: &[u32],
     t3: &[u32],

@@ -1,4 +1,2 @@
 pub mod Laws
-pub mod Lengths
 pub mod Sound
-pub mod Spares

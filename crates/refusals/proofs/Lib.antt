@@ -1,5 +1,8 @@
 pub mod Steps
 pub mod Settings
+pub mod KindKept
+pub mod Marks
+pub mod Bodies
 pub mod Lists
 pub mod Lines
 pub mod Epps

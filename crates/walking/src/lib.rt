@@ -249,7 +249,29 @@ fn run(
     i7: &mut [u32],
     work: &mut [u32],
 ) {
-    let r = quiltrudder::load(src, 1, t1, t2, t3, t4, t5, t6, t7, t8, t9, t10, i1, i7);
+    // No kind but 4 fills tables 15 to 17.
+    let mut t15 = [0u32; 0];
+    let mut t16 = [0u32; 0];
+    let mut t17 = [0u32; 0];
+    let r = quiltrudder::load(
+        src,
+        1,
+        t1,
+        t2,
+        t3,
+        t4,
+        t5,
+        t6,
+        t7,
+        t8,
+        t9,
+        t10,
+        i1,
+        i7,
+        &mut t15,
+        &mut t16,
+        &mut t17,
+    );
     let j = r.answer;
     let c = r.counts;
     let g = r.singles;

@@ -6,13 +6,13 @@ use borrow.Author.Needs.{needs}
 
 -- where the source was read, before the judgement and where there is none
 abbrev judged-after : tie.After-judge → tie.After-read
-judged-after c = c .before .before .before .before .before .before .before .before .before .before .before .before .before .before .before .before .before .before .before .before .before .before .before .before .before .before .before .before .before .before .before .before .before .before .before .before .before .before .before .before
+judged-after c = c .before .before .before .before .before .before .before .before .before .before .before .before .before .before .before .before .before .before .before .before .before .before .before .before .before .before .before .before .before .before .before .before .before .before .before .before .before .before .before .before .before .before .before .before .before .before .before
 
 abbrev refused-after : tie.After-known-told2 → tie.After-read
-refused-after c = c .before .before .before .before .before .before .before .before .before .before .before .before .before .before .before .before .before .before .before .before .before .before .before .before .before .before .before .before .before
+refused-after c = c .before .before .before .before .before .before .before .before .before .before .before .before .before .before .before .before .before .before .before .before .before .before .before .before .before .before .before .before .before .before .before .before .before .before .before .before
 
 judge-requires : tie.Need-judge-requires
-judge-requires c κs = accepted-walkable _ _ _ _ _ (c .before .before .before .before .before .before .before .before .before .before .before .before .before .before .before .before .before .before .before .before .before .before .before .before .before .before .before .before .before .before .before .before .before .before .before .before .before .before .before .read .ensures) _ (c .before .before .before .before .before .before .before .before .before .before .before .v .given .1)
+judge-requires c κs = accepted-walkable _ _ _ _ _ (c .before .before .before .before .before .before .before .before .before .before .before .before .before .before .before .before .before .before .before .before .before .before .before .before .before .before .before .before .before .before .before .before .before .before .before .before .before .before .before .before .before .before .before .before .before .before .read .ensures) _ (c .before .before .before .before .before .before .before .before .before .before .before .v .given .1)
 
 returns : tie.Need-returns
 returns c = accepted-judged _ _ _ _ _ (judged-after c .read .ensures) _ (c .before .before .before .before .before .before .before .before .before .before .before .before .v .given .1) _ (c .judge .ensures)
@@ -38,8 +38,11 @@ load-spec =
     (λ c. judged-after c .read .kept .1 .1 .1 .1 .1 .1 .1 .1 .1 .0)
     (λ c. judged-after c .read .kept .1 .1 .1 .1 .1 .1 .1 .1 .1 .1 .0)
     (λ c. judged-after c .read .kept .1 .1 .1 .1 .1 .1 .1 .1 .1 .1 .1 .0)
+    (λ c. judged-after c .read .kept .1 .1 .1 .1 .1 .1 .1 .1 .1 .1 .1 .1 .1 .1 .1 .0)
+    (λ c. judged-after c .read .kept .1 .1 .1 .1 .1 .1 .1 .1 .1 .1 .1 .1 .1 .1 .1 .1 .0)
     (λ c. judged-after c .read .kept .1 .1 .1 .1 .1 .1 .1 .1 .1 .1 .1 .1 .0)
     (λ c. judged-after c .read .kept .1 .1 .1 .1 .1 .1 .1 .1 .1 .1 .1 .1 .1 .0)
+    (λ c. judged-after c .read .kept .1 .1 .1 .1 .1 .1 .1 .1 .1 .1 .1 .1 .1 .1 .0)
     returns
     (λ c. refused-after c .read .kept .1 .1 .0)
     (λ c. refused-after c .read .kept .1 .1 .1 .0)
@@ -51,6 +54,9 @@ load-spec =
     (λ c. refused-after c .read .kept .1 .1 .1 .1 .1 .1 .1 .1 .1 .0)
     (λ c. refused-after c .read .kept .1 .1 .1 .1 .1 .1 .1 .1 .1 .1 .0)
     (λ c. refused-after c .read .kept .1 .1 .1 .1 .1 .1 .1 .1 .1 .1 .1 .0)
+    (λ c. refused-after c .read .kept .1 .1 .1 .1 .1 .1 .1 .1 .1 .1 .1 .1 .1 .1 .1 .0)
+    (λ c. refused-after c .read .kept .1 .1 .1 .1 .1 .1 .1 .1 .1 .1 .1 .1 .1 .1 .1 .1 .0)
     (λ c. refused-after c .read .kept .1 .1 .1 .1 .1 .1 .1 .1 .1 .1 .1 .1 .0)
     (λ c. refused-after c .read .kept .1 .1 .1 .1 .1 .1 .1 .1 .1 .1 .1 .1 .1 .0)
+    (λ c. refused-after c .read .kept .1 .1 .1 .1 .1 .1 .1 .1 .1 .1 .1 .1 .1 .1 .0)
     returns-2)

@@ -19,7 +19,7 @@ ended-spec =
     tie.close
     (tie.spec
     (λ c κs. search needs)
-    (λ c. omega (arith, c .before .before .before .before .before .before .pre))
+    (λ c. omega (arith, c .before .before .before .before .before .before .before .pre))
     none
     (λ c κs. search needs)
     (λ c κs. search needs)

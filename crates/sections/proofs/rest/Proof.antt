@@ -1,9 +1,9 @@
--- `reader::rest` meets its contract: rules, then programs. Assumes nothing.
+-- `sections::rest` meets its contract: rules, then programs. Assumes nothing.
 use Rattle.grammar.proofs.Steps.{passed-here, passed-on}
-use Rattle.reader.proofs.Laws.{rest-going, rest-done, rest-refused}
-use Rattle.reader.proofs.Spares.{by-programs}
-use Rattle.reader.proofs.rest.Statement.{statement}
-use Rattle.reader.proofs.rest.Tie as tie
+use Rattle.sections.proofs.Laws.{rest-going, rest-done, rest-refused}
+use Rattle.sections.proofs.Spares.{by-programs}
+use Rattle.sections.proofs.rest.Statement.{statement}
+use Rattle.sections.proofs.rest.Tie as tie
 
 -- the call of the rules, and where the function begins
 abbrev ruled : tie.After-n → tie.After-rules

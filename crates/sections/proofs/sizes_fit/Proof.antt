@@ -1,8 +1,8 @@
--- `reader::sizes_fit` meets its contract. Assumes nothing.
+-- `sections::sizes_fit` meets its contract. Assumes nothing.
 use native.Mathlib.Omega.{arith}
-use Rattle.reader.proofs.Laws.{sizes-are}
-use Rattle.reader.proofs.sizes_fit.Statement.{statement}
-use Rattle.reader.proofs.sizes_fit.Tie as tie
+use Rattle.sections.proofs.Laws.{sizes-are}
+use Rattle.sections.proofs.sizes_fit.Statement.{statement}
+use Rattle.sections.proofs.sizes_fit.Tie as tie
 
 pub sizes-fit-spec : {M : Type 1} → statement M
 sizes-fit-spec =

@@ -3,9 +3,9 @@ use Prim.Native.Nat.{ℕ, suc, _+_, _*_}
 use mathlib.Core.Path.{_≡_, refl, ap, _∙_}
 use mathlib.Core.List.{List, [], _∷_}
 use mathlib.Core.Bool.{Bool, true, false}
-use lib.Dec.{leb}
+use lib.Dec.{leb, ltb, eqb}
 use lib.ListN.{length, getD, length-set, length-replicate}
-use Rattle.scan.specs.Scan.{startsAt}
+use Rattle.scan.specs.Scan.{isAt, startsAt}
 use Rattle.scan.proofs.Bytes.{on-test}
 use Rattle.scan.proofs.Loop.{Either, turns-keep}
 use Rattle.words.specs.declared.Name.{Name}
@@ -19,15 +19,19 @@ use Rattle.words.specs.declared.Quote.the-variants.{Closed, NotOpened, LineInsi
 use Rattle.words.specs.Words.{nameAt, tokenAt}
 use Rattle.words.specs.Numbers.{intAt}
 use Rattle.words.specs.Strings.{stringAt}
+use Rattle.texts.specs.declared.Brace.{Brace}
+use Rattle.texts.specs.declared.Brace.the-variants.{Closes, NeverCloses}
+use Rattle.texts.specs.Action.{bracedAt}
 use Rattle.texts.specs.Line.{lineEndAt}
+use Rattle.texts.specs.Mark.{markedAt}
 use Rattle.tables.specs.declared.Found.{Found as Row}
 use Rattle.tables.specs.declared.Found.the-variants.{RowAt, NoRow}
-use Rattle.tables.specs.Table.{Added, Inserted, flag, marked, zeroed, cell, findName}
-use Rattle.tables.specs.Layout.{tokens, precedences, avoided, implicit, epps, unused, rules, productions, symbols, repeats, declared, keyName, width}
+use Rattle.tables.specs.Table.{Added, Inserted, flag, marked, zeroed, findName}
+use Rattle.tables.specs.Layout.{tokens, precedences, avoided, implicit, epps, unused, rules, productions, symbols, repeats, tags, tokenNumbers, bodies, declared, keyName, width}
 use Rattle.tables.proofs.Laws.{put-length}
 use Rattle.tables.proofs.Cases.{add-cases, enter-cases}
 use Rattle.keywords.specs.declared.Keyword.{Keyword}
-use Rattle.keywords.specs.declared.Keyword.the-variants.{Percents, TokenWord, ActiontypeWord, StartWord, EppWord, ExpectRrWord, ExpectUnusedWord, ExpectWord, AvoidInsertWord, ParseParamWord, ParseGenericsWord, ImplicitTokensWord, LeftWord, RightWord, NonassocWord, NoKeyword}
+use Rattle.keywords.specs.declared.Keyword.the-variants.{Percents, TokenWord, ActiontypeWord, StartWord, EppWord, ExpectRrWord, ExpectUnusedWord, ExpectWord, AvoidInsertWord, ParseParamWord, ParseGenericsWord, ImplicitTokensWord, LeftWord, RightWord, NonassocWord, PrologueWord, UnionWord, TypeWord, NoKeyword}
 use Rattle.keywords.specs.Keywords.{seenAt}
 use Rattle.grammar.specs.declared.Part.{Part}
 use Rattle.grammar.specs.declared.Part.the-variants.{Absent, At}
@@ -41,16 +45,22 @@ use Rattle.grammar.specs.declared.Answer.{Answer}
 use Rattle.grammar.specs.declared.Answer.the-variants.{Going, Done, Refused}
 use Rattle.grammar.specs.declared.Gap.{Gap}
 use Rattle.grammar.specs.declared.Gap.the-variants.{GapTo, GapRefused}
-use Rattle.grammar.specs.Cells.{tokenCells, precedenceCells, nameCells, eppCells, kindCells, symbolCells, ruleCells}
-use Rattle.grammar.specs.State.{Out1, Out2, Out3, count, withAt, gapAt, pushed, pushRow, listRepeat, entered, enterStep, onceFound, onceStep}
-use Rattle.grammar.specs.Sound.{Tables, zeroAll}
+use Rattle.grammar.specs.Cells.{tokenCells, precedenceCells, nameCells, eppCells, kindCells, symbolCells, ruleCells, tagCells, numberCells, bodyCells}
+use Rattle.grammar.specs.State.{Out0, Out1, Out2, Out3, Out4, count, withAt, withLevel, nextLevel, gapAt, pushed, pushRow, listRepeat, entered, enterStep, onceFound, onceStep, passOn}
+use Rattle.grammar.specs.Sound.{AllTables, zeroAll}
 use Rattle.grammar.proofs.Kept.{onward-keep}
 use Rattle.settings.specs.Singles.{expectedOf}
 use Rattle.settings.specs.Settings.{startGiven, startNamed, startName, startFrom, startDecl, repeatedExpect, expectSeen, expectGiven, expectInt, expectFrom, expectDecl, actiontypeGiven, actiontypeNamed, actiontypeFrom, actiontypeDecl}
-use Rattle.lists.specs.Lists.{tokenFound, tokenItem, unusedRow, unusedToken, unusedName, unusedItem, listItem, ends, afterItem, listTurn, percentList, listFrom, listDecl}
-use Rattle.lines.specs.Precedences.{precFound, precItem, lineEnd, afterEnd, precTurn, precList, precFrom, precDecl}
+use Rattle.marks.specs.Marks.{Leading, leadTag, tagGiven, tagRow, numberGiven, numberBehind, numberAfter, behindWord}
+use Rattle.lists.specs.declared.Spelling.{Spelling}
+use Rattle.lists.specs.declared.Spelling.the-variants.{Spelled, Unspelled}
+use Rattle.lists.specs.declared.WordList.{WordList}
+use Rattle.lists.specs.declared.WordList.the-variants.{TokenList, UnusedList, TypeList}
+use Rattle.lists.specs.Lists.{tokenFound, tokenItem, spelledAt, unusedRow, unusedSpelled, unusedItem, typeRow, typeSpelled, typeItem, listItem, ends, afterItem, listTurn, percentList, leadList, listLed, listBody, listFrom, listDecl}
+use Rattle.lines.specs.Precedences.{precFound, precItem, lineEnd, afterEnd, precTurn, precList, precLed, precBody, precFrom, precDecl}
 use Rattle.lines.specs.Avoided.{avoidEntered, avoidNamed, avoidFound, avoidItem, avoidEnd, avoidTurn, avoidList, avoidFrom, avoidDecl}
 use Rattle.epps.specs.Epps.{eppGiven, eppString, eppText, eppGap, eppValue, eppKey, eppFrom, eppDecl}
+use Rattle.bodies.specs.Bodies.{bodyRow, prologueClosed, prologueDecl, unionClosed, unionOpened, unionBody, unionFrom, unionDecl}
 use Rattle.declarations.specs.Declarations.{Declared, Out, byKeyword, declStep, afterEnd as afterLast, declTurn, declRun, allFrom, declAll}
 use Rattle.productions.specs.declared.Production.{Production}
 use Rattle.productions.specs.Cells.{productionCells, pushProduction}
@@ -58,7 +68,7 @@ use Rattle.items.specs.declared.Sort.{Sort}
 use Rattle.items.specs.declared.Sort.the-variants.{BarSort, EndSort, QuotedSort, PrecSort, ActionSort, EmptySort, BareSort}
 use Rattle.items.specs.Items.{Made3, sortAt, begun, withLast, symbolEntered, tokenSymbol, quotedGap, quotedRows, quotedFound, quotedItem, precGap, precName, precItem as precPart, precFound as precToken, symbolKind, bareFound, bareItem, endProduction, barItem, endItem, bySort, itemStep, itemNext, itemOrEnd, itemTurn, itemList}
 use Rattle.rules.specs.Rules.{Typing, Heading, Ruled, passMark, firstStart, ruleType, ruleFound, enterRule, typedHead, namedHead, headFound, ruleHead, bodyPassed, ruleBody, ruleHeaded, ruleStep, nextRule, percents, ruleOrEnd, rulesTurn, rulesRun, rulesPassed, rulesAll}
-use Rattle.reader.specs.Read.{restFrom, restAll, declared as declaredOf, sectionsFrom, sectionsAll}
+use Rattle.sections.specs.Sections.{restFrom, restAll, declared as declaredOf, sectionsFrom, sectionsAll}
 
 -- the tables that a step gives are as long as those it took
 abbrev Long1 : List ℕ → Out1 → Type 0
@@ -69,6 +79,9 @@ Long2 t u o = (length (o .a) ≡ length t) × (length (o .b) ≡ length u)
 
 abbrev Long3 : List ℕ → List ℕ → List ℕ → Out3 → Type 0
 Long3 t u v o = (length (o .a) ≡ length t) × (length (o .b) ≡ length u) × (length (o .c) ≡ length v)
+
+abbrev Long4 : List ℕ → List ℕ → List ℕ → List ℕ → Out4 → Type 0
+Long4 t u v w o = (length (o .a) ≡ length t) × (length (o .b) ≡ length u) × (length (o .c) ≡ length v) × (length (o .d) ≡ length w)
 
 -- a row more, a repeat listed,
 push-long : (s : State) (k : ℕ) (row : List ℕ) (t : List ℕ) → Long1 t (pushRow s k row t)
@@ -145,59 +158,106 @@ module _ (src : List ℕ) (s : State) (t : List ℕ) where
       go (GapTo i n) = given i (lineEndAt src i) (s .actiontype)
       go (GapRefused f) = refl
 
--- lists that run to the next `%`
-list-long : (src : List ℕ) (s : State) (which : Bool) (t : List ℕ) → Long1 t (listDecl src s which t)
-unfolding listDecl percentList listTurn tokenItem unusedItem unusedRow
-list-long src s which t = go (gapAt (s .kind) false src (s .at))
+-- what stands beside a word: its tag, and behind it a number
+given-long : (tag : Part) (s : State) (from to : ℕ) (t : List ℕ) → Long1 t (tagGiven tag s from to t)
+given-long Absent s from to t = refl
+given-long (At i j) s from to t = push-long s tags (tagCells from to i j) t
+
+tag-long : (a : Answer) (s : State) (tag : Part) (from to : ℕ) (t : List ℕ) → Long1 t (tagRow a s tag from to t)
+unfolding tagRow
+tag-long Going s tag from to t = given-long tag s from to t
+tag-long Done s tag from to t = refl
+tag-long (Refused f) s tag from to t = refl
+
+behind-long : (src : List ℕ) (line : Bool) (from to end : ℕ) (a : Answer) (s : State) (t : List ℕ) → Long1 t (behindWord src line from to end a s t)
+unfolding behindWord numberBehind
+behind-long src line from to end a s t = let o = passOn src line end a s in after (o .answer) o
   where
-    token : (r : Token) (u : State) (x : List ℕ) → Long1 x (tokenFound r src u x)
-    token (Found p end q) u x = enter-long src u (p .from) (p .to) true x
-    token (NoToken k) u x = refl
+    number : (n : Int) (u : State) → Long1 t (numberGiven n src line from to u t)
+    number (Value v j) u = on-test (Long1 t) (ltb 4294967295 v) _ _ (λ e. refl) (λ e. push-long u tokenNumbers (numberCells from to v) t)
+    number (NoDigits k) u = refl
+    number (TooLarge k) u = refl
 
-    quoted : (r : Token) (u : State) (x : List ℕ) → Long1 x (unusedToken r src u x)
-    quoted (Found p end q) u x = push-long u unused (kindCells 2 (p .from) (p .to)) x
-    quoted (NoToken k) u x = refl
+    after : (b : Answer) (o : Out0) → Long1 t (numberAfter o src line from to b t)
+    after Going o = on-test (Long1 t) (eqb (o .state .kind) 4) _ _ (λ e. number (intAt src (o .state .at)) (o .state)) (λ e. refl)
+    after Done o = refl
+    after (Refused f) o = refl
 
-    name : (r : Name) (u : State) (x : List ℕ) → Long1 x (unusedName r src u x)
-    name (NameTo j) u x = push-long u unused (kindCells 1 (u .at) j) x
-    name (NoName k) u x = quoted (tokenAt src (u .at)) u x
+-- lists that run to the next `%`
+list-long : (src : List ℕ) (s : State) (what : WordList) (t u v : List ℕ) → Long3 t u v (listDecl src s what t u v)
+unfolding listDecl listBody percentList listTurn tokenItem unusedItem unusedRow typeItem typeRow
+list-long src s what t u v = go (gapAt (s .kind) false src (s .at))
+  where
+    token : (r : Token) (w : State) (tag : Part) (x y z : List ℕ) → Long3 x y z (tokenFound r src w tag x y z)
+    token (Found p end q) w tag x y z =
+        let o = enterStep src w (p .from) (p .to) true x in
+        let g = tagRow (o .answer) (o .state) tag (p .from) (p .to) y in
+        (enter-long src w (p .from) (p .to) true x, tag-long (o .answer) (o .state) tag (p .from) (p .to) y, behind-long src false (p .from) (p .to) end (g .answer) (g .state) z)
+    token (NoToken k) w tag x y z = (refl, refl, refl)
 
-    item : (w : Bool) (u : State) (x : List ℕ) → Long1 x (listItem src u w x)
-    item true u x = token (tokenAt src (u .at)) u x
-    item false u x = name (nameAt src (u .at)) u x
+    excused : (r : Spelling) (w : State) (x : List ℕ) → Long1 x (unusedSpelled r src w x)
+    excused (Spelled kind from to end) w x = push-long w unused (kindCells kind from to) x
+    excused (Unspelled k) w x = refl
 
-    after : (b : Bool) (o : Out1) → Long1 t o → Either (Long1 t) (Long1 t) (afterItem b o (listItem src (o .state) which (o .a)))
-    after true o h = h
-    after false o h = let p = listItem src (o .state) which (o .a) in onward-keep (Long1 t) (p .answer) p (item which (o .state) (o .a) ∙ h)
+    typed : (r : Spelling) (w : State) (tag : Part) (x : List ℕ) → Long1 x (typeSpelled r src w tag x)
+    typed (Spelled kind from to end) w tag x = given-long tag w from to x
+    typed (Unspelled k) w tag x = refl
 
-    go : (g : Gap) → Long1 t (listFrom g src s which t)
-    go (GapTo i n) = turns-keep (Long1 t) (listTurn src which) (λ o. after (ends src (o .state .at)) o) (suc (length src)) _ refl
-    go (GapRefused f) = refl
+    item : (l : WordList) (w : State) (tag : Part) (x y z : List ℕ) → Long3 x y z (listItem src w l tag x y z)
+    item TokenList w tag x y z = token (tokenAt src (w .at)) w tag x y z
+    item UnusedList w tag x y z = (excused (spelledAt src (w .at)) w x, refl, refl)
+    item TypeList w tag x y z = (refl, typed (spelledAt src (w .at)) w tag y, refl)
+
+    after : (tag : Part) (b : Bool) (o : Out3) → Long3 t u v o → Either (Long3 t u v) (Long3 t u v) (afterItem b o (listItem src (o .state) what tag (o .a) (o .b) (o .c)))
+    after tag true o h = h
+    after tag false o h =
+        let p = listItem src (o .state) what tag (o .a) (o .b) (o .c) in
+        let x = item what (o .state) tag (o .a) (o .b) (o .c) in
+        onward-keep (Long3 t u v) (p .answer) p (x .0 ∙ h .0, x .1 ∙ h .1, x .2 ∙ h .2)
+
+    led : (a : Answer) (l : Leading) → Long3 t u v (listLed a l src what t u v)
+    led Going l = turns-keep (Long3 t u v) (listTurn src what (l .tag)) (λ o. after (l .tag) (ends src (o .state .at)) o) (suc (length src)) _ (refl, refl, refl)
+    led Done l = (refl, refl, refl)
+    led (Refused f) l = (refl, refl, refl)
+
+    go : (g : Gap) → Long3 t u v (listFrom g src s what t u v)
+    go (GapTo i n) = let l = leadList what src (withAt s i) in led (l .answer) l
+    go (GapRefused f) = (refl, refl, refl)
 
 -- lists that run to their line's end
-prec-long : (src : List ℕ) (s : State) (assoc : ℕ) (t u : List ℕ) → Long2 t u (precDecl src s assoc t u)
-unfolding precDecl precList precTurn precItem
-prec-long src s assoc t u = go (gapAt (s .kind) false src (s .at))
+prec-long : (src : List ℕ) (s : State) (assoc : ℕ) (t u v w : List ℕ) → Long4 t u v w (precDecl src s assoc t u v w)
+unfolding precDecl precBody precList precTurn precItem
+prec-long src s assoc t u v w = go (gapAt (s .kind) false src (s .at))
   where
-    found : (r : Token) (v : State) (x y : List ℕ) → Long2 x y (precFound r src v (s .level) assoc x y)
-    found (Found p end q) v x y = once-long src v precedences (width precedences) 0 RepeatedPrecedence (precedenceCells (p .from) (p .to) (s .level) assoc) x y
-    found (NoToken k) v x y = (refl, refl)
+    found : (r : Token) (m : State) (tag : Part) (x y z q : List ℕ) → Long4 x y z q (precFound r src m (s .level) assoc tag x y z q)
+    found (Found p end e) m tag x y z q =
+        let row = precedenceCells (p .from) (p .to) (s .level) assoc in
+        let o = onceStep src m precedences (width precedences) 0 RepeatedPrecedence row x y in
+        let l = once-long src m precedences (width precedences) 0 RepeatedPrecedence row x y in
+        let g = tagRow (o .answer) (o .state) tag (p .from) (p .to) z in
+        (l .0, l .1, tag-long (o .answer) (o .state) tag (p .from) (p .to) z, behind-long src true (p .from) (p .to) end (g .answer) (g .state) q)
+    found (NoToken k) m tag x y z q = (refl, refl, refl, refl)
 
-    next : (a : Answer) (p : Out2) → Long2 t u p → Either (Long2 t u) (Long2 t u) (lineEnd a p)
+    next : (a : Answer) (p : Out4) → Long4 t u v w p → Either (Long4 t u v w) (Long4 t u v w) (lineEnd a p)
     next Going p h = h
     next Done p h = h
     next (Refused f) p h = h
 
-    after : (b : Bool) (o : Out2) → Long2 t u o → Either (Long2 t u) (Long2 t u) (afterEnd b o (precItem src (o .state) (s .level) assoc (o .a) (o .b)))
-    after true o h = h
-    after false o h =
-        let p = precItem src (o .state) (s .level) assoc (o .a) (o .b) in
-        let x = found (tokenAt src (o .state .at)) (o .state) (o .a) (o .b) in
-        next (p .answer) p (x .0 ∙ h .0, x .1 ∙ h .1)
+    after : (tag : Part) (b : Bool) (o : Out4) → Long4 t u v w o → Either (Long4 t u v w) (Long4 t u v w) (afterEnd b o (precItem src (o .state) (s .level) assoc tag (o .a) (o .b) (o .c) (o .d)))
+    after tag true o h = h
+    after tag false o h =
+        let p = precItem src (o .state) (s .level) assoc tag (o .a) (o .b) (o .c) (o .d) in
+        let x = found (tokenAt src (o .state .at)) (o .state) tag (o .a) (o .b) (o .c) (o .d) in
+        next (p .answer) p (x .0 ∙ h .0, x .1 ∙ h .1, x .2 ∙ h .2, x .3 ∙ h .3)
 
-    go : (g : Gap) → Long2 t u (precFrom g src s assoc t u)
-    go (GapTo i n) = turns-keep (Long2 t u) (precTurn src (s .level) assoc) (λ o. after (leb (length src) (o .state .at)) o) (suc (length src)) _ (refl, refl)
-    go (GapRefused f) = (refl, refl)
+    led : (a : Answer) (l : Leading) → Long4 t u v w (precLed a l src (s .level) assoc t u v w)
+    led Going l = turns-keep (Long4 t u v w) (precTurn src (s .level) assoc (l .tag)) (λ o. after (l .tag) (leb (length src) (o .state .at)) o) (suc (length src)) _ (refl, refl, refl, refl)
+    led Done l = (refl, refl, refl, refl)
+    led (Refused f) l = (refl, refl, refl, refl)
+
+    go : (g : Gap) → Long4 t u v w (precFrom g src s assoc t u v w)
+    go (GapTo i n) = let l = leadTag src (withLevel (withAt s i) (nextLevel (s .level))) false true in led (l .answer) l
+    go (GapRefused f) = (refl, refl, refl, refl)
 
 avoid-long : (src : List ℕ) (s : State) (k : ℕ) (what : Repeat) (t u v : List ℕ) → Long3 t u v (avoidDecl src s k what t u v)
 unfolding avoidDecl avoidList avoidTurn avoidItem avoidNamed
@@ -254,26 +314,54 @@ epp-long src s t u = go (gapAt (s .kind) false src (s .at))
     go (GapTo i n) = key i (tokenAt src i)
     go (GapRefused f) = (refl, refl)
 
+-- prologues and unions
+prologue-long : (src : List ℕ) (s : State) (at : ℕ) (t : List ℕ) → Long1 t (prologueDecl src s at t)
+unfolding prologueDecl bodyRow
+prologue-long src s at t = go (markedAt src (s .at))
+  where
+    go : (b : Brace) → Long1 t (prologueClosed b src s at t)
+    go (Closes to n) = push-long s bodies (bodyCells 1 (s .at) to) t
+    go NeverCloses = refl
+
+union-long : (src : List ℕ) (s : State) (at : ℕ) (t : List ℕ) → Long1 t (unionDecl src s at t)
+unfolding unionDecl unionBody bodyRow
+union-long src s at t = go (gapAt (s .kind) false src (s .at))
+  where
+    closed : (i : ℕ) (b : Brace) → Long1 t (unionClosed b src s at i t)
+    closed i (Closes to n) = push-long s bodies (bodyCells 2 (i + 1) to) t
+    closed i NeverCloses = refl
+
+    opened : (i : ℕ) (b : Bool) → Long1 t (unionOpened b src s at i t)
+    opened i true = closed i (bracedAt src (i + 1))
+    opened i false = refl
+
+    go : (g : Gap) → Long1 t (unionFrom g src s at t)
+    go (GapTo i n) = opened i (isAt 123 src i)
+    go (GapRefused f) = refl
+
 -- declarations
 abbrev lengthsOf : Declared → List ℕ
-lengthsOf D = length (D .t1) ∷ length (D .t2) ∷ length (D .t3) ∷ length (D .t4) ∷ length (D .t5) ∷ length (D .t6) ∷ length (D .t10) ∷ []
+lengthsOf D = length (D .t1) ∷ length (D .t2) ∷ length (D .t3) ∷ length (D .t4) ∷ length (D .t5) ∷ length (D .t6) ∷ length (D .t10) ∷ length (D .t15) ∷ length (D .t16) ∷ length (D .t17) ∷ []
 
 by-keyword : (w : Keyword) (src : List ℕ) (s n : State) (D : Declared) → lengthsOf (byKeyword w src s n D .tables) ≡ lengthsOf D
 by-keyword Percents src s n D = refl
-by-keyword TokenWord src s n D = rw (list-long src n true (D .t1))
+by-keyword TokenWord src s n D = let x = list-long src n TokenList (D .t1) (D .t15) (D .t16) in rw (x .0, x .1, x .2)
 by-keyword ActiontypeWord src s n D = rw (actiontype-long src n (D .t10))
 by-keyword StartWord src s n D = rw (start-long src n (D .t10))
 by-keyword EppWord src s n D = let x = epp-long src n (D .t5) (D .t10) in rw (x .0, x .1)
 by-keyword ExpectRrWord src s n D = rw (expect-long src n (D .t10) true)
-by-keyword ExpectUnusedWord src s n D = rw (list-long src n false (D .t6))
+by-keyword ExpectUnusedWord src s n D = let x = list-long src n UnusedList (D .t6) (D .t15) (D .t16) in rw (x .0, x .1, x .2)
 by-keyword ExpectWord src s n D = rw (expect-long src n (D .t10) false)
 by-keyword AvoidInsertWord src s n D = let x = avoid-long src n avoided RepeatedAvoidInsert (D .t1) (D .t3) (D .t10) in rw (x .0, x .1, x .2)
 by-keyword ParseParamWord src s n D = refl
 by-keyword ParseGenericsWord src s n D = refl
 by-keyword ImplicitTokensWord src s n D = let x = avoid-long src n implicit RepeatedImplicitTokens (D .t1) (D .t4) (D .t10) in rw (x .0, x .1, x .2)
-by-keyword LeftWord src s n D = let x = prec-long src n 1 (D .t2) (D .t10) in rw (x .0, x .1)
-by-keyword RightWord src s n D = let x = prec-long src n 2 (D .t2) (D .t10) in rw (x .0, x .1)
-by-keyword NonassocWord src s n D = let x = prec-long src n 3 (D .t2) (D .t10) in rw (x .0, x .1)
+by-keyword LeftWord src s n D = let x = prec-long src n 1 (D .t2) (D .t10) (D .t15) (D .t16) in rw (x .0, x .1, x .2, x .3)
+by-keyword RightWord src s n D = let x = prec-long src n 2 (D .t2) (D .t10) (D .t15) (D .t16) in rw (x .0, x .1, x .2, x .3)
+by-keyword NonassocWord src s n D = let x = prec-long src n 3 (D .t2) (D .t10) (D .t15) (D .t16) in rw (x .0, x .1, x .2, x .3)
+by-keyword PrologueWord src s n D = rw (prologue-long src n (s .at) (D .t17))
+by-keyword UnionWord src s n D = rw (union-long src n (s .at) (D .t17))
+by-keyword TypeWord src s n D = let x = list-long src n TypeList (D .t6) (D .t15) (D .t16) in rw (x .0, x .1, x .2)
 by-keyword NoKeyword src s n D = refl
 
 declarations-long : (src : List ℕ) (s : State) (D : Declared) → lengthsOf (declAll src s D .tables) ≡ lengthsOf D
@@ -436,26 +524,26 @@ rules-long src s t1 t7 t8 t9 = let c = passMark src s percents UnknownDeclaratio
     go Done u = (refl, refl, refl, refl)
     go (Refused f) u = (refl, refl, refl, refl)
 
--- the lengths of all ten tables
-abbrev pub lengths : Tables → List ℕ
+-- the lengths of all thirteen tables
+abbrev pub lengths : AllTables → List ℕ
 lengths T =
-    length (T .t1) ∷ length (T .t2) ∷ length (T .t3) ∷ length (T .t4) ∷ length (T .t5) ∷ length (T .t6) ∷ length (T .t7) ∷ length (T .t8) ∷ length (T .t9) ∷ length (T .t10) ∷ []
+    length (T .t1) ∷ length (T .t2) ∷ length (T .t3) ∷ length (T .t4) ∷ length (T .t5) ∷ length (T .t6) ∷ length (T .t7) ∷ length (T .t8) ∷ length (T .t9) ∷ length (T .t10) ∷ length (T .t15) ∷ length (T .t16) ∷ length (T .t17) ∷ []
 
-pub zero-lengths : (T : Tables) → lengths (zeroAll T) ≡ lengths T
-zero-lengths T = rw (all (T .t1), all (T .t2), all (T .t3), all (T .t4), all (T .t5), all (T .t6), all (T .t7), all (T .t8), all (T .t9), all (T .t10))
+pub zero-lengths : (T : AllTables) → lengths (zeroAll T) ≡ lengths T
+zero-lengths T = rw (all (T .t1), all (T .t2), all (T .t3), all (T .t4), all (T .t5), all (T .t6), all (T .t7), all (T .t8), all (T .t9), all (T .t10), all (T .t15), all (T .t16), all (T .t17))
   where
     all : (t : List ℕ) → length (zeroed t) ≡ length t
     all t = length-replicate (length t) 0
 
 -- The sections leave every table as long as it was.
-pub sections-lengths : (src : List ℕ) (s : State) (T : Tables) → lengths (sectionsAll src s T .tables) ≡ lengths T
+pub sections-lengths : (src : List ℕ) (s : State) (T : AllTables) → lengths (sectionsAll src s T .tables) ≡ lengths T
 unfolding sectionsAll restAll
 sections-lengths src s T = let o = declAll src s (declaredOf T) in go (o .answer) o (declarations-long src s (declaredOf T))
   where
     -- those of tables 7 to 9 between those that declarations fill
     among : List ℕ → List ℕ
     among l =
-        getD l 0 0 ∷ getD l 1 0 ∷ getD l 2 0 ∷ getD l 3 0 ∷ getD l 4 0 ∷ getD l 5 0 ∷ length (T .t7) ∷ length (T .t8) ∷ length (T .t9) ∷ getD l 6 0 ∷ []
+        getD l 0 0 ∷ getD l 1 0 ∷ getD l 2 0 ∷ getD l 3 0 ∷ getD l 4 0 ∷ getD l 5 0 ∷ length (T .t7) ∷ length (T .t8) ∷ length (T .t9) ∷ getD l 6 0 ∷ getD l 7 0 ∷ getD l 8 0 ∷ getD l 9 0 ∷ []
 
     rest : (a : Answer) (r : Ruled) (t1 t7 t8 t9 : List ℕ) → LongRuled t1 t7 t8 t9 r → LongRuled t1 t7 t8 t9 (restFrom a src r)
     rest Going r t1 t7 t8 t9 h = h

@@ -1,9 +1,9 @@
--- `reader::admit` meets its contract: kind, sizes, length, UTF-8. Assumes nothing.
+-- `sections::admit` meets its contract: kind, sizes, length, UTF-8. Assumes nothing.
 use denote.Ref.{now}
 use borrow.Author.Needs.{needs}
-use Rattle.reader.proofs.Laws.{bad-kind, bad-index, too-long, is-text, no-text, bad-byte}
-use Rattle.reader.proofs.admit.Statement.{statement}
-use Rattle.reader.proofs.admit.Tie as tie
+use Rattle.sections.proofs.Laws.{bad-kind, bad-index, too-long, is-text, no-text, bad-byte}
+use Rattle.sections.proofs.admit.Statement.{statement}
+use Rattle.sections.proofs.admit.Tie as tie
 
 fits : tie.Need-cast-t15
 fits c = bad-byte (now (c .before .before .before .before .before .before .before .before .args .src)) _ _ (c .before .before .before .before .if3 .left) (c .before .before .before .check .ensures .1) (c .before .i .given .1)

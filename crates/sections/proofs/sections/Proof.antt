@@ -1,22 +1,22 @@
--- `reader::sections` meets its contract: declarations, then the rest. Assumes nothing.
+-- `sections::sections` meets its contract: declarations, then the rest. Assumes nothing.
 use mathlib.Core.Path.{_∙_}
 use Rattle.grammar.proofs.Steps.{passed-here, passed-fits, passed-on}
-use Rattle.reader.proofs.Laws.{sections-going, sections-done, sections-refused}
-use Rattle.reader.proofs.Spares.{by-declarations}
-use Rattle.reader.proofs.sections.Statement.{statement}
-use Rattle.reader.proofs.sections.Tie as tie
+use Rattle.sections.proofs.Laws.{sections-going, sections-done, sections-refused}
+use Rattle.sections.proofs.Spares.{by-declarations}
+use Rattle.sections.proofs.sections.Statement.{statement}
+use Rattle.sections.proofs.sections.Tie as tie
 
 -- the call of the declarations, and that of the rest behind them
 abbrev declared : tie.After-n → tie.After-declarations
-declared c = c .before .before .before .before .before .before .before .before .before .before .before .before .before .before .before .before .before .before .before
+declared c = c .before .before .before .before .before .before .before .before .before .before .before .before .before .before .before .before .before .before .before .before .before .before .before .before .before
 
 abbrev begun : tie.After-declarations → tie.Start
-begun c = c .before .before .before .before .before .before .before .before .before .before .before .before .before .before .before .before .before .before .before .before .before .before .before .before
+begun c = c .before .before .before .before .before .before .before .before .before .before .before .before .before .before .before .before .before .before .before .before .before .before .before .before .before .before .before .before .before .before
 
-abbrev ran : tie.After-slice-known28 → tie.After-rest
+abbrev ran : tie.After-slice-known34 → tie.After-rest
 ran c = c .before .before .before .before .before .before .before .before .before .before .before .before
 
-abbrev before : tie.After-slice-known28 → tie.After-declarations
+abbrev before : tie.After-slice-known34 → tie.After-declarations
 before c = declared (c .before .before .before .before .before .before .before .before .before .before .before .before .before .before .before .before .before .before .before .before .before)
 
 here : tie.Need-rest-requires
@@ -46,7 +46,7 @@ pub sections-spec : {M : Type 1} → statement M
 sections-spec =
     tie.close
     (tie.spec
-    (λ c κs. (c .before .before .before .before .before .before .before .before .before .before .before .before .before .before .before .before .before .before .before .before .before .before .before .pre .0, c .before .before .before .before .before .before .before .before .before .before .before .before .before .before .before .before .before .before .before .before .before .before .before .pre .1, c .before .before .before .before .before .before .before .before .before .before .before .before .before .before .before .before .before .before .before .before .before .before .before .pre .3))
+    (λ c κs. let p = c .before .before .before .before .before .before .before .before .before .before .before .before .before .before .before .before .before .before .before .before .before .before .before .before .before .before .before .before .before .pre in (p .0, p .1, p .3))
     (λ c. c .match .keys1)
     (λ c. let d = declared (c .before .before .before) in passed-fits _ _ _ (begun d .pre .0) (d .declarations .ensures .1 .0))
     (λ c. c .match .keys2)
@@ -61,6 +61,9 @@ sections-spec =
     (λ c. declared (c .before .before .before) .declarations .kept .1 .1 .1 .1 .1 .1 .1 .1 .0)
     (λ c. declared (c .before .before .before) .declarations .kept .1 .1 .1 .1 .1 .1 .1 .1 .1 .0)
     (λ c. declared (c .before .before .before) .declarations .kept .1 .1 .1 .1 .1 .1 .1 .1 .1 .1 .0)
+    (λ c. declared (c .before .before .before) .declarations .kept .1 .1 .1 .1 .1 .1 .1 .1 .1 .1 .1 .0)
+    (λ c. declared (c .before .before .before) .declarations .kept .1 .1 .1 .1 .1 .1 .1 .1 .1 .1 .1 .1 .0)
+    (λ c. declared (c .before .before .before) .declarations .kept .1 .1 .1 .1 .1 .1 .1 .1 .1 .1 .1 .1 .1 .0)
     going
     (λ c. ran c .rest .kept .1 .1 .0 ∙ before c .declarations .kept .1 .1 .0)
     (λ c. before c .declarations .kept .1 .1 .1 .0)
@@ -72,9 +75,12 @@ sections-spec =
     (λ c. ran c .rest .kept .1 .1 .1 .1 .0)
     (λ c. ran c .rest .kept .1 .1 .1 .1 .1 .0)
     (λ c. before c .declarations .kept .1 .1 .1 .1 .1 .1 .1 .1 .0)
-    (λ c. ran c .rest .kept .1 .1 .1 .1 .1 .1 .0 ∙ before c .declarations .kept .1 .1 .1 .1 .1 .1 .1 .1 .1 .0)
-    (λ c. ran c .rest .kept .1 .1 .1 .1 .1 .1 .1 .0)
+    (λ c. before c .declarations .kept .1 .1 .1 .1 .1 .1 .1 .1 .1 .0)
     (λ c. before c .declarations .kept .1 .1 .1 .1 .1 .1 .1 .1 .1 .1 .0)
+    (λ c. before c .declarations .kept .1 .1 .1 .1 .1 .1 .1 .1 .1 .1 .1 .0)
+    (λ c. ran c .rest .kept .1 .1 .1 .1 .1 .1 .0 ∙ before c .declarations .kept .1 .1 .1 .1 .1 .1 .1 .1 .1 .1 .1 .1 .0)
+    (λ c. ran c .rest .kept .1 .1 .1 .1 .1 .1 .1 .0)
+    (λ c. before c .declarations .kept .1 .1 .1 .1 .1 .1 .1 .1 .1 .1 .1 .1 .1 .0)
     done
     (λ c. declared (c .before .before .before) .declarations .kept .1 .1 .0)
     (λ c. declared (c .before .before .before) .declarations .kept .1 .1 .1 .0)
@@ -85,4 +91,7 @@ sections-spec =
     (λ c. declared (c .before .before .before) .declarations .kept .1 .1 .1 .1 .1 .1 .1 .1 .0)
     (λ c. declared (c .before .before .before) .declarations .kept .1 .1 .1 .1 .1 .1 .1 .1 .1 .0)
     (λ c. declared (c .before .before .before) .declarations .kept .1 .1 .1 .1 .1 .1 .1 .1 .1 .1 .0)
+    (λ c. declared (c .before .before .before) .declarations .kept .1 .1 .1 .1 .1 .1 .1 .1 .1 .1 .1 .0)
+    (λ c. declared (c .before .before .before) .declarations .kept .1 .1 .1 .1 .1 .1 .1 .1 .1 .1 .1 .1 .0)
+    (λ c. declared (c .before .before .before) .declarations .kept .1 .1 .1 .1 .1 .1 .1 .1 .1 .1 .1 .1 .1 .0)
     refused)

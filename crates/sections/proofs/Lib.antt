@@ -1,0 +1,4 @@
+pub mod Laws
+pub mod Spares
+pub mod Lengths
+pub mod Far
