@@ -28,12 +28,21 @@ macro_rules! lent {
     };
 }
 
+// A load is lent kind 4's tables too, of no length: the sources are of kinds 1 to 3.
+macro_rules! loaded {
+    ($t:ident ($($head:expr),*) ($($tail:expr),*)) => {{
+        let none = [0u32; 1];
+        let p = none.as_ptr();
+        lent!(quiltrudder_load $t ($($head),*) (p, 0, p, 0, p, 0, $($tail),*))
+    }};
+}
+
 type P = *const u32;
 
 #[rustfmt::skip]
 unsafe extern "C" {
     fn quiltrudder_load(src: *const u8, len: usize, kind: u32, a: P, an: usize, b: P, bn: usize, c: P, cn: usize, d: P, dn: usize, e: P, en: usize,
-        f: P, fn_: usize, g: P, gn: usize, h: P, hn: usize, i: P, in_: usize, j: P, jn: usize, k: P, kn: usize, l: P, ln: usize, answer: *mut u32);
+        f: P, fn_: usize, g: P, gn: usize, h: P, hn: usize, i: P, in_: usize, j: P, jn: usize, k: P, kn: usize, l: P, ln: usize, t15: P, n15: usize, t16: P, n16: usize, t17: P, n17: usize, answer: *mut u32);
     fn quiltrudder_report(src: *const u8, len: usize, reading: *const u32, a: P, an: usize, b: P, bn: usize, c: P, cn: usize, d: P, dn: usize, e: P, en: usize,
         f: P, fn_: usize, g: P, gn: usize, h: P, hn: usize, i: P, in_: usize, j: P, jn: usize, k: P, kn: usize, l: P, ln: usize, work: *mut u32, wn: usize, out: *mut u32, on: usize, answer: *mut u32);
     fn quiltrudder_validate(src: *const u8, len: usize, reading: *const u32, a: P, an: usize, b: P, bn: usize, c: P, cn: usize, d: P, dn: usize, e: P, en: usize,
@@ -47,15 +56,15 @@ unsafe extern "C" {
 }
 
 fn load(kind: u32, src: &[u8], t: &mut Lent) -> u32 {
-    let mut o = [0u32; 40];
-    unsafe { lent!(quiltrudder_load t (src.as_ptr(), src.len(), kind) (o.as_mut_ptr())) };
+    let mut o = [0u32; 43];
+    unsafe { loaded!(t (src.as_ptr(), src.len(), kind) (o.as_mut_ptr())) };
     o[0]
 }
 
 fn ours(kind: u32, src: &[u8], t: &mut Lent, work: &mut [u32], out: &mut [u32]) -> (u32, u32, u32) {
-    let (mut o, mut r) = ([0u32; 40], [0u32; 8]);
+    let (mut o, mut r) = ([0u32; 43], [0u32; 8]);
     unsafe {
-        lent!(quiltrudder_load t (src.as_ptr(), src.len(), kind) (o.as_mut_ptr()));
+        loaded!(t (src.as_ptr(), src.len(), kind) (o.as_mut_ptr()));
         if o[0] == 0 {
             lent!(quiltrudder_report t (src.as_ptr(), src.len(), o.as_ptr()) (work.as_mut_ptr(), work.len(), out.as_mut_ptr(), out.len(), r.as_mut_ptr()));
         }
@@ -65,21 +74,21 @@ fn ours(kind: u32, src: &[u8], t: &mut Lent, work: &mut [u32], out: &mut [u32]) 
 
 // each operation by itself on the tables as `load` leaves them, in microseconds: load, validate, faults, mark, report, prune, and load into tables for any source
 fn single(kind: u32, src: &[u8], t: &mut Lent, work: &mut [u32], out: &mut [u32]) -> [f64; 7] {
-    let (mut o, mut r) = ([0u32; 40], [0u32; 40]);
+    let (mut o, mut r) = ([0u32; 43], [0u32; 43]);
     let (s, n) = (src.as_ptr(), src.len());
     let mut times = [0.0; 7];
     unsafe {
-        times[0] = best(|| lent!(quiltrudder_load t (s, n, kind) (o.as_mut_ptr())));
+        times[0] = best(|| loaded!(t (s, n, kind) (o.as_mut_ptr())));
         times[1] = best(|| lent!(quiltrudder_validate t (s, n, o.as_ptr()) (r.as_mut_ptr())));
         times[2] = best(|| lent!(quiltrudder_faults t (s, n, o.as_ptr()) (out.as_mut_ptr(), out.len(), r.as_mut_ptr())));
         times[3] = best(|| lent!(quiltrudder_mark t (s, n, o.as_ptr()) (work.as_mut_ptr(), work.len(), r.as_mut_ptr())));
         times[4] = best(|| lent!(quiltrudder_report t (s, n, o.as_ptr()) (work.as_mut_ptr(), work.len(), out.as_mut_ptr(), out.len(), r.as_mut_ptr())));
         // pruning changes the tables, so each run begins with a load, which does not count
         let (given, p) = (&*t, o.as_mut_ptr());
-        times[5] = best_behind(|| lent!(quiltrudder_load given (s, n, kind) (p)), || lent!(quiltrudder_prune given (s, n, p) (work.as_mut_ptr(), work.len(), r.as_mut_ptr())));
+        times[5] = best_behind(|| loaded!(given (s, n, kind) (p)), || lent!(quiltrudder_prune given (s, n, p) (work.as_mut_ptr(), work.len(), r.as_mut_ptr())));
         let mut wide: Lent = std::array::from_fn(|k| vec![0u32; if k < 10 { WIDTH[k] * 65538 } else { 262144 }]);
         let w = &mut wide;
-        times[6] = best(|| lent!(quiltrudder_load w (s, n, kind) (o.as_mut_ptr())));
+        times[6] = best(|| loaded!(w (s, n, kind) (o.as_mut_ptr())));
     }
     times
 }

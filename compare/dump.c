@@ -1,4 +1,4 @@
-/* dump BOX [ROWS,..]: the comparison text of every input of a box, made from the C names of the library alone. ROWS are the rows lent for tables 1 to 10, one number for all or ten;
+/* dump BOX [ROWS,..]: the comparison text of every input of a box, made from the C names of the library alone. ROWS are the rows lent for tables 1 to 10, one number for all or ten, or thirteen with those of tables 15 to 17;
    without them each table has a row for each byte. Tables and indexes are lent full of rubbish; a cell past a count that is not zero afterwards is told on standard error, and a slot
    that is taken by more or fewer rows than there are. Each report is walked row by row too, by the bits of the marking; a step that is not the report's is told in the text, where the comparison
    finds it. How many were walked is told on standard error. */
@@ -10,7 +10,7 @@ static long walked;
 static void errors(void) {
     uint32_t *r = t[10], count = o[13];
     char *done = calloc(count + 1, 1);
-    if (o[0] < 40 || o[0] == 42)
+    if (o[0] < 40 || o[0] == 42 || o[0] >= 50)
         for (uint32_t i = 0; i < count; i++) {
             if (done[i]) continue;
             printf("error %u %u %u", r[5 * i], r[5 * i + 1], r[5 * i + 2]);
@@ -22,7 +22,7 @@ static void errors(void) {
             printf("\n");
         }
     free(done);
-    if (o[0] >= 1 && o[0] <= 19) printf("error %u %u %u\n", o[0], o[1], o[2]);
+    if ((o[0] >= 1 && o[0] <= 19) || o[0] >= 50) printf("error %u %u %u\n", o[0], o[1], o[2]);
 }
 
 /* An answer at 0..0 is on line 1, column 1. */
@@ -116,16 +116,26 @@ static void use(void) {
     free(out);
 }
 
+/* What kind 4 has besides. */
+static void posix_rows(void) {
+    const uint32_t *c = o + QUILTRUDDER_POSIX_COUNTS;
+    printf("posix %u %u %u\n", c[0], c[1], c[2]);
+    for (uint32_t i = 0; i < c[0]; i++) { uint32_t *x = posix[0] + 4 * i; printf("t15 %u %u %u %u %u ", i, x[0], x[1], x[2], x[3]); text(src, x[0], x[1]); printf(" "); text(src, x[2], x[3]); printf("\n"); }
+    for (uint32_t i = 0; i < c[1]; i++) { uint32_t *x = posix[1] + 3 * i; printf("t16 %u %u %u %u ", i, x[0], x[1], x[2]); text(src, x[0], x[1]); printf("\n"); }
+    for (uint32_t i = 0; i < c[2]; i++) { uint32_t *x = posix[2] + 3 * i; printf("t17 %u %u %u %u ", i, x[0], x[1], x[2]); text(src, x[1], x[2]); printf("\n"); }
+}
+
 int main(int argc, char **argv) {
-    unsigned rows[11];
+    unsigned rows[11], more[3] = {70000, 70000, 70000};
     for (int k = 1; k <= 10; k++) rows[k] = 70000;
     if (argc > 2) {
-        int c = sscanf(argv[2], "%u,%u,%u,%u,%u,%u,%u,%u,%u,%u", rows + 1, rows + 2, rows + 3, rows + 4, rows + 5, rows + 6, rows + 7, rows + 8, rows + 9, rows + 10);
+        int c = sscanf(argv[2], "%u,%u,%u,%u,%u,%u,%u,%u,%u,%u,%u,%u,%u", rows + 1, rows + 2, rows + 3, rows + 4, rows + 5, rows + 6, rows + 7, rows + 8, rows + 9, rows + 10, more, more + 1, more + 2);
         for (int k = 2; c == 1 && k <= 10; k++) rows[k] = rows[1];
     }
     FILE *f = argc > 1 ? fopen(argv[1], "rb") : NULL;
     if (!f) return 2;
     for (int k = 1; k <= 10; k++) t[k] = malloc(4 * (size_t)width[k] * 70000 + 4);
+    for (int k = 0; k < 3; k++) posix[k] = malloc(4 * (size_t)posix_width[k] * 70000 + 4);
     uint8_t *s;
     int bad = 0, kind;
     for (long index = 0; (kind = next_input(f, &s)) >= 0; index++) {
@@ -134,8 +144,13 @@ int main(int argc, char **argv) {
             n[k] = have * width[k];
             for (size_t i = 0; i < n[k]; i++) t[k][i] = 0xdeadbeef;
         }
+        for (int k = 0; k < 3; k++) {
+            size_t have = more[k] > len + 2 && argc < 3 ? len + 2 : more[k];
+            posix_length[k] = have * posix_width[k];
+            for (size_t i = 0; i < posix_length[k]; i++) posix[k][i] = 0xdeadbeef;
+        }
         lend_indexes();
-        quiltrudder_load(src, len, kind, TABLES, o);
+        quiltrudder_load(src, len, kind, ALL_TABLES, o);
         int fatal = is_fatal();
         printf("input %ld %u %u\nload %u %u %u", index, kind, len, o[0], o[1], o[2]);
         if (o[0] == 42) printf(" %u", o[3]);
@@ -147,9 +162,13 @@ int main(int argc, char **argv) {
         if (!fatal) tables(1);
         for (uint32_t i = 0; i < o[13]; i++) { uint32_t *x = t[10] + 5 * i; printf("t10 %u %u %u %u %u %u\n", i, x[0], x[1], x[2], x[3], x[4]); }
         if (!fatal) { singles(); use(); }
+        if (kind == 4) posix_rows();
         for (int k = 1; k <= 10; k++)
             for (size_t i = (size_t)o[3 + k] * width[k]; i < n[k]; i++)
                 if (t[k][i]) { bad++; fprintf(stderr, "input %ld: a cell of table %d past its count is not zero\n", index, k); break; }
+        for (int k = 0; k < 3; k++)
+            for (size_t i = (size_t)o[QUILTRUDDER_POSIX_COUNTS + k] * posix_width[k]; i < posix_length[k]; i++)
+                if (posix[k][i]) { bad++; fprintf(stderr, "input %ld: a cell of table %d past its count is not zero\n", index, 15 + k); break; }
         for (int k = 1; k <= 7; k += 6) {
             uint32_t taken = 0;
             for (size_t i = 0; i < m[k]; i++) taken += ix[k][i] != 0;

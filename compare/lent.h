@@ -1,4 +1,4 @@
-/* What the comparison programs share: a source, the ten tables and two indexes that are lent, and the numbers of its reading. */
+/* What the comparison programs share: a source, the ten tables and two indexes that are lent, for a load also the three of kind 4, and the numbers of its reading. */
 #ifndef LENT_H
 #define LENT_H
 
@@ -15,10 +15,15 @@ static size_t n[11];
 static uint32_t *ix[8];
 static size_t m[8];
 static uint32_t o[QUILTRUDDER_READING_CELLS];
+/* Tables 15 to 17. */
+static const unsigned posix_width[3] = {QUILTRUDDER_T15_WIDTH, QUILTRUDDER_T16_WIDTH, QUILTRUDDER_T17_WIDTH};
+static uint32_t none[1], *posix[3] = {none, none, none};
+static size_t posix_length[3];
 static const uint8_t *src;
 static uint32_t len;
 
 #define TABLES t[1], n[1], t[2], n[2], t[3], n[3], t[4], n[4], t[5], n[5], t[6], n[6], t[7], n[7], t[8], n[8], t[9], n[9], t[10], n[10], ix[1], m[1], ix[7], m[7]
+#define ALL_TABLES TABLES, posix[0], posix_length[0], posix[1], posix_length[1], posix[2], posix_length[2]
 
 /* The next input of a box; its bytes are the caller's to free. Returns its kind, or -1 at the end. */
 static int next_input(FILE *f, uint8_t **bytes) {

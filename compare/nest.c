@@ -38,7 +38,7 @@ int main(int argc, char **argv) {
             t[k] = malloc(n[k] * sizeof **t);
         }
         lend_indexes();
-        quiltrudder_load(src, len, kind, TABLES, o);
+        quiltrudder_load(src, len, kind, ALL_TABLES, o);
         if (!is_fatal()) {
             uint32_t end = 0;
             readings++;

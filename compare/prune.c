@@ -191,7 +191,7 @@ int main(int argc, char **argv) {
             t[k] = malloc(n[k] * sizeof **t);
         }
         lend_indexes();
-        quiltrudder_load(src, len, kind, TABLES, o);
+        quiltrudder_load(src, len, kind, ALL_TABLES, o);
         uint32_t v[QUILTRUDDER_VALIDITY_CELLS];
         if (!is_fatal()) {
             quiltrudder_validate(src, len, o, TABLES, v);

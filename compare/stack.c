@@ -14,7 +14,7 @@ static size_t work_length = 8192, out_length = 4 * 65538;
 
 static void *run(void *which) {
     switch (*(int *)which) {
-    case LOAD: quiltrudder_load(src, len, kind, TABLES, o); break;
+    case LOAD: quiltrudder_load(src, len, kind, ALL_TABLES, o); break;
     case VALIDATE: quiltrudder_validate(src, len, o, TABLES, answer); break;
     case FAULTS: quiltrudder_faults(src, len, o, TABLES, out, out_length, answer); break;
     case REPORT: quiltrudder_report(src, len, o, TABLES, work, work_length, out, out_length, answer); break;

@@ -149,7 +149,7 @@ int main(int argc, char **argv) {
     while ((kind = next_input(f, &s)) >= 0) {
         for (int k = 1; k <= 10; k++) n[k] = (size_t)width[k] * 1000;
         lend_indexes();
-        quiltrudder_load(src, len, kind, TABLES, o);
+        quiltrudder_load(src, len, kind, ALL_TABLES, o);
         if (!is_fatal() && len < 2000) {
             full++;
             for (int k = 1; k <= 10; k++) n[k] = (size_t)width[k] * (o[3 + k] + 1) + 1;

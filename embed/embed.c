@@ -18,15 +18,19 @@ static uint32_t t7[ROWS * QUILTRUDDER_T7_WIDTH];
 static uint32_t t8[ROWS * QUILTRUDDER_T8_WIDTH];
 static uint32_t t9[ROWS * QUILTRUDDER_T9_WIDTH];
 static uint32_t t10[ROWS * QUILTRUDDER_T10_WIDTH];
+static uint32_t t15[ROWS * QUILTRUDDER_T15_WIDTH];
+static uint32_t t16[ROWS * QUILTRUDDER_T16_WIDTH];
+static uint32_t t17[ROWS * QUILTRUDDER_T17_WIDTH];
 static uint32_t i1[QUILTRUDDER_SLOTS(ROWS)];
 static uint32_t i7[QUILTRUDDER_SLOTS(ROWS)];
 static uint32_t t14[(1 + 4 * ROWS) * QUILTRUDDER_FAULT_WIDTH];
 static uint32_t work[2 * ROWS / 32];
 static uint32_t out[2 * ROWS * QUILTRUDDER_REPORT_WIDTH];
 
-/* A slice of a whole array, and all ten tables with their indexes. */
+/* A slice of a whole array, and all ten tables with their indexes; a load is lent kind 4's three too. */
 #define WHOLE(a) (a), sizeof(a) / sizeof((a)[0])
 #define TABLES WHOLE(t1), WHOLE(t2), WHOLE(t3), WHOLE(t4), WHOLE(t5), WHOLE(t6), WHOLE(t7), WHOLE(t8), WHOLE(t9), WHOLE(t10), WHOLE(i1), WHOLE(i7)
+#define ALL_TABLES TABLES, WHOLE(t15), WHOLE(t16), WHOLE(t17)
 
 static void print_answer(const uint32_t *answer)
 {
@@ -62,7 +66,7 @@ int main(int count, char **args)
     size_t length = fread(src, 1, sizeof src, file);
     fclose(file);
 
-    quiltrudder_load(src, length, (uint32_t)atoi(args[1]), TABLES, reading);
+    quiltrudder_load(src, length, (uint32_t)atoi(args[1]), ALL_TABLES, reading);
     if (reading[QUILTRUDDER_NUMBER] != 0) {
         print_answer(reading);
         if (reading[QUILTRUDDER_NUMBER] >= QUILTRUDDER_NO_START_RULE && reading[QUILTRUDDER_NUMBER] <= QUILTRUDDER_UNKNOWN_EPP) print_faults(length, reading);

@@ -33,7 +33,7 @@ mod quiltrudder {
         extern "C" {
             #[rustfmt::skip]
             pub fn quiltrudder_prune(
-                src: *const u8, src_length: usize, reading: *mut [u32; 40],
+                src: *const u8, src_length: usize, reading: *mut [u32; 43],
                 t1: *mut u32, t1_length: usize, t2: *const u32, t2_length: usize, t3: *mut u32, t3_length: usize, t4: *const u32, t4_length: usize, t5: *mut u32, t5_length: usize,
                 t6: *const u32, t6_length: usize, t7: *mut u32, t7_length: usize, t8: *mut u32, t8_length: usize, t9: *mut u32, t9_length: usize, t10: *const u32, t10_length: usize,
                 i1: *mut u32, i1_length: usize, i7: *mut u32, i7_length: usize, work: *mut u32, work_length: usize, answer: *mut [u32; 6],
@@ -41,19 +41,20 @@ mod quiltrudder {
             pub fn quiltrudder_locate(src: *const u8, src_length: usize, at: u32, answer: *mut [u32; 2]);
         }
         declare! {
-            quiltrudder_load(kind: u32; *mut u32; answer: *mut [u32; 40]);
-            quiltrudder_validate(reading: *const [u32; 40]; *const u32; answer: *mut [u32; 6]);
-            quiltrudder_faults(reading: *const [u32; 40]; *const u32; t14: *mut u32, t14_length: usize, answer: *mut [u32; 8]);
-            quiltrudder_report(reading: *const [u32; 40]; *const u32; work: *mut u32, work_length: usize, out: *mut u32, out_length: usize, answer: *mut [u32; 8]);
-            quiltrudder_mark(reading: *const [u32; 40]; *const u32; work: *mut u32, work_length: usize, answer: *mut [u32; 6]);
-            quiltrudder_next_unused(reading: *const [u32; 40]; *const u32; work: *const u32, work_length: usize, at: *mut [u32; 2], answer: *mut [u32; 8]);
-            quiltrudder_name(reading: *const [u32; 40]; *const u32; table: u32, row: u32, answer: *mut [u32; 4]);
-            quiltrudder_epp_value(reading: *const [u32; 40]; *const u32; row: u32, out: *mut u8, out_length: usize, answer: *mut [u32; 8]);
+            quiltrudder_load(kind: u32; *mut u32; t15: *mut u32, t15_length: usize, t16: *mut u32, t16_length: usize, t17: *mut u32, t17_length: usize, answer: *mut [u32; 43]);
+            quiltrudder_validate(reading: *const [u32; 43]; *const u32; answer: *mut [u32; 6]);
+            quiltrudder_faults(reading: *const [u32; 43]; *const u32; t14: *mut u32, t14_length: usize, answer: *mut [u32; 8]);
+            quiltrudder_report(reading: *const [u32; 43]; *const u32; work: *mut u32, work_length: usize, out: *mut u32, out_length: usize, answer: *mut [u32; 8]);
+            quiltrudder_mark(reading: *const [u32; 43]; *const u32; work: *mut u32, work_length: usize, answer: *mut [u32; 6]);
+            quiltrudder_next_unused(reading: *const [u32; 43]; *const u32; work: *const u32, work_length: usize, at: *mut [u32; 2], answer: *mut [u32; 8]);
+            quiltrudder_name(reading: *const [u32; 43]; *const u32; table: u32, row: u32, answer: *mut [u32; 4]);
+            quiltrudder_epp_value(reading: *const [u32; 43]; *const u32; row: u32, out: *mut u8, out_length: usize, answer: *mut [u32; 8]);
         }
     }
 
-    /// The widths of the rows of tables 1 to 10.
+    /// The widths of the rows of tables 1 to 10, and of tables 15 to 17, which kind 4 fills.
     const WIDTHS: [usize; 10] = [3, 4, 2, 2, 6, 3, 5, 13, 4, 5];
+    const POSIX_WIDTHS: [usize; 3] = [4, 3, 3];
 
     /// The row of a symbol whose name is that of no rule or token.
     const NO_ROW: u32 = 4294967295;
@@ -107,11 +108,31 @@ mod quiltrudder {
         Token(u32),
     }
 
-    /// A source and what was read of it: ten tables, and the indexes of tables 1 and 7.
+    /// A source and what was read of it: ten tables, and the indexes of tables 1 and 7; beside them tables 15 to 17.
     pub struct Reading<'a> {
         src: &'a [u8],
-        cells: [u32; 40],
+        cells: [u32; 43],
         lent: [Vec<u32>; 12],
+        posix: [Vec<u32>; 3],
+    }
+
+    /// What kind 4 has besides: a name's tag, a token's number, a text that is taken over whole (1 `%{`, 2 `%union`). All are parts of the source.
+    #[derive(Clone, Copy, Debug, PartialEq)]
+    pub struct Tag<'a> {
+        pub name: &'a [u8],
+        pub tag: &'a [u8],
+    }
+
+    #[derive(Clone, Copy, Debug, PartialEq)]
+    pub struct TokenNumber<'a> {
+        pub name: &'a [u8],
+        pub number: u32,
+    }
+
+    #[derive(Clone, Copy, Debug, PartialEq)]
+    pub struct Body<'a> {
+        pub sort: u32,
+        pub text: &'a [u8],
     }
 
     /// Goes from one unused row to the next, in the report's order, without a list: the work bits, and how many rule rows and token rows were passed.
@@ -137,19 +158,48 @@ mod quiltrudder {
         }};
     }
 
-    /// Reads a source of kind 1, 2 or 3 and validates what was read, with room for so many rows in each table, and indexes that are large enough.
+    /// Reads a source of kind 1, 2, 3 or 4 and validates what was read, with room for so many rows in each table, and indexes that are large enough.
     pub fn load(src: &[u8], kind: u32, rows: usize) -> Reading<'_> {
-        let mut cells = [0; 40];
+        let mut cells = [0; 43];
         let slots = (2 * rows).next_power_of_two();
         let lengths = WIDTHS.map(|width| rows * width).into_iter().chain([slots, slots]);
         let mut lent: [Vec<u32>; 12] = lengths.map(|length| vec![0; length]).collect::<Vec<_>>().try_into().unwrap();
-        call!(quiltrudder_load, src, (kind), &mut lent, as_mut_ptr, (&mut cells));
-        Reading { src, cells, lent }
+        let mut posix = POSIX_WIDTHS.map(|width| vec![0u32; if kind == 4 { rows * width } else { 0 }]);
+        let [t15, t16, t17] = &mut posix;
+        call!(
+            quiltrudder_load, src, (kind), &mut lent, as_mut_ptr,
+            (t15.as_mut_ptr(), t15.len(), t16.as_mut_ptr(), t16.len(), t17.as_mut_ptr(), t17.len(), &mut cells)
+        );
+        Reading { src, cells, lent, posix }
     }
 
     impl<'a> Reading<'a> {
         pub fn answer(&self) -> Answer {
             answer(self.cells)
+        }
+
+        /// The bytes of a place that stands in a row.
+        fn part(&self, row: &[u32]) -> &'a [u8] {
+            &self.src[row[0] as usize..row[1] as usize]
+        }
+
+        fn posix_rows(&self, k: usize) -> impl Iterator<Item = &[u32]> {
+            self.posix[k].chunks(POSIX_WIDTHS[k]).take(self.cells[38 + k] as usize)
+        }
+
+        /// The tag of each word that has one, in order.
+        pub fn tags(&self) -> Vec<Tag<'a>> {
+            self.posix_rows(0).map(|row| Tag { name: self.part(row), tag: self.part(&row[2..]) }).collect()
+        }
+
+        /// The number of each token that is given one, in order.
+        pub fn token_numbers(&self) -> Vec<TokenNumber<'a>> {
+            self.posix_rows(1).map(|row| TokenNumber { name: self.part(row), number: row[2] }).collect()
+        }
+
+        /// What stands in each `%{ %}` and each `%union`, in order.
+        pub fn bodies(&self) -> Vec<Body<'a>> {
+            self.posix_rows(2).map(|row| Body { sort: row[0], text: self.part(&row[1..]) }).collect()
         }
 
         /// How many rows table 1 to 10 has.
@@ -323,7 +373,19 @@ fn main() {
 
 #[cfg(test)]
 mod tests {
-    use super::quiltrudder::{load, locate, Row, Spot};
+    use super::quiltrudder::{load, locate, Body, Row, Spot, Tag, TokenNumber};
+
+    #[test]
+    fn kind_4_has_tags_numbers_and_bodies() {
+        let src = b"%{a%}%union{b}%token<t>A 300'b'%%s:A'b';";
+        let reading = load(src, 4, 16);
+        assert_eq!(reading.answer().number, 0);
+        assert_eq!(reading.tags(), [Tag { name: b"A", tag: b"t" }, Tag { name: b"b", tag: b"t" }]);
+        assert_eq!(reading.token_numbers(), [TokenNumber { name: b"A", number: 300 }]);
+        assert_eq!(reading.bodies(), [Body { sort: 1, text: b"a" }, Body { sort: 2, text: b"b" }]);
+        assert_eq!(load(b"%type<t", 4, 16).answer().number, 50);
+        assert_eq!(load(b"%union{}%%s:;", 1, 16).answer().number, 12);
+    }
 
     #[test]
     fn names_are_parts_of_the_source() {

@@ -24,6 +24,7 @@ extern "C" {
 #define QUILTRUDDER_ORIGINAL 1
 #define QUILTRUDDER_GRMTOOLS 2
 #define QUILTRUDDER_ECO 3
+#define QUILTRUDDER_POSIX 4 /* yacc as IEEE Std 1003.1 describes it: %{ %}, %union, %type, <tag> and token numbers; a comment ends at its closing pair alone */
 
 /* A source has at most so many bytes; a longer one is refused (41). */
 #define QUILTRUDDER_SOURCE_BYTES 65536
@@ -39,6 +40,9 @@ extern "C" {
 #define QUILTRUDDER_T8_WIDTH 13 /* productions: rule row; from, to; symbols from, to; %prec flag, from, to; action flag, text from, to, span from, to */
 #define QUILTRUDDER_T9_WIDTH 4 /* symbols: kind (1 rule, 2 token), from, to, row: that of the rule in table 7 or of the token in table 1, or QUILTRUDDER_NO_ROW */
 #define QUILTRUDDER_T10_WIDTH 5 /* repeats: number; first from, to; repeated from, to */
+#define QUILTRUDDER_T15_WIDTH 4 /* tags, of kind 4: name from, to; tag from, to */
+#define QUILTRUDDER_T16_WIDTH 3 /* token numbers, of kind 4: name from, to; number */
+#define QUILTRUDDER_T17_WIDTH 3 /* bodies, of kind 4: sort (1 %{, 2 %union), from, to */
 
 /* How many slots to lend for the index beside table 1 or 7, where that table is lent room for so many rows: the first power of two that is twice the rows or more.
  * A constant where `rows` is one. An index may be larger, as long as its size is a power of two; any other size is refused (45). */
@@ -57,7 +61,7 @@ extern "C" {
 #define QUILTRUDDER_REPORT_WIDTH 2 /* report: kind (1 rule, 2 token), row */
 
 /* How many numbers each answer has. */
-#define QUILTRUDDER_READING_CELLS 40
+#define QUILTRUDDER_READING_CELLS 43
 #define QUILTRUDDER_VALIDITY_CELLS 6
 #define QUILTRUDDER_FAULTS_CELLS 8
 #define QUILTRUDDER_LISTING_CELLS 8
@@ -75,8 +79,8 @@ extern "C" {
 #define QUILTRUDDER_TABLE 3
 
 /* Line and column of the place's start are the last two of every answer: 1, 1 where the place is 0, 0, and the end's where a load is accepted. */
-#define QUILTRUDDER_READING_LINE 38
-#define QUILTRUDDER_READING_COLUMN 39
+#define QUILTRUDDER_READING_LINE 41
+#define QUILTRUDDER_READING_COLUMN 42
 #define QUILTRUDDER_VALIDITY_LINE 4
 #define QUILTRUDDER_VALIDITY_COLUMN 5
 #define QUILTRUDDER_COUNTED_LINE 6 /* of the faults, of the report and of a value */
@@ -133,6 +137,9 @@ extern "C" {
 #define QUILTRUDDER_BAD_KIND 43 /* no such kind */
 #define QUILTRUDDER_UNSOUND 44 /* numbers, tables and indexes that are no reading of this source */
 #define QUILTRUDDER_BAD_INDEX 45 /* an index whose size is no power of two, or below twice the rows that its table has room for */
+#define QUILTRUDDER_TAG 50 /* kind 4: a tag that its line does not close, or none behind %type */
+#define QUILTRUDDER_PROLOGUE_NOT_CLOSED 51 /* kind 4: %{ without its %} */
+#define QUILTRUDDER_UNION 52 /* kind 4: %union without a body, or one that does not close */
 
 /* In a reading: the ten counts of tables 1 to 10, and then the singles. Each single is led by its flag: 0 absent, its numbers zero; 1 given. */
 #define QUILTRUDDER_COUNTS 4
@@ -142,6 +149,7 @@ extern "C" {
 #define QUILTRUDDER_PARAM 27 /* parse parameter: flag, name from, to, type from, to */
 #define QUILTRUDDER_GENERICS 32 /* parse generics: flag, from, to */
 #define QUILTRUDDER_PROGRAMS 35 /* flag, from, to */
+#define QUILTRUDDER_POSIX_COUNTS 38 /* the three counts of tables 15 to 17 */
 
 /* In the answers of the faults, of the report and of a value: the count, by its low and high 32 bits; 0 after a refusal. */
 #define QUILTRUDDER_COUNT_LOW 4
@@ -154,13 +162,15 @@ extern "C" {
 /* The record of where a walk over the unused rows stands: how many rule rows and how many token rows it has passed. A fresh one is all zero. */
 #define QUILTRUDDER_STANDING_CELLS 2
 
-/* Reads a source of kind 1, 2 or 3 into the lent tables and indexes, whatever they held, and where that is accepted validates what was read. `i1` is the index of table 1 and `i7` that of table 7: slots by which a name is
+/* Reads a source of kind 1, 2, 3 or 4 into the lent tables and indexes, whatever they held, and where that is accepted validates what was read. `i1` is the index of table 1 and `i7` that of table 7: slots by which a name is
  * found, each 0 or a row number plus one.
  *
  * Number 0: read and valid, and the place is the end reached, twice. 30 to 35: all of it was read and it is not valid; the place is validate's, and the tables hold the full reading. 20 to 27: all of it was read and something was given twice; the place is the
- * first one's, table 10 lists the repeats, and the tables hold the full reading. 1 to 19, 40, 41, 43, 45: refused at the place. 42: the table
- * that is named has no room for the row at the place. It never answers 44. After a refusal but 20 to 27 and 30 to 35, tables 1 to 9, both indexes and the counts of 1 to 9 are zero and the singles
- * absent, and repeats met before stay listed. */
+ * first one's, table 10 lists the repeats, and the tables hold the full reading. 1 to 19, 40, 41, 43, 45, 50 to 52: refused at the place. 42: the table
+ * that is named has no room for the row at the place. It never answers 44. After a refusal but 20 to 27 and 30 to 35, tables 1 to 9 and 15 to 17, both indexes and the counts of those tables are zero and the singles
+ * absent, and repeats met before stay listed.
+ *
+ * Kinds 1 to 3 add no row to tables 15 to 17: for them lend slices of no length. No function below looks at the three. */
 void quiltrudder_load(
     const uint8_t *src, size_t src_length,
     uint32_t kind,
@@ -176,6 +186,9 @@ void quiltrudder_load(
     uint32_t *t10, size_t t10_length,
     uint32_t *i1, size_t i1_length,
     uint32_t *i7, size_t i7_length,
+    uint32_t *t15, size_t t15_length,
+    uint32_t *t16, size_t t16_length,
+    uint32_t *t17, size_t t17_length,
     uint32_t answer[QUILTRUDDER_READING_CELLS]);
 
 /* The functions below take a reading: the numbers that quiltrudder_load wrote, and the tables and indexes as it left them. Of the numbers they look at the
