@@ -27,6 +27,11 @@ use Rattle.grammar.proofs.Counting.{same-high}
 use Rattle.grammar.proofs.Touch.{refused-going, push-more, pass-count, pass-going}
 use Rattle.bodies.specs.Bodies.{bodyRow, prologueClosed, prologueDecl, unionClosed, unionOpened, unionBody, unionFrom, unionDecl, OneBody, PrologueRead, UnionRead}
 
+-- what stands between a brace and the one that is found to close it balances
+pub balanced : (src : List ℕ) (i to n : ℕ) → i < length src → bracedAt src (i + 1) ≡ Closes to n → IsAction src i to
+unfolding actionAt acted
+balanced src i to n h e = let z : to + 1 - 1 ≡ to = omega arith in rw z at (action-is src i h (to + 1) n (trimmed src (i + 1) to) (spanOf (i + 1) (trimmed src (i + 1) to)) (ap (acted src i) e) .0)
+
 module _ (src : List ℕ) (s : State) (at : ℕ) (t : List ℕ) (three : length (s .posix .n) ≡ 3) where
   one-row : (sort from to end : ℕ) → bodyRow src s sort from to end t .answer ≡ Going → OneBody s t (bodyRow src s sort from to end t) sort from to
   unfolding bodyRow
@@ -51,16 +56,12 @@ module _ (src : List ℕ) (s : State) (at : ℕ) (t : List ℕ) (three : length 
   abbrev IsUnion : Out1 → Type 0
   IsUnion o = o .answer ≡ Going → UnionRead src s t o
 
-  balanced : (i to n : ℕ) → i < length src → bracedAt src (i + 1) ≡ Closes to n → IsAction src i to
-  unfolding actionAt acted
-  balanced i to n h e = let z : to + 1 - 1 ≡ to = omega arith in rw z at (action-is src i h (to + 1) n (trimmed src (i + 1) to) (spanOf (i + 1) (trimmed src (i + 1) to)) (ap (acted src i) e) .0)
-
   pub union-read : IsUnion (unionDecl src s at t)
   unfolding unionDecl unionBody
   union-read = gap (gapAt (s .kind) false src (s .at)) refl
     where
       brace : (i n : ℕ) → gapAt (s .kind) false src (s .at) ≡ GapTo i n → (i < length src) × (getD src i 0 ≡ 123) → (b : Brace) → bracedAt src (i + 1) ≡ b → IsUnion (unionClosed b src s at i t)
-      brace i n q o (Closes to m) e g = record { opens = i; lines = n; to = to; gap = q; brace = o .1; text = balanced i to m (o .0) e; row = one-row 2 (i + 1) to (to + 1) g }
+      brace i n q o (Closes to m) e g = record { opens = i; lines = n; to = to; gap = q; brace = o .1; text = balanced src i to m (o .0) e; row = one-row 2 (i + 1) to (to + 1) g }
       brace i n q o NeverCloses e g = absurd (refused-going _ g)
 
       open-at : (i n : ℕ) → gapAt (s .kind) false src (s .at) ≡ GapTo i n → (b : Bool) → isAt 123 src i ≡ b → IsUnion (unionOpened b src s at i t)

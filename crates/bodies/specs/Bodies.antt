@@ -12,6 +12,7 @@ use Rattle.texts.specs.Balance.{IsAction}
 use Rattle.texts.specs.Mark.{markedAt, FirstMark}
 use Rattle.tables.specs.Layout.{bodies, width}
 use Rattle.tables.specs.Rows.{rowsOf}
+use Rattle.tables.specs.Table.{room}
 use Rattle.grammar.specs.declared.State.{State}
 use Rattle.grammar.specs.declared.Cause.the-variants.{PrologueNotClosed, UnionNotOpened, UnionNotClosed}
 use Rattle.grammar.specs.declared.Refusal.the-variants.{Fault}
@@ -71,3 +72,16 @@ pub record UnionRead (src : List ℕ) (s : State) (t : List ℕ) (o : Out1) : Ty
   pub brace : getD src opens 0 ≡ 123
   pub text : IsAction src opens to
   pub row : OneBody s t o 2 (opens + 1) to
+
+-- Where they go on: table 17 has room for the row, and spacing follows the body, all of which ends at `end`;
+pub record BodyFits (src : List ℕ) (s : State) (t : List ℕ) (end : ℕ) : Type 0 where
+  pub free : room (width bodies) (count s bodies) t ≡ true
+  pub to : ℕ
+  pub lines : ℕ
+  pub gap : gapAt (s .kind) true src end ≡ GapTo to lines
+
+-- and of a union, spacing without a line end leads from its keyword to this brace.
+pub record UnionOpens (src : List ℕ) (s : State) (opens : ℕ) : Type 0 where
+  pub lines : ℕ
+  pub gap : gapAt (s .kind) false src (s .at) ≡ GapTo opens lines
+  pub brace : getD src opens 0 ≡ 123

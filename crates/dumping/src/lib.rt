@@ -364,6 +364,15 @@ fn put_production(o: &mut [u8], at: usize, src: &[u8], t: &[u32], row: u32) -> u
     put_action(o, q, src, t, row)
 }
 
+// A word and its tag.
+fn put_tag(o: &mut [u8], at: usize, src: &[u8], t: &[u32], row: u32) -> usize {
+    let w = tables::TAG_WIDTH;
+    let p = put_named(o, at, src, t, w, tables::NAME, row);
+    let a = tables::cell(t, w, row, 2);
+    let b = tables::cell(t, w, row, 3);
+    put_part(o, p, src, a, b)
+}
+
 // What a row of a table holds, but for table 5. Table 10 has no names.
 fn put_held(o: &mut [u8], at: usize, src: &[u8], t: &[u32], table: u8, row: u32) -> usize {
     match table {
@@ -374,6 +383,9 @@ fn put_held(o: &mut [u8], at: usize, src: &[u8], t: &[u32], table: u8, row: u32)
         7 => put_rule(o, at, src, t, row),
         8 => put_production(o, at, src, t, row),
         9 => put_symbol(o, at, src, t, row),
+        15 => put_tag(o, at, src, t, row),
+        16 => put_named(o, at, src, t, tables::TOKEN_NUMBER_WIDTH, tables::NAME, row),
+        17 => put_named(o, at, src, t, tables::BODY_WIDTH, tables::KIND_NAME, row),
         _ => put_cells(o, at, t, tables::REPEAT_WIDTH, row, tables::REPEAT_WIDTH),
     }
 }
@@ -1324,84 +1336,30 @@ fn put_outcome(
 
 // ---- What kind 4 has besides: three counts, and the rows of tables 15 to 17. ----
 
-fn put_tag(o: &mut [u8], at: usize, src: &[u8], t15: &[u32], row: u32) -> usize {
-    let p = put_label(o, at, 15, row);
-    let q = put_named(o, p, src, t15, tables::TAG_WIDTH, tables::NAME, row);
-    let a = tables::cell(t15, tables::TAG_WIDTH, row, 2);
-    let b = tables::cell(t15, tables::TAG_WIDTH, row, 3);
-    let r = put_part(o, q, src, a, b);
+fn put_posix_counts(o: &mut [u8], at: usize, c: PosixCounts) -> usize {
+    let p = put_word(o, at, b"posix");
+    let q = put_place(o, p, c.n[0], c.n[1]);
+    let r = put_number(o, q, c.n[2]);
     put(o, r, b'\n')
-}
-
-fn put_token_number(o: &mut [u8], at: usize, src: &[u8], t16: &[u32], row: u32) -> usize {
-    let p = put_label(o, at, 16, row);
-    let q = put_named(
-        o,
-        p,
-        src,
-        t16,
-        tables::TOKEN_NUMBER_WIDTH,
-        tables::NAME,
-        row,
-    );
-    put(o, q, b'\n')
-}
-
-fn put_body(o: &mut [u8], at: usize, src: &[u8], t17: &[u32], row: u32) -> usize {
-    let p = put_label(o, at, 17, row);
-    let q = put_cells(o, p, t17, tables::BODY_WIDTH, row, tables::BODY_WIDTH);
-    let a = tables::cell(t17, tables::BODY_WIDTH, row, tables::BODY_PLACE);
-    let b = tables::cell(t17, tables::BODY_WIDTH, row, tables::BODY_PLACE + 1);
-    let r = put_part(o, q, src, a, b);
-    put(o, r, b'\n')
-}
-
-fn put_tags(o: &mut [u8], at: usize, src: &[u8], t15: &[u32], n: u32) -> usize {
-    let mut p = at;
-    let mut row = 0;
-    while row < n {
-        p = put_tag(o, p, src, t15, row);
-        row += 1;
-    }
-    p
-}
-
-fn put_token_numbers(o: &mut [u8], at: usize, src: &[u8], t16: &[u32], n: u32) -> usize {
-    let mut p = at;
-    let mut row = 0;
-    while row < n {
-        p = put_token_number(o, p, src, t16, row);
-        row += 1;
-    }
-    p
-}
-
-fn put_bodies(o: &mut [u8], at: usize, src: &[u8], t17: &[u32], n: u32) -> usize {
-    let mut p = at;
-    let mut row = 0;
-    while row < n {
-        p = put_body(o, p, src, t17, row);
-        row += 1;
-    }
-    p
 }
 
 fn put_posix(
     o: &mut [u8],
     at: usize,
     src: &[u8],
+    kind: u32,
     c: PosixCounts,
     t15: &[u32],
     t16: &[u32],
     t17: &[u32],
 ) -> usize {
-    let p = put_word(o, at, b"posix");
-    let q = put_place(o, p, c.n[0], c.n[1]);
-    let r = put_number(o, q, c.n[2]);
-    let s = put(o, r, b'\n');
-    let u = put_tags(o, s, src, t15, c.n[0]);
-    let v = put_token_numbers(o, u, src, t16, c.n[1]);
-    put_bodies(o, v, src, t17, c.n[2])
+    if kind != 4 {
+        return at;
+    }
+    let p = put_posix_counts(o, at, c);
+    let q = put_rows(o, p, src, t15, 15, c.n[0]);
+    let r = put_rows(o, q, src, t16, 16, c.n[1]);
+    put_rows(o, r, src, t17, 17, c.n[2])
 }
 
 fn dump(
@@ -1476,10 +1434,7 @@ fn dump(
         out,
         value,
     );
-    if kind != 4 {
-        return p;
-    }
-    put_posix(o, p, src, posix, t15, t16, t17)
+    put_posix(o, p, src, kind, posix, t15, t16, t17)
 }
 
 // The rows to lend: those asked for, but never more than one for each byte and two more, which no reading fills.
