@@ -126,8 +126,7 @@ wrote-no false P kd r at out₀ out e w = w
 -- where there is room for all, there is room for the next
 pub room-next : {P : ℕ → Type 0} (n kd m at next : ℕ) (out₀ out : List ℕ) → Room P n at out₀ → Written P kd m at next out₀ out → m < n → P m → next * 2 + 2 ≤ length out
 room-next n kd m at next out₀ out r x h p =
-    let l = picks-le n (m + 1) (r .list) (x .list ++ (m ∷ [])) (omega arith) (r .picks) (picks-yes (x .picks) p) in
-    omega (arith, r .room, x .next-is, length-append (x .list) (m ∷ []), ap length (x .cells) ∙ length-sets out₀ (at * 2) (rowsOf kd (x .list)))
+    omega (arith, r .room m (x .list) h (x .picks) p, x .next-is, ap length (x .cells) ∙ length-sets out₀ (at * 2) (rowsOf kd (x .list)))
 
 pub written-size : {P : ℕ → Type 0} {kd n at next : ℕ} {out₀ out : List ℕ} → Written P kd n at next out₀ out → length out ≡ length out₀
 written-size {P} {kd} {n} {at} {next} {out₀} x = ap length (x .cells) ∙ length-sets out₀ (at * 2) (rowsOf kd (x .list))

@@ -209,11 +209,24 @@ abbrev pub Wrote : Bool → Type 0 → ℕ → ℕ → ℕ → List ℕ → List
 Wrote true P kd r at out₀ out = P × (out ≡ set (set out₀ (at * 2) kd) (at * 2 + 1) r)
 Wrote false P kd r at out₀ out = (P → ⊥) × (out ≡ out₀)
 
--- there is room from row at on for the rows of which P holds
+-- there is room from row at on for the rows of which P holds: for each, behind those before it
 pub record Room (P : ℕ → Type 0) (n at : ℕ) (out : List ℕ) : Type 0 where
-  pub list : List ℕ
-  pub picks : Picks P n list
-  pub room : (at + length list) * 2 ≤ length out
+  pub room : (r : ℕ) (l : List ℕ) → r < n → Picks P r l → P r → (at + length l) * 2 + 2 ≤ length out
+
+-- most rows are enough for the rules below m of which R holds and, behind them, the tokens below n of which T holds
+pub record Fits (R T : ℕ → Type 0) (m n most : ℕ) : Type 0 where
+  pub rules : (r : ℕ) (l : List ℕ) → r < m → Picks R r l → R r → length l < most
+  pub tokens : (k : List ℕ) → Picks R m k → (r : ℕ) (l : List ℕ) → r < n → Picks T r l → T r → length k + length l < most
+  pub both : (l : Lists R T m n) → total l ≤ most
+
+-- they are more, or no more, than most
+pub record Exceeds (R T : ℕ → Type 0) (m n most : ℕ) : Type 0 where
+  pub lists : Lists R T m n
+  pub more : most < total lists
+
+abbrev pub Crowds : Bool → (ℕ → Type 0) → (ℕ → Type 0) → ℕ → ℕ → ℕ → Type 0
+Crowds true R T m n most = Exceeds R T m n most
+Crowds false R T m n most = Fits R T m n most
 
 -- they are written from row at on, and next is the row behind them
 pub record Written (P : ℕ → Type 0) (kd n at next : ℕ) (out₀ out : List ℕ) : Type 0 where

@@ -16,7 +16,7 @@ ghost use Rattle.tables.specs.Layout.{width, implicit, unused, kindName};
 ghost use Rattle.finder.specs.Finder.{LeadsTo, Grown};
 ghost use Rattle.sound.specs.Test.{countAt};
 ghost use Rattle.reach.specs.Reach.{named, ruleSort, tokenSort};
-ghost use Rattle.usage.specs.Report.{Says, Expects, Expected, Implicit, Excused, excusesOf, ExpectedLed, ImplicitLed, Guides, Free, Counted, Wrote, Room, Written, ByBits, BitsLeft, MarkedBits, Reported, StandIn};
+ghost use Rattle.usage.specs.Report.{Says, Expects, Expected, Implicit, Excused, excusesOf, ExpectedLed, ImplicitLed, Guides, Free, Counted, Crowds, Wrote, Room, Written, ByBits, BitsLeft, MarkedBits, Reported, StandIn};
 
 // Declarations that few slots are enough for.
 const FEW_EXCUSES: usize = 512;
@@ -488,6 +488,29 @@ fn write_sort(
     write_many(out, at, w, src, c, names, z, t4, t6)
 }
 
+// Whether more rows are to be listed than there is room for. Where every row has room none is counted.
+fn is_crowded(
+    most: usize,
+    w: &[u32],
+    src: &[u8],
+    c: Counts,
+    t1: &[u32],
+    t4: &[u32],
+    t6: &[u32],
+    t7: &[u32],
+) -> bool
+    ensures { λ r. ⌜ Crowds r (Free (now (w .entry)) (excusesOf (now (src .entry)) c (now (t4 .entry)) (now (t6 .entry))) (named (now (t7 .entry)) (ruleSort c))) (Free (now (w .entry)) (excusesOf (now (src .entry)) c (now (t4 .entry)) (now (t6 .entry))) (named (now (t1 .entry)) (tokenSort c))) (ruleSort c .count) (tokenSort c .count) most ⌝ }
+{
+    let rules = reach::rule_sort(c);
+    let tokens = reach::token_sort(c);
+    if rules.count as usize + tokens.count as usize <= most {
+        return false;
+    }
+    let first = count_sort(w, src, c, t7, rules, t4, t6);
+    let second = count_sort(w, src, c, t1, tokens, t4, t6);
+    most < first + second
+}
+
 // The rows that the bits leave, rules first. The report is zero where it has no room. One sort's slots are alive at a time.
 fn list_unused(
     out: &mut [u32],
@@ -502,15 +525,11 @@ fn list_unused(
     ensures { λ r. ⌜ ByBits (now (w .entry)) (excusesOf (now (src .entry)) c (now (t4 .entry)) (now (t6 .entry))) (named (now (t7 .entry)) (ruleSort c)) (named (now (t1 .entry)) (tokenSort c)) r (now (out .entry)) (now (out .exit)) ⌝ }
 {
     tables::zero(out);
-    let rules = reach::rule_sort(c);
-    let tokens = reach::token_sort(c);
-    let first = count_sort(w, src, c, t7, rules, t4, t6);
-    let second = count_sort(w, src, c, t1, tokens, t4, t6);
-    if out.len() / 2 < first + second {
+    if is_crowded(out.len() / 2, w, src, c, t1, t4, t6, t7) {
         return Listing::NoRoom;
     }
-    let at = write_sort(out, 0, w, src, c, t7, rules, t4, t6);
-    let all = write_sort(out, at, w, src, c, t1, tokens, t4, t6);
+    let at = write_sort(out, 0, w, src, c, t7, reach::rule_sort(c), t4, t6);
+    let all = write_sort(out, at, w, src, c, t1, reach::token_sort(c), t4, t6);
     Listing::Unused(all)
 }
 

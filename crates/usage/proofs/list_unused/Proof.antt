@@ -1,63 +1,44 @@
--- `usage::list_unused` meets its contract: both sorts are counted, and written if there is room. Assumes nothing.
+-- `usage::list_unused` meets its contract: both sorts are written if there is room. Assumes nothing.
 use Prim.Native.Nat.{_<_, _^_}
-use mathlib.Core.Path.{_≡_}
+use mathlib.Core.Path.{_≡_, refl}
 use native.Mathlib.Omega.{arith}
 use lib.ListN.{length}
 use denote.Ref.{now}
 use borrow.Author.Needs.{needs}
 use Rattle.reach.specs.Reach.{ruleSort, tokenSort}
-use Rattle.usage.proofs.Picked.{picks-bound, written-size}
-use Rattle.usage.proofs.Passes.{base-low, crowded-by, room-by, written-counted, filled-by}
+use Rattle.usage.proofs.Picked.{written-size}
+use Rattle.usage.proofs.Passes.{base-low, crowds-yes, crowds-no, crowded-by, first-room, second-room, filled-by}
 use Rattle.usage.proofs.list_unused.Statement.{statement}
 use Rattle.usage.proofs.list_unused.Tie as tie
 
--- what is known once the sorts are made: where the function begins, both sorts, and that the report is zero
-abbrev start : tie.After-token-sort → tie.Start
-start c = c .before .before .before .before .before .before .before .before .before .before .before .before .before
+-- where the function begins, and a report of zeros is as long
+abbrev start : tie.After-is-crowded → tie.Start
+start c = c .before .before .before .before .before .before .before .before .before .before .before .before
 
-abbrev rules-are : (c : tie.After-token-sort) → c .before .rule-sort .result ≡ ruleSort (start c .args .c)
-rules-are c = c .before .rule-sort .ensures
-
-abbrev tokens-are : (c : tie.After-token-sort) → c .token-sort .result ≡ tokenSort (start c .args .c)
-tokens-are c = c .token-sort .ensures
-
-zero-is : (c : tie.After-token-sort) → length (c .before .before .before .before .zero .last .0) ≡ length (now (start c .args .out))
-zero-is c = c .before .before .before .before .zero .kept .0
-
--- a count is a 32-bit number, so the bits lie low
-rules-low : (c : tie.After-token-sort) → c .before .rule-sort .result .base < 2 ^ 40
-rules-low c = rw (rules-are c) (omega arith)
-
-tokens-low : (c : tie.After-token-sort) → c .token-sort .result .base < 2 ^ 40
-tokens-low c = rw (tokens-are c) (base-low _ (rw (rules-are c) at (c .before .rule-sort .ok .1 .1 .1 .1 .0 .1)))
-
-add-if1 : tie.Need-add-if1
-add-if1 c =
-    let first = c .before .count-sort .ensures in
-    let second = c .count-sort2 .ensures in
-    omega (arith, picks-bound (first .picks), first .count-is, c .before .before .before .rule-sort .ok .1 .1 .1 .1 .0 .1, picks-bound (second .picks), second .count-is, c .before .before .token-sort .ok .1 .1 .1 .1 .0 .1)
+zero-is : (c : tie.After-is-crowded) → length (c .before .before .before .zero .last .0) ≡ length (now (start c .args .out))
+zero-is c = c .before .before .before .zero .kept .0
 
 returns : tie.Need-returns
 returns c =
-    let s = c .before .before .before in
-    let r = rw (rules-are s) at (c .before .before .count-sort .ensures) in
-    let t = rw (tokens-are s) at (c .before .count-sort2 .ensures) in
-    (crowded-by r t (now (start s .args .out)) (omega (arith, c .if1 .taken, zero-is s)), s .before .before .before .before .zero .ensures)
+    let s = c .before in
+    (crowded-by _ (rw (zero-is s) at (crowds-yes _ _ (c .if1 .taken) (s .is-crowded .ensures))), s .before .before .before .zero .ensures)
 
 write-sort-requires : tie.Need-write-sort-requires
-write-sort-requires c κs = (rules-low (c .before .before .before .before), room-by (c .before .before .before .count-sort .ensures) _ _ (omega (arith, c .before .if1 .left)))
+write-sort-requires c κs =
+    let s = c .before .before .before in
+    (rw (c .rule-sort .ensures) (omega arith), rw (c .rule-sort .ensures) (first-room (s .before .before .before .zero .last .0) (crowds-no _ _ (c .before .before .if1 .left) (s .is-crowded .ensures)) _ refl))
 
 write-sort-requires-2 : tie.Need-write-sort-requires-2
 write-sort-requires-2 c κs =
-    let w = c .before .before .before .write-sort .ensures in
-    (tokens-low (c .before .before .before .before .before .before .before .before), room-by (c .before .before .before .before .before .before .count-sort2 .ensures) _ _ (omega (arith, c .before .before .before .before .before .if1 .left, written-counted (c .before .before .before .before .before .before .before .count-sort .ensures) w, written-size w)))
+    let s = c .before .before .before .before .before .before .before .before in
+    let w = rw (c .before .before .before .before .before .rule-sort .ensures) at (c .before .before .before .before .write-sort .ensures) in
+    (rw (c .token-sort .ensures) (base-low _ (rw (c .before .before .before .before .before .rule-sort .ensures) at (c .before .before .before .before .before .rule-sort .ok .1 .1 .1 .1 .0 .1))), rw (c .token-sort .ensures) (second-room (s .before .before .before .zero .last .0) (crowds-no _ _ (c .before .before .before .before .before .before .before .if1 .left) (s .is-crowded .ensures)) (written-size w) w))
 
 returns-2 : tie.Need-returns-2
 returns-2 c =
     let s = c .before .before .before .before .before .before .before .before .before .before .before in
-    let r = rw (rules-are s) at (c .before .before .before .before .before .before .before .before .before .before .count-sort .ensures) in
-    let t = rw (tokens-are s) at (c .before .before .before .before .before .before .before .before .before .count-sort2 .ensures) in
-    filled-by r t (omega (arith, c .before .before .before .before .before .before .before .before .if1 .left, zero-is s)) (s .before .before .before .before .zero .ensures) (rw (rules-are s) at (c .before .before .before .before .before .before .write-sort .ensures)) (rw (tokens-are s) at (c .before .before .write-sort2 .ensures))
+    let f = crowds-no _ _ (c .before .before .before .before .before .before .before .before .before .before .if1 .left) (s .is-crowded .ensures) in
+    filled-by _ (rw (zero-is s) at f) (s .before .before .before .zero .ensures) (rw (c .before .before .before .before .before .before .before .before .rule-sort .ensures) at (c .before .before .before .before .before .before .before .write-sort .ensures)) (rw (c .before .before .before .token-sort .ensures) at (c .before .before .write-sort2 .ensures))
 
 pub list-unused-spec : {M : Type 1} → statement M
 list-unused-spec =
@@ -65,13 +46,11 @@ list-unused-spec =
     (tie.spec
     (λ c κs. search needs)
     (λ c κs. search needs)
-    (λ c κs. search needs)
-    (λ c κs. rules-low c)
-    (λ c κs. tokens-low (c .before))
-    add-if1
     (λ c. search needs)
     returns
+    (λ c κs. search needs)
     write-sort-requires
+    (λ c κs. search needs)
     write-sort-requires-2
     (λ c. search needs)
     returns-2)
