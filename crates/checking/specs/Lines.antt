@@ -1,13 +1,13 @@
 -- The line that is shown for a place.
-use Prim.Native.Nat.{ℕ}
+use Prim.Native.Nat.{ℕ, _≤_}
 use mathlib.Core.List.{List}
-use mathlib.Core.Bool.{true, false}
+use mathlib.Core.Bool.{true, false, not}
 use lib.Dec.{ltb}
 use lib.ListN.{length}
 use Rattle.scan.specs.declared.Place.{Place}
 use Rattle.scan.specs.declared.Class.the-variants.{LineByte}
-use Rattle.scan.specs.Scan.{inClass, runEndAt}
-use Rattle.places.specs.Places.{lineStart}
+use Rattle.scan.specs.Scan.{inClass, isEol, runEndAt, Runs}
+use Rattle.places.specs.Places.{lineStart, LineBegins}
 
 abbrev pub nowhere : Place
 nowhere = record { from = 0; to = 0 }
@@ -22,3 +22,8 @@ lineOf s at =
         | false ↦ record { from = lineStart s at; to = runEndAt (inClass LineByte) s (lineStart s at) }
       ]
     ]
+
+-- The line that is shown for an index, without a scan: it begins where the index's line begins, no byte of it is LF or CR, and the next one is, or the source ends there.
+pub record LineShown (s : List ℕ) (at : ℕ) (p : Place) : Type 0 where
+  pub begins : LineBegins s at (p .from)
+  pub runs : Runs (λ c. not (isEol c)) s (p .from) (p .to)

@@ -14,7 +14,8 @@ ghost use Rattle.checking.specs.Lines.{lineOf};
 
 // Rooms for any source of up to 65,536 bytes, in less than 8 MB together: 20,480 rows of tables 1 to 4, 7,680 of table 5, 32,768 of tables 6, 9 and 10, 13,952 of table 7, 65,536 of table 8
 // and 32,770 of table 14. Names in each of tables 1 to 4, in table 5 and in table 7 are pairwise different, so a source has fewer than 19,740, 7,670 and 13,830 of them (the densest tokens
-// are bare and quoted in turn, with nothing between). The cells of table 14 hold the report too: two for each rule and token.
+// are bare and quoted in turn, with nothing between). In kind 4, 32,768 rows of table 15 and 21,845 and 16,384 of tables 16 and 17: a row takes two, three and four bytes at least.
+// The cells of table 14 hold table 15 while the source is read, which nothing asks for afterwards, and in the end the report: two for each rule and token.
 type Cells1 = [u32; 61440];
 
 type Cells2 = [u32; 81920];
@@ -41,7 +42,11 @@ type Slots7 = [u32; 32768];
 
 type Words = [u32; 1088];
 
-type Cells14 = [u32; 98310];
+type Cells14 = [u32; 131072];
+
+type Cells16 = [u32; 65535];
+
+type Cells17 = [u32; 49152];
 
 // A byte more than a source may have.
 type Source = [u8; 65537];
@@ -243,6 +248,19 @@ fn say_fault(code: u32, name: &[u8], is_json: bool) {
     }
 }
 
+// What kind 4 refuses besides.
+fn say_marked(code: u32) {
+    match code {
+        50 => say(
+            b"a tag is wanted here, or the one that begins here does not close on its line: `<`, a text, `>`",
+        ),
+        51 => say(b"the text that begins with this %{ does not end: %} is missing"),
+        _ => say(
+            b"this %union has no body in braces behind it on its line, or one that does not close",
+        ),
+    }
+}
+
 fn say_other(code: u32, name: &[u8], is_json: bool) {
     match code {
         40 => say(b"the file is not UTF-8 from this byte on"),
@@ -264,6 +282,7 @@ fn say_message(code: u32, src: &[u8], from: usize, to: usize, is_json: bool) {
         1..=19 => say_refusal(code, src, from),
         20..=29 => say_repeat(code, name, is_json),
         30..=39 => say_fault(code, name, is_json),
+        50..=52 => say_marked(code),
         _ => say_other(code, name, is_json),
     }
 }
@@ -815,7 +834,7 @@ fn check_faults(
 // A refusal that stops the reading.
 fn is_stopped(number: u32) -> bool {
     match number {
-        1..=19 | 40..=45 => true,
+        1..=19 | 40..=45 | 50..=52 => true,
         _ => false,
     }
 }
@@ -895,11 +914,9 @@ fn check_source(
     i7: &mut [u32],
     work: &mut [u32],
     t14: &mut [u32],
+    t16: &mut [u32],
+    t17: &mut [u32],
 ) -> Tally {
-    // No kind but 4 fills tables 15 to 17.
-    let mut t15 = [0u32; 0];
-    let mut t16 = [0u32; 0];
-    let mut t17 = [0u32; 0];
     let r = quiltrudder::load(
         src,
         kind,
@@ -915,9 +932,9 @@ fn check_source(
         t10,
         i1,
         i7,
-        &mut t15,
-        &mut t16,
-        &mut t17,
+        t14,
+        t16,
+        t17,
     );
     let j = r.answer;
     let c = r.counts;
@@ -1004,6 +1021,8 @@ fn check_text(
     i7: &mut Slots7,
     work: &mut Words,
     t14: &mut Cells14,
+    t16: &mut Cells16,
+    t17: &mut Cells17,
 ) -> Asked {
     let o = Form {
         is_quiet: r.is_quiet,
@@ -1029,6 +1048,8 @@ fn check_text(
         i7,
         work,
         t14,
+        t16,
+        t17,
     );
     if !r.is_json {
         say_summary(file, t);
@@ -1073,6 +1094,8 @@ fn check_file(
     i7: &mut Slots7,
     work: &mut Words,
     t14: &mut Cells14,
+    t16: &mut Cells16,
+    t17: &mut Cells17,
 ) -> Asked {
     let fd = open(file);
     if fd < 0 {
@@ -1103,6 +1126,8 @@ fn check_file(
         i7,
         work,
         t14,
+        t16,
+        t17,
     )
 }
 
@@ -1114,7 +1139,10 @@ fn is_word(a: &[u8], word: &[u8]) -> bool {
 
 // The kinds by their names, 0 where there is none. One more stands here and in the usage below.
 fn kind_of(word: &[u8]) -> u32 {
-    kind_if(word, b"original", 1) | kind_if(word, b"grmtools", 2) | kind_if(word, b"eco", 3)
+    kind_if(word, b"original", 1)
+        | kind_if(word, b"grmtools", 2)
+        | kind_if(word, b"eco", 3)
+        | kind_if(word, b"posix", 4)
 }
 
 fn kind_if(word: &[u8], name: &[u8], kind: u32) -> u32 {
@@ -1124,7 +1152,7 @@ fn kind_if(word: &[u8], name: &[u8], kind: u32) -> u32 {
 fn say_usage(fd: i32) {
     io::write_all(
         fd,
-        b"usage: speccheck [--kind original|grmtools|eco] [--quiet|--json] [--no-warnings] [--] FILE ..\n",
+        b"usage: speccheck [--kind original|grmtools|eco|posix] [--quiet|--json] [--no-warnings] [--] FILE ..\n",
     );
 }
 
@@ -1134,7 +1162,9 @@ fn say_help() {
         b"Says what is wrong in Yacc grammars, each of up to 65,536 bytes, and which rules and tokens nothing uses. The file - is standard input.\n",
     );
     say(b"An option holds for the files behind it:\n");
-    say(b"  --kind K       the kind of grammar; original, Yacc's own, if nothing is said\n");
+    say(
+        b"  --kind K       the kind of grammar; original, Yacc's own, if nothing is said; posix is Yacc as POSIX has it\n",
+    );
     say(
         b"  --quiet        nothing but the last line of each file, its errors and warnings counted\n",
     );
@@ -1227,6 +1257,8 @@ fn take_word(
     i7: &mut Slots7,
     work: &mut Words,
     t14: &mut Cells14,
+    t16: &mut Cells16,
+    t17: &mut Cells17,
 ) -> Asked {
     if r.wants_kind {
         return take_kind(r, word);
@@ -1254,6 +1286,8 @@ fn take_word(
         i7,
         work,
         t14,
+        t16,
+        t17,
     )
 }
 
@@ -1277,6 +1311,8 @@ fn take_argument(
     i7: &mut Slots7,
     work: &mut Words,
     t14: &mut Cells14,
+    t16: &mut Cells16,
+    t17: &mut Cells17,
 ) -> Asked {
     let n = os::arg(i, word);
     if os::errno() != 0 {
@@ -1302,6 +1338,8 @@ fn take_argument(
         i7,
         work,
         t14,
+        t16,
+        t17,
     )
 }
 
@@ -1322,6 +1360,8 @@ fn take_arguments(
     i7: &mut Slots7,
     work: &mut Words,
     t14: &mut Cells14,
+    t16: &mut Cells16,
+    t17: &mut Cells17,
 ) -> Asked {
     let n = os::arg_count();
     let mut r = Asked {
@@ -1357,6 +1397,8 @@ fn take_arguments(
             i7,
             work,
             t14,
+            t16,
+            t17,
         );
         i += 1;
     }
@@ -1405,7 +1447,9 @@ pub fn check_files() {
     let mut i1 = [0u32; 65536];
     let mut i7 = [0u32; 32768];
     let mut work = [0u32; 1088];
-    let mut t14 = [0u32; 98310];
+    let mut t14 = [0u32; 131072];
+    let mut t16 = [0u32; 65535];
+    let mut t17 = [0u32; 49152];
     let r = take_arguments(
         &mut word,
         &mut text,
@@ -1423,6 +1467,8 @@ pub fn check_files() {
         &mut i7,
         &mut work,
         &mut t14,
+        &mut t16,
+        &mut t17,
     );
     end(r);
 }

@@ -4,9 +4,9 @@ use Rattle.checking.proofs.check_source.Statement.{statement}
 use Rattle.checking.proofs.check_source.Tie as tie
 
 -- where the tables were loaded
-abbrev after-load : tie.After-slice-known28 → tie.After-load
+abbrev after-load : tie.After-slice-known33 → tie.After-load
 after-load c =
-    c .before .before .before .before .before .before .before .before .before .before .before .before .before .before .before .before .before .before .before .before .before .before .before .before .before .before .before .before .before .before .before .before .before .before .before .before .before .before .before .before .before .before .before .before .before .before .before .before
+    c .before .before .before .before .before .before .before .before .before .before .before .before .before .before .before .before .before .before .before .before .before .before .before .before .before .before .before .before .before .before .before .before .before .before .before .before .before .before .before .before .before .before .before .before .before .before .before .before .before .before .before
 
 same-length : tie.Need-same-length
 same-length c = after-load c .load .kept .1 .1 .0
@@ -44,13 +44,16 @@ same-length-11 c = after-load c .load .kept .1 .1 .1 .1 .1 .1 .1 .1 .1 .1 .1 .1 
 same-length-12 : tie.Need-same-length-12
 same-length-12 c = after-load c .load .kept .1 .1 .1 .1 .1 .1 .1 .1 .1 .1 .1 .1 .1 .0
 
+same-length-15 : tie.Need-same-length-15
+same-length-15 c = after-load c .load .kept .1 .1 .1 .1 .1 .1 .1 .1 .1 .1 .1 .1 .1 .1 .1 .0
+
+same-length-16 : tie.Need-same-length-16
+same-length-16 c = after-load c .load .kept .1 .1 .1 .1 .1 .1 .1 .1 .1 .1 .1 .1 .1 .1 .1 .1 .0
+
 pub check-source-spec : {M : Type 1} → statement M
 check-source-spec =
     tie.close
     (tie.spec
-    (λ c. search needs)
-    (λ c. search needs)
-    (λ c. search needs)
     (λ c κs. search needs)
     (λ c κs. search needs)
     same-length
@@ -67,4 +70,6 @@ check-source-spec =
     same-length-12
     (λ c. search needs)
     (λ c. search needs)
+    same-length-15
+    same-length-16
     (λ c. search needs))
