@@ -1,7 +1,7 @@
 -- The test says yes exactly where the tables are sound. Assumes nothing.
-use Prim.Native.Nat.{ℕ, zero, suc, _*_, _≤_, _<_}
+use Prim.Native.Nat.{ℕ, zero, suc, _+_, _*_, _≤_, _<_}
 use mathlib.Core.Path.{_≡_, refl, sym, ap, _∙_}
-use mathlib.Core.List.{List}
+use mathlib.Core.List.{List, []}
 use mathlib.Core.Bool.{Bool, true, false, _||_, _&&_, false≢true}
 use mathlib.Core.Logic.{_↔_, Iff·trans}
 use native.Mathlib.Omega.{arith}
@@ -11,10 +11,11 @@ use Rattle.tables.specs.declared.Found.{Found}
 use Rattle.tables.specs.declared.Found.the-variants.{RowAt, NoRow}
 use Rattle.tables.specs.Table.{cell, hasName, findName, samePart}
 use Rattle.tables.specs.Rows.{rowAt, endBefore, Chained}
-use Rattle.tables.specs.Layout.{tokens, rules, productions, symbols, symbolsFrom, symbolsTo, width, knownRow}
+use Rattle.tables.specs.Layout.{tokens, rules, productions, symbols, symbolsFrom, symbolsTo, posixFrom, tags, tokenNumbers, bodies, width, knownRow}
 use Rattle.tables.proofs.Cases.{none-iff}
 use Rattle.tables.proofs.Rows.{row-cell}
 use Rattle.grammar.specs.declared.Counts.{Counts}
+use Rattle.grammar.specs.declared.PosixCounts.{PosixCounts}
 use Rattle.grammar.specs.declared.Part.{Part}
 use Rattle.grammar.specs.declared.Part.the-variants.{Absent, At}
 use Rattle.grammar.specs.declared.Expect.{Expect}
@@ -22,8 +23,8 @@ use Rattle.grammar.specs.declared.Expect.the-variants.{NotExpected, Expected}
 use Rattle.grammar.specs.declared.Param.{Param}
 use Rattle.grammar.specs.declared.Param.the-variants.{NoParam, ParamAt}
 use Rattle.grammar.specs.declared.Singles.{Singles}
-use Rattle.grammar.specs.Sound.{Tables, Indexes, lexiconOf, tab, Differ, each, pairs, Table, Lies, LiesExpected, LiesParam, Lie, soundView, Sound}
-use Rattle.sound.specs.Test.{rowTest, namesTest, tableTest, before, rangeTest, rangesTest, partTest, expectTest, paramTest, singlesTest, countAt, knownTest, tablesTest, soundTest}
+use Rattle.grammar.specs.Sound.{Tables, Indexes, lexiconOf, tab, Differ, each, pairs, Table, AllTables, cellsOf, PosixSound, Lies, LiesExpected, LiesParam, Lie, soundView, Sound}
+use Rattle.sound.specs.Test.{rowTest, namesTest, tableTest, before, rangeTest, rangesTest, partTest, expectTest, paramTest, singlesTest, countAt, knownTest, tablesTest, posixTest, soundTest}
 use Rattle.tables.specs.Below.{below}
 use Rattle.tables.proofs.Below.{below-iff}
 use Rattle.index.specs.Index.{unfound, freshName}
@@ -62,7 +63,7 @@ module _ (src : List ℕ) (w : ℕ) (t : List ℕ) where
 free-iff : (n : ℕ) → (true ≡ true) ↔ ((q r : ℕ) → q < r → r < n → Unit {0})
 free-iff n = (λ e q r k l. tt, λ f. refl)
 
-names-iff : (src : List ℕ) (k n : ℕ) (t : List ℕ) → k < 10
+names-iff : (src : List ℕ) (k n : ℕ) (t : List ℕ) → k < 13
     → (namesTest (eqb k tokens || eqb k rules) src (width k) n t ≡ true) ↔ ((q r : ℕ) → q < r → r < n → pairs src k (rowAt (width k) t q) (rowAt (width k) t r))
 names-iff src zero n t h = apart-iff src (width tokens) t (omega arith) n
 names-iff src (suc zero) n t h = free-iff n
@@ -74,10 +75,13 @@ names-iff src (suc (suc (suc (suc (suc (suc zero)))))) n t h = apart-iff src (wi
 names-iff src (suc (suc (suc (suc (suc (suc (suc zero))))))) n t h = free-iff n
 names-iff src (suc (suc (suc (suc (suc (suc (suc (suc zero)))))))) n t h = free-iff n
 names-iff src (suc (suc (suc (suc (suc (suc (suc (suc (suc zero))))))))) n t h = free-iff n
-names-iff src (suc (suc (suc (suc (suc (suc (suc (suc (suc (suc k)))))))))) n t h = absurd (omega arith)
+names-iff src (suc (suc (suc (suc (suc (suc (suc (suc (suc (suc zero)))))))))) n t h = free-iff n
+names-iff src (suc (suc (suc (suc (suc (suc (suc (suc (suc (suc (suc zero))))))))))) n t h = free-iff n
+names-iff src (suc (suc (suc (suc (suc (suc (suc (suc (suc (suc (suc (suc zero)))))))))))) n t h = free-iff n
+names-iff src (suc (suc (suc (suc (suc (suc (suc (suc (suc (suc (suc (suc (suc k))))))))))))) n t h = absurd (omega arith)
 
 -- a table by itself: "counts fit, cells past them are zero", its rows, its names
-pub table-iff : (src : List ℕ) (c : Counts) (k n : ℕ) (t : List ℕ) → k < 10 → (tableTest src (countAt c rules) k n t ≡ true) ↔ Table src (soundView c) k n t
+pub table-iff : (src : List ℕ) (c : Counts) (k n : ℕ) (t : List ℕ) → k < 13 → (tableTest src (countAt c rules) k n t ≡ true) ↔ Table src (soundView c) k n t
 unfolding tableTest
 table-iff src c k n t h =
     Iff·trans
@@ -94,6 +98,23 @@ tables-iff src c T =
     (chain-iff (λ k. tableTest src (countAt c rules) k (countAt c k) (tab T k)) (λ k. Table src (soundView c) k (countAt c k) (tab T k)) 9 0
     (λ k a b. table-iff src c k (countAt c k) (tab T k) (omega arith)))
     (λ f k h. f k (omega arith) (omega arith), λ f k a b. f k (omega arith))
+
+-- tables 15 to 17: no row of theirs asks for a rule, so that any count of rules will do
+pub posix-iff : (src : List ℕ) (c : Counts) (p : PosixCounts) (T : AllTables) → (posixTest src p (T .t15) (T .t16) (T .t17) ≡ true) ↔ PosixSound src c p T
+unfolding posixTest
+posix-iff src c p T =
+    Iff·trans
+    (both-iff (of-table tags (getD (p .n) 0 0) (T .t15) (omega arith)) (both-iff (of-table tokenNumbers (getD (p .n) 1 0) (T .t16) (omega arith)) (of-table bodies (getD (p .n) 2 0) (T .t17) (omega arith))))
+    (λ x. record { tables = three x }, λ s. (s .tables 0 (omega arith), (s .tables 1 (omega arith), s .tables 2 (omega arith))))
+  where
+    of-table : (k n : ℕ) (t : List ℕ) → k < 13 → (tableTest src 0 k n t ≡ true) ↔ Table src (soundView (record { n = [] })) k n t
+    of-table k n t h = table-iff src (record { n = [] }) k n t h
+
+    three : Table src (soundView c) 10 (getD (p .n) 0 0) (T .t15) × (Table src (soundView c) 11 (getD (p .n) 1 0) (T .t16) × Table src (soundView c) 12 (getD (p .n) 2 0) (T .t17)) → (k : ℕ) → k < 3 → Table src (soundView c) (posixFrom + k) (getD (p .n) k 0) (cellsOf T (posixFrom + k))
+    three x zero h = x .0
+    three x (suc zero) h = x .1 .0
+    three x (suc (suc zero)) h = x .1 .1
+    three x (suc (suc (suc k))) h = absurd (omega arith)
 
 -- "symbol ranges follow one another in production order and fill table 9"
 module _ (t : List ℕ) where

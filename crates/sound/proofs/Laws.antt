@@ -11,13 +11,14 @@ use borrow.Author.Tests.{ne-eqb, le-leb, lt-leb, not-true, not-false}
 use lib.Dec.{eqb, leb}
 use lib.ListN.{length, getD, drop-of-length-le}
 use Rattle.scan.proofs.Bytes.{drop-at, drop-key}
-use Rattle.tables.specs.Layout.{tokens, rules, productions, symbols, symbolsFrom, symbolsTo, width}
+use Rattle.tables.specs.Layout.{tokens, rules, productions, symbols, symbolsFrom, symbolsTo, tags, tokenNumbers, bodies, width}
 use Rattle.tables.specs.Below.{below}
 use Rattle.tables.specs.Table.{cell}
 use Rattle.grammar.specs.Sound.{Tables, Indexes, lexiconOf, tab}
 use Rattle.grammar.specs.declared.Counts.{Counts}
+use Rattle.grammar.specs.declared.PosixCounts.{PosixCounts}
 use Rattle.grammar.specs.declared.Singles.{Singles}
-use Rattle.sound.specs.Test.{indexesTest, zeros, zerosFrom, rowTest, before, rangeTest, rangesTest, namesTest, tableTest, countAt, knownTest, tablesTest, singlesTest, soundTest}
+use Rattle.sound.specs.Test.{indexesTest, zeros, zerosFrom, rowTest, before, rangeTest, rangesTest, namesTest, tableTest, countAt, knownTest, tablesTest, singlesTest, posixTest, soundTest}
 use Rattle.symbols.specs.Symbols.{knowsTest}
 
 -- a table number past the tenth
@@ -28,18 +29,18 @@ module _ (k : ℕ) where
   pub past-ten : (k ≡ 0 → ⊥) → (k ≡ 1 → ⊥) → (k ≡ 2 → ⊥) → (k ≡ 3 → ⊥) → (k ≡ 4 → ⊥) → (k ≡ 5 → ⊥) → (k ≡ 6 → ⊥) → (k ≡ 7 → ⊥) → (k ≡ 8 → ⊥) → (k ≡ 9 → ⊥) → 10 ≤ k
   past-ten = let z : 0 ≤ k = omega arith in λ a b c d e f g h i j. past-five k 5 (past-five k 0 z a b c d e) f g h i j
 
-  module _ (h : 10 ≤ k) where
-    beyond : k ≡ suc (suc (suc (suc (suc (suc (suc (suc (suc (suc (k - 10))))))))))
+  pub past-thirteen : 10 ≤ k → (k ≡ 10 → ⊥) → (k ≡ 11 → ⊥) → (k ≡ 12 → ⊥) → 13 ≤ k
+  past-thirteen h a b c = omega arith
+
+  module _ (h : 13 ≤ k) where
+    beyond : k ≡ suc (suc (suc (suc (suc (suc (suc (suc (suc (suc (suc (suc (suc (k - 13)))))))))))))
     beyond = omega arith
 
     pub row-past : (src t : List ℕ) (n r : ℕ) → true ≡ rowTest src n k t r
     row-past src t n r = rw beyond
 
-    pub past-thirteen : (k ≡ 10 → ⊥) → (k ≡ 11 → ⊥) → (k ≡ 12 → ⊥) → 13 ≤ k
-    past-thirteen a b c = omega arith
-
-  pub width-past : 13 ≤ k → 1 ≡ width k
-  width-past h = let e : k ≡ suc (suc (suc (suc (suc (suc (suc (suc (suc (suc (suc (suc (suc (k - 13))))))))))))) = omega arith in rw e
+    pub width-past : 1 ≡ width k
+    width-past = rw beyond
 
 -- zeros, cell by cell
 module _ (t : List ℕ) (i : ℕ) (r : Bool) (inv : zerosFrom t i ≡ r) where
@@ -106,6 +107,21 @@ module _ (src t : List ℕ) (m k n w : ℕ) (e : w ≡ width k) (small : n ≤ 4
       pub table-names : not q ≡ false → (b : Bool) → (eqb k tokens || eqb k rules) ≡ b → namesTest b src w n t ≡ tableTest src m k n t
       unfolding tableTest
       table-names h b j = rw (le-leb _ _ small, ← e, le-leb _ _ l, ← f, not-false z g, ← o, not-false q h, j)
+
+-- tables 15 to 17, one behind the other
+module _ (src : List ℕ) (p : PosixCounts) (t15 t16 t17 : List ℕ) (a : Bool) (e : a ≡ tableTest src 0 tags (getD (p .n) 0 0) t15) where
+  pub posix-first : not a ≡ true → false ≡ posixTest src p t15 t16 t17
+  unfolding posixTest
+  posix-first h = rw (← e, not-true a h)
+
+  module _ (h : not a ≡ false) (b : Bool) (f : b ≡ tableTest src 0 tokenNumbers (getD (p .n) 1 0) t16) where
+    pub posix-second : not b ≡ true → false ≡ posixTest src p t15 t16 t17
+    unfolding posixTest
+    posix-second k = rw (← e, not-false a h, ← f, not-true b k)
+
+    pub posix-third : not b ≡ false → (q : Bool) → q ≡ tableTest src 0 bodies (getD (p .n) 2 0) t17 → q ≡ posixTest src p t15 t16 t17
+    unfolding posixTest
+    posix-third k q g = rw (← e, not-false a h, ← f, not-false b k, ← g)
 
 -- the tables in their order: one, and those from it on, n behind it
 module _ (src : List ℕ) (c : Counts) (T : Tables) where

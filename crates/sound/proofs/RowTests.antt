@@ -9,11 +9,11 @@ use lib.Dec.{leb, ltb}
 use lib.ListN.{getD}
 use Rattle.tables.specs.Table.{cell, lies}
 use Rattle.tables.specs.Rows.{rowAt}
-use Rattle.tables.specs.Layout.{tokens, precedences, avoided, epps, unused, rules, productions, symbols, repeats, declared, association, keyName, value, typed, ruleRow, place, prec, action, kindName, width}
+use Rattle.tables.specs.Layout.{tokens, precedences, avoided, implicit, epps, unused, rules, productions, symbols, repeats, declared, association, keyName, value, typed, ruleRow, place, prec, action, kindName, tags, tagPlace, tokenNumbers, bodies, width}
 use Rattle.tables.proofs.Rows.{row-cell}
 use Rattle.grammar.specs.State.{Passed}
-use Rattle.grammar.specs.Sound.{Given, GivenAction, View, TokenRow, PrecRow, NameRow, EppRow, KindRow, RuleRow, ProductionRow, RepeatRow, each}
-use Rattle.sound.specs.Test.{givenTest, actionTest, tokenTest, precTest, nameTest, eppTest, kindTest, ruleTest, productionTest, repeatTest, rowTest}
+use Rattle.grammar.specs.Sound.{Given, GivenAction, View, TokenRow, PrecRow, NameRow, EppRow, KindRow, RuleRow, ProductionRow, RepeatRow, TagRow, BodyRow, each}
+use Rattle.sound.specs.Test.{givenTest, actionTest, tokenTest, precTest, nameTest, eppTest, kindTest, ruleTest, productionTest, repeatTest, tagTest, rowTest}
 use Rattle.tables.proofs.Tells.{both-iff, le-iff, lt-iff}
 use Rattle.sound.proofs.Tells.{lies-iff, given-iff, given-action-iff}
 
@@ -48,9 +48,15 @@ module _ (src t : List ℕ) (r : ℕ) where
       Iff·trans (both-iff (placed (width tokens) 0 (omega arith)) (most (width tokens) declared 1 (omega arith)))
       (λ x. record { name = x .0; flag = x .1 }, λ y. (y .name, y .flag))
 
-  name-iff : (nameTest src t r ≡ true) ↔ NameRow src (rowAt (width avoided) t r)
+  name-iff : (w : ℕ) → 1 < w → (nameTest src w t r ≡ true) ↔ NameRow src (rowAt w t r)
   unfolding nameTest
-  name-iff = Iff·trans (placed (width avoided) 0 (omega arith)) (λ x. record { name = x }, λ y. y .name)
+  name-iff w h = Iff·trans (placed w 0 h) (λ x. record { name = x }, λ y. y .name)
+
+  tag-iff : (tagTest src t r ≡ true) ↔ TagRow src (rowAt (width tags) t r)
+  unfolding tagTest
+  tag-iff =
+      Iff·trans (both-iff (placed (width tags) 0 (omega arith)) (placed (width tags) tagPlace (omega arith)))
+      (λ x. record { name = x .0; tag = x .1 }, λ y. (y .name, y .tag))
 
   epp-iff : (v : View) → ((src : List ℕ) (a b : ℕ) → v .whole src a b) → (eppTest src t r ≡ true) ↔ EppRow src v (rowAt (width epps) t r)
   unfolding eppTest
@@ -65,6 +71,9 @@ module _ (src t : List ℕ) (r : ℕ) where
       Iff·trans
       (both-iff (both-iff (least w 0 1 (omega arith)) (most w 0 2 (omega arith))) (placed w kindName (omega arith)))
       (λ x. record { least = x .0 .0; most = x .0 .1; name = x .1 }, λ y. ((y .least, y .most), y .name))
+
+  body-iff : (kindTest src (width bodies) t r ≡ true) ↔ BodyRow src (rowAt (width bodies) t r)
+  body-iff = Iff·trans (kind-iff (width bodies) (omega arith)) (λ x. record { least = x .least; most = x .most; text = x .name }, λ y. record { least = y .least; most = y .most; name = y .text })
 
   rule-iff : (ruleTest src t r ≡ true) ↔ RuleRow src (rowAt (width rules) t r)
   unfolding ruleTest
@@ -98,15 +107,18 @@ module _ (src t : List ℕ) (r : ℕ) where
         (λ x. record { rule = x .0 .0 .0; span = x .0 .0 .1; precedence = x .0 .1; body = x .1 }, λ y. (((y .rule, y .span), y .precedence), y .body))
 
     -- each row as its table's test tells it
-    pub each-iff : ((n : ℕ) → v .low n) → ((src : List ℕ) (a b : ℕ) → v .whole src a b) → (k : ℕ) → k < 10 → (rowTest src (v .rules) k t r ≡ true) ↔ each src v k (rowAt (width k) t r)
+    pub each-iff : ((n : ℕ) → v .low n) → ((src : List ℕ) (a b : ℕ) → v .whole src a b) → (k : ℕ) → k < 13 → (rowTest src (v .rules) k t r ≡ true) ↔ each src v k (rowAt (width k) t r)
     each-iff free any zero h = token-iff
     each-iff free any (suc zero) h = prec-iff free
-    each-iff free any (suc (suc zero)) h = name-iff
-    each-iff free any (suc (suc (suc zero))) h = name-iff
+    each-iff free any (suc (suc zero)) h = name-iff (width avoided) (omega arith)
+    each-iff free any (suc (suc (suc zero))) h = name-iff (width implicit) (omega arith)
     each-iff free any (suc (suc (suc (suc zero)))) h = epp-iff v any
     each-iff free any (suc (suc (suc (suc (suc zero))))) h = kind-iff (width unused) (omega arith)
     each-iff free any (suc (suc (suc (suc (suc (suc zero)))))) h = rule-iff
     each-iff free any (suc (suc (suc (suc (suc (suc (suc zero))))))) h = production-iff
     each-iff free any (suc (suc (suc (suc (suc (suc (suc (suc zero)))))))) h = kind-iff (width symbols) (omega arith)
     each-iff free any (suc (suc (suc (suc (suc (suc (suc (suc (suc zero))))))))) h = repeat-iff
-    each-iff free any (suc (suc (suc (suc (suc (suc (suc (suc (suc (suc k)))))))))) h = absurd (omega arith)
+    each-iff free any (suc (suc (suc (suc (suc (suc (suc (suc (suc (suc zero)))))))))) h = tag-iff
+    each-iff free any (suc (suc (suc (suc (suc (suc (suc (suc (suc (suc (suc zero))))))))))) h = name-iff (width tokenNumbers) (omega arith)
+    each-iff free any (suc (suc (suc (suc (suc (suc (suc (suc (suc (suc (suc (suc zero)))))))))))) h = body-iff
+    each-iff free any (suc (suc (suc (suc (suc (suc (suc (suc (suc (suc (suc (suc (suc k))))))))))))) h = absurd (omega arith)

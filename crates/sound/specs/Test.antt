@@ -9,7 +9,7 @@ use Rattle.tables.specs.Below.{below}
 use Rattle.tables.specs.Table.{cell, lies}
 use Rattle.index.specs.Index.{indexTest, sizeTest, freshName}
 use Rattle.symbols.specs.Symbols.{knowsTest}
-use Rattle.tables.specs.Layout.{tokens, precedences, avoided, epps, unused, rules, productions, symbols, repeats, declared, association, keyName, value, typed, ruleRow, place, symbolsFrom, symbolsTo, prec, action, kindName, width}
+use Rattle.tables.specs.Layout.{tokens, precedences, avoided, implicit, epps, unused, rules, productions, symbols, repeats, declared, association, keyName, value, typed, ruleRow, place, symbolsFrom, symbolsTo, prec, action, kindName, tags, tagPlace, tokenNumbers, bodies, width}
 use Rattle.grammar.specs.declared.Counts.{Counts}
 use Rattle.grammar.specs.declared.Part.{Part}
 use Rattle.grammar.specs.declared.Part.the-variants.{Absent, At}
@@ -18,6 +18,7 @@ use Rattle.grammar.specs.declared.Expect.the-variants.{NotExpected, Expected}
 use Rattle.grammar.specs.declared.Param.{Param}
 use Rattle.grammar.specs.declared.Param.the-variants.{NoParam, ParamAt}
 use Rattle.grammar.specs.declared.Singles.{Singles}
+use Rattle.grammar.specs.declared.PosixCounts.{PosixCounts}
 use Rattle.grammar.specs.Sound.{Tables, Indexes, lexiconOf, tab}
 
 -- "cells past them are zero"
@@ -43,15 +44,16 @@ unfoldable pub precTest : List ℕ → List ℕ → ℕ → Bool
 precTest src t r =
     (lies src (cell (width precedences) t r 0) (cell (width precedences) t r 1) && leb 1 (cell (width precedences) t r association)) && leb (cell (width precedences) t r association) 3
 
-unfoldable pub nameTest : List ℕ → List ℕ → ℕ → Bool
-nameTest src t r = lies src (cell (width avoided) t r 0) (cell (width avoided) t r 1)
+-- tables 3, 4 and 16, whose rows are w wide
+unfoldable pub nameTest : List ℕ → ℕ → List ℕ → ℕ → Bool
+nameTest src w t r = lies src (cell w t r 0) (cell w t r 1)
 
 unfoldable pub eppTest : List ℕ → List ℕ → ℕ → Bool
 eppTest src t r =
     (lies src (cell (width epps) t r 0) (cell (width epps) t r 1) && lies src (cell (width epps) t r keyName) (cell (width epps) t r (keyName + 1)))
     && lies src (cell (width epps) t r value) (cell (width epps) t r (value + 1))
 
--- tables 6 and 9, whose rows are w wide
+-- tables 6, 9 and 17, whose rows are w wide
 unfoldable pub kindTest : List ℕ → ℕ → List ℕ → ℕ → Bool
 kindTest src w t r = (leb 1 (cell w t r 0) && leb (cell w t r 0) 2) && lies src (cell w t r kindName) (cell w t r (kindName + 1))
 
@@ -74,13 +76,17 @@ repeatTest src t r =
     ((leb 20 (cell (width repeats) t r 0) && leb (cell (width repeats) t r 0) 27) && lies src (cell (width repeats) t r 1) (cell (width repeats) t r 2))
     && lies src (cell (width repeats) t r 3) (cell (width repeats) t r 4)
 
+unfoldable pub tagTest : List ℕ → List ℕ → ℕ → Bool
+tagTest src t r =
+    lies src (cell (width tags) t r 0) (cell (width tags) t r 1) && lies src (cell (width tags) t r tagPlace) (cell (width tags) t r (tagPlace + 1))
+
 abbrev any : ℕ → Bool
 any r = true
 
 -- the tests in number order
 abbrev pub rowTest : List ℕ → ℕ → ℕ → List ℕ → ℕ → Bool
 rowTest src n k t =
-    getD (tokenTest src t ∷ precTest src t ∷ nameTest src t ∷ nameTest src t ∷ eppTest src t ∷ kindTest src (width unused) t ∷ ruleTest src t ∷ productionTest src n t ∷ kindTest src (width symbols) t ∷ repeatTest src t ∷ []) k any
+    getD (tokenTest src t ∷ precTest src t ∷ nameTest src (width avoided) t ∷ nameTest src (width implicit) t ∷ eppTest src t ∷ kindTest src (width unused) t ∷ ruleTest src t ∷ productionTest src n t ∷ kindTest src (width symbols) t ∷ repeatTest src t ∷ tagTest src t ∷ nameTest src (width tokenNumbers) t ∷ kindTest src (width bodies) t ∷ []) k any
 
 abbrev pub widthOf : ℕ → ℕ
 widthOf k = width k
@@ -144,6 +150,11 @@ tablesTest src c T =
   where
     one : ℕ → Bool
     one k = tableTest src (countAt c rules) k (countAt c k) (tab T k)
+
+-- tables 15 to 17, which the catalogue alone tests; no row of theirs asks for a rule
+unfoldable pub posixTest : List ℕ → PosixCounts → List ℕ → List ℕ → List ℕ → Bool
+posixTest src p t15 t16 t17 =
+    tableTest src 0 tags (getD (p .n) 0 0) t15 && (tableTest src 0 tokenNumbers (getD (p .n) 1 0) t16 && tableTest src 0 bodies (getD (p .n) 2 0) t17)
 
 -- "the source has at most 65,536 bytes", and all parts
 unfoldable pub soundTest : List ℕ → Counts → Singles → Tables → Indexes → Bool

@@ -4,6 +4,7 @@ use grammar::Counts;
 use grammar::Expect;
 use grammar::Param;
 use grammar::Part;
+use grammar::PosixCounts;
 use grammar::Singles;
 use tables::Found;
 ghost use mathlib.Core.Path.{_≡_};
@@ -13,7 +14,10 @@ ghost use Rattle.tables.specs.Layout.{tokens, rules, symbols, width};
 ghost use Rattle.symbols.specs.Symbols.{lexicon, knowsTest, Single};
 ghost use Rattle.grammar.specs.Sound.{Tables};
 ghost use Rattle.tables.specs.Below.{below};
-ghost use Rattle.sound.specs.Test.{zerosFrom, givenTest, actionTest, tokenTest, precTest, nameTest, eppTest, kindTest, ruleTest, productionTest, repeatTest, rowTest, widthOf, tableTest, rangeTest, rangesTest, partTest, expectTest, paramTest, singlesTest, countAt, indexRight, indexesTest, tablesTest, soundTest};
+ghost use Rattle.sound.specs.Test.{zerosFrom, givenTest, actionTest, tokenTest, precTest, nameTest, eppTest, kindTest, ruleTest, productionTest, repeatTest, tagTest, rowTest, widthOf, tableTest, rangeTest, rangesTest, partTest, expectTest, paramTest, singlesTest, countAt, indexRight, indexesTest, tablesTest, posixTest, soundTest};
+
+// The cell where a tag's place begins.
+const TAG_PLACE: u32 = 2;
 
 // Whether all cells from `from` on are zero.
 pub fn zeros_from(t: &[u32], from: usize) -> bool
@@ -61,10 +65,10 @@ pub fn prec_sound(src: &[u8], t: &[u32], r: u32) -> bool
     tables::is_place(src, tables::cell(t, w, r, 0), tables::cell(t, w, r, 1)) & (1 <= a) & (a <= 3)
 }
 
-pub fn name_sound(src: &[u8], t: &[u32], r: u32) -> bool
-    ensures { λ q. ⌜ q ≡ nameTest (now (src .entry)) (now (t .entry)) r ⌝ }
+// Tables 3, 4 and 16 have one form, and rows of `w`.
+pub fn name_sound(src: &[u8], w: u32, t: &[u32], r: u32) -> bool
+    ensures { λ q. ⌜ q ≡ nameTest (now (src .entry)) w (now (t .entry)) r ⌝ }
 {
-    let w = tables::NAME_WIDTH;
     tables::is_place(src, tables::cell(t, w, r, 0), tables::cell(t, w, r, 1))
 }
 
@@ -77,7 +81,7 @@ pub fn epp_sound(src: &[u8], t: &[u32], r: u32) -> bool
         & tables::is_place(src, tables::cell(t, w, r, 4), tables::cell(t, w, r, 5))
 }
 
-// Tables 6 and 9 have one form, and rows of `w`.
+// Tables 6, 9 and 17 have one form, and rows of `w`.
 pub fn kind_sound(src: &[u8], w: u32, t: &[u32], r: u32) -> bool
     ensures { λ q. ⌜ q ≡ kindTest (now (src .entry)) w (now (t .entry)) r ⌝ }
 {
@@ -135,21 +139,36 @@ pub fn repeat_sound(src: &[u8], t: &[u32], r: u32) -> bool
         & tables::is_place(src, tables::cell(t, w, r, 3), tables::cell(t, w, r, 4))
 }
 
-// Row `r` of table `k + 1`; `rules` is the count of table 7.
+pub fn tag_sound(src: &[u8], t: &[u32], r: u32) -> bool
+    ensures { λ q. ⌜ q ≡ tagTest (now (src .entry)) (now (t .entry)) r ⌝ }
+{
+    let w = tables::TAG_WIDTH;
+    tables::is_place(src, tables::cell(t, w, r, 0), tables::cell(t, w, r, 1))
+        & tables::is_place(
+            src,
+            tables::cell(t, w, r, TAG_PLACE),
+            tables::cell(t, w, r, TAG_PLACE + 1),
+        )
+}
+
+// Row `r` of the table with index `k`; `rules` is the count of table 7.
 pub fn row_sound(src: &[u8], k: u8, t: &[u32], r: u32, rules: u32) -> bool
     ensures { λ q. ⌜ q ≡ rowTest (now (src .entry)) rules k (now (t .entry)) r ⌝ }
 {
     match k {
         0 => token_sound(src, t, r),
         1 => prec_sound(src, t, r),
-        2 => name_sound(src, t, r),
-        3 => name_sound(src, t, r),
+        2 => name_sound(src, tables::NAME_WIDTH, t, r),
+        3 => name_sound(src, tables::NAME_WIDTH, t, r),
         4 => epp_sound(src, t, r),
         5 => kind_sound(src, tables::UNUSED_WIDTH, t, r),
         6 => rule_sound(src, t, r),
         7 => production_sound(src, t, r, rules),
         8 => kind_sound(src, tables::SYMBOL_WIDTH, t, r),
         9 => repeat_sound(src, t, r),
+        10 => tag_sound(src, t, r),
+        11 => name_sound(src, tables::TOKEN_NUMBER_WIDTH, t, r),
+        12 => kind_sound(src, tables::BODY_WIDTH, t, r),
         _ => true,
     }
 }
@@ -234,11 +253,11 @@ pub fn width_of(k: u8) -> u32
     }
 }
 
-// Table `k + 1` with `n` rows. That the rows fit comes first, so that no count makes it read past the table.
-pub fn table_sound(src: &[u8], k: u8, t: &[u32], n: u32, rules: u32) -> bool
+// Table `k + 1` with `n` rows of `w` cells. That the rows fit comes first, so that no count makes it read past the table.
+pub fn table_sound(src: &[u8], k: u8, w: u32, t: &[u32], n: u32, rules: u32) -> bool
+    requires { ⌜ w ≡ widthOf k ⌝ }
     ensures { λ q. ⌜ q ≡ tableTest (now (src .entry)) rules k n (now (t .entry)) ⌝ }
 {
-    let w = width_of(k);
     let end = (n as usize) * (w as usize);
     if t.len() < end {
         return false;
@@ -374,58 +393,117 @@ pub fn tables_sound(
     ensures { λ q. ⌜ q ≡ tablesTest (now (src .entry)) c (record { t1 = now (t1 .entry); t2 = now (t2 .entry); t3 = now (t3 .entry); t4 = now (t4 .entry); t5 = now (t5 .entry); t6 = now (t6 .entry); t7 = now (t7 .entry); t8 = now (t8 .entry); t9 = now (t9 .entry); t10 = now (t10 .entry) }) ⌝ }
 {
     let rules = rows_of(c, tables::RULES);
-    if !table_sound(src, tables::TOKENS, t1, rows_of(c, tables::TOKENS), rules) {
+    if !table_sound(
+        src,
+        tables::TOKENS,
+        tables::TOKEN_WIDTH,
+        t1,
+        rows_of(c, tables::TOKENS),
+        rules,
+    ) {
         return false;
     }
     if !table_sound(
         src,
         tables::PRECEDENCES,
+        tables::PRECEDENCE_WIDTH,
         t2,
         rows_of(c, tables::PRECEDENCES),
         rules,
     ) {
         return false;
     }
-    if !table_sound(src, tables::AVOIDED, t3, rows_of(c, tables::AVOIDED), rules) {
+    if !table_sound(
+        src,
+        tables::AVOIDED,
+        tables::NAME_WIDTH,
+        t3,
+        rows_of(c, tables::AVOIDED),
+        rules,
+    ) {
         return false;
     }
     if !table_sound(
         src,
         tables::IMPLICIT,
+        tables::NAME_WIDTH,
         t4,
         rows_of(c, tables::IMPLICIT),
         rules,
     ) {
         return false;
     }
-    if !table_sound(src, tables::EPPS, t5, rows_of(c, tables::EPPS), rules) {
+    if !table_sound(
+        src,
+        tables::EPPS,
+        tables::EPP_WIDTH,
+        t5,
+        rows_of(c, tables::EPPS),
+        rules,
+    ) {
         return false;
     }
-    if !table_sound(src, tables::UNUSED, t6, rows_of(c, tables::UNUSED), rules) {
+    if !table_sound(
+        src,
+        tables::UNUSED,
+        tables::UNUSED_WIDTH,
+        t6,
+        rows_of(c, tables::UNUSED),
+        rules,
+    ) {
         return false;
     }
-    if !table_sound(src, tables::RULES, t7, rules, rules) {
+    if !table_sound(src, tables::RULES, tables::RULE_WIDTH, t7, rules, rules) {
         return false;
     }
     if !table_sound(
         src,
         tables::PRODUCTIONS,
+        tables::PRODUCTION_WIDTH,
         t8,
         rows_of(c, tables::PRODUCTIONS),
         rules,
     ) {
         return false;
     }
-    if !table_sound(src, tables::SYMBOLS, t9, rows_of(c, tables::SYMBOLS), rules) {
+    if !table_sound(
+        src,
+        tables::SYMBOLS,
+        tables::SYMBOL_WIDTH,
+        t9,
+        rows_of(c, tables::SYMBOLS),
+        rules,
+    ) {
         return false;
     }
     table_sound(
         src,
         tables::REPEATS,
+        tables::REPEAT_WIDTH,
         t10,
         rows_of(c, tables::REPEATS),
         rules,
     )
+}
+
+// Tables 15 to 17 by themselves.
+pub fn posix_sound(src: &[u8], p: PosixCounts, t15: &[u32], t16: &[u32], t17: &[u32]) -> bool
+    ensures { λ q. ⌜ q ≡ posixTest (now (src .entry)) p (now (t15 .entry)) (now (t16 .entry)) (now (t17 .entry)) ⌝ }
+{
+    if !table_sound(src, tables::TAGS, tables::TAG_WIDTH, t15, p.n[0], 0) {
+        return false;
+    }
+    if !table_sound(
+        src,
+        tables::TOKEN_NUMBERS,
+        tables::TOKEN_NUMBER_WIDTH,
+        t16,
+        p.n[1],
+        0,
+    ) {
+        return false;
+    }
+    table_sound(src, tables::BODIES, tables::BODY_WIDTH, t17, p.n[2], 0)
 }
 
 // Whether each symbol has the row number that the search gives.
