@@ -2,6 +2,8 @@
 use grammar::Told;
 use loading::Judgement;
 use pruning::Pruning;
+use restoring::Restoring;
+use storing::Storing;
 use usage::Listing;
 use usage::Marking;
 use validation::FaultListing;
@@ -15,6 +17,8 @@ ghost use Rattle.validation.specs.Faults.{flawNumbers, validityNumbers};
 ghost use Rattle.validation.specs.Walk.{faultListingNumbers};
 ghost use Rattle.usage.specs.Report.{listingNumbers, markingNumbers};
 ghost use Rattle.pruning.specs.Pruned.{pruningNumbers};
+ghost use Rattle.storing.specs.Storing.{storingNumbers};
+ghost use Rattle.restoring.specs.Restoring.{restoringNumbers};
 ghost use Rattle.values.specs.Value.{valuationNumbers};
 ghost use Rattle.loading.specs.Load.{judgementNumbers};
 ghost use Rattle.numbers.specs.Numbers.{toldNumbers};
@@ -283,5 +287,54 @@ pub fn written(v: Valuation) -> usize
         Valuation::PastCount => 0,
         Valuation::NotString => 0,
         Valuation::NoTextRoom => 0,
+    }
+}
+
+fn at_start(number: u32, table: u32) -> Told
+    ensures { λ r. ⌜ toldNumbers r ≡ number ∷ 0 ∷ 0 ∷ table ∷ [] ⌝ }
+{
+    Told {
+        number,
+        from: 0,
+        to: 0,
+        table,
+    }
+}
+
+pub fn of_storing(s: Storing) -> Told
+    ensures { λ r. ⌜ toldNumbers r ≡ take 4 (storingNumbers s) ⌝ }
+{
+    match s {
+        Storing::StoredBlocks(_) => at_start(0, 0),
+        Storing::UnknownKind => at_start(43, 0),
+        Storing::StoringUnsound => at_start(44, 0),
+        Storing::NoBlocks => at_start(42, 18),
+    }
+}
+
+// How many blocks were written.
+pub fn stored_blocks(s: Storing) -> usize
+    ensures { λ r. ⌜ r ≡ getD (storingNumbers s) 4 0 ⌝ }
+{
+    match s {
+        Storing::StoredBlocks(n) => n as usize,
+        Storing::UnknownKind => 0,
+        Storing::StoringUnsound => 0,
+        Storing::NoBlocks => 0,
+    }
+}
+
+pub fn of_restoring(r: Restoring) -> Told
+    ensures { λ t. ⌜ toldNumbers t ≡ restoringNumbers r ⌝ }
+{
+    match r {
+        Restoring::AllRestored => at_start(0, 0),
+        Restoring::NotWhole => at_start(60, 0),
+        Restoring::BadNumber => at_start(61, 0),
+        Restoring::BadCheck => at_start(62, 0),
+        Restoring::BadContent => at_start(63, 0),
+        Restoring::BadSizes => at_start(45, 0),
+        Restoring::NoSpace(k) => at_start(42, k),
+        Restoring::RestoringUnsound => at_start(44, 0),
     }
 }

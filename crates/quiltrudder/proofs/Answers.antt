@@ -22,6 +22,7 @@ use Rattle.grammar.specs.declared.Expect.the-variants.{NotExpected, Expected}
 use Rattle.grammar.specs.declared.Param.{Param}
 use Rattle.grammar.specs.declared.Param.the-variants.{NoParam, ParamAt}
 use Rattle.grammar.specs.declared.Counts.{Counts}
+use Rattle.grammar.specs.declared.PosixCounts.{PosixCounts}
 use Rattle.grammar.specs.declared.Singles.{Singles}
 use Rattle.grammar.specs.declared.Told.{Told}
 use Rattle.grammar.specs.State.{Passed}
@@ -47,42 +48,12 @@ use Rattle.walks.specs.Walk.{nextNumbers, nextSpot, Advanced}
 use Rattle.names.specs.Name.{nowhere, rowPlace, namePlace}
 use Rattle.values.specs.declared.Valuation.{Valuation}
 use Rattle.values.specs.Value.{valuationNumbers, Valued, eppValue}
+use Rattle.storing.specs.declared.Storing.{Storing}
+use Rattle.storing.specs.Storing.{StoreResult, storingNumbers, stored}
+use Rattle.restoring.specs.Restoring.{Restored, restored}
 use Rattle.numbers.specs.Numbers.{toldNumbers}
-use Rattle.quiltrudder.specs.Face.{halves, answerSpot, spotCells, posixCells, loadingNumbers, LoadFace, loadFaceOf, loadFace, countsOf, partOf, expectOf, paramOf, singlesOf, validityCells, validateFace, FaultsFace, countedCells, faultListingCells, faultsFaceOf, faultsFace, ReportFace, MarkFace, standingOf, standingCells, NextFace, readingAfter, PruneFace, nameAt, nameCells, nameFace, ValueFace, valuationCells, valueFaceOf, valueFace}
-
--- a single by its flag
-module _ (f a b : ℕ) where
-  pub part-absent : f ≡ 0 → Absent ≡ partOf f a b
-  unfolding partOf
-  part-absent h = rw (partOf, eq-eqb f 0 h)
-
-  pub part-given : (f ≡ 0 → ⊥) → At a b ≡ partOf f a b
-  unfolding partOf
-  part-given h = rw (partOf, ne-eqb f 0 h)
-
-module _ (f low high a b : ℕ) where
-  pub expect-absent : f ≡ 0 → NotExpected ≡ expectOf f low high a b
-  unfolding expectOf
-  expect-absent h = rw (expectOf, eq-eqb f 0 h)
-
-  pub expect-given : (f ≡ 0 → ⊥) → Expected (high * 4294967296 + low) a b ≡ expectOf f low high a b
-  unfolding expectOf
-  expect-given h = rw (expectOf, ne-eqb f 0 h)
-
-module _ (f a b c d : ℕ) where
-  pub param-absent : f ≡ 0 → NoParam ≡ paramOf f a b c d
-  unfolding paramOf
-  param-absent h = rw (paramOf, eq-eqb f 0 h)
-
-  pub param-given : (f ≡ 0 → ⊥) → ParamAt a b c d ≡ paramOf f a b c d
-  unfolding paramOf
-  param-given h = rw (paramOf, ne-eqb f 0 h)
-
--- all singles
-module _ (m : List ℕ) (s n r : Part) (e f : Expect) (p : Param) where
-  pub singles-are : s ≡ singlesOf m .start → e ≡ singlesOf m .expect → f ≡ singlesOf m .«expect_rr» → p ≡ singlesOf m .param → n ≡ singlesOf m .generics → r ≡ singlesOf m .programs
-      → _≡_ {A = Singles} (record { start = s; expect = e; «expect_rr» = f; param = p; generics = n; programs = r }) (singlesOf m)
-  singles-are hs he hf hp hn hr = rw (hs, he, hf, hp, hn, hr)
+use Rattle.singles.specs.Singles.{singlesOf, posixCells}
+use Rattle.quiltrudder.specs.Face.{halves, answerSpot, spotCells, loadingNumbers, LoadFace, loadFaceOf, loadFace, countsOf, validityCells, validateFace, FaultsFace, countedCells, faultListingCells, faultsFaceOf, faultsFace, ReportFace, MarkFace, standingOf, standingCells, NextFace, readingAfter, PruneFace, nameAt, nameCells, nameFace, ValueFace, valuationCells, valueFaceOf, valueFace, StoreFace, storeFaceOf, posixOf, storeFace, restoringCells, RestoreFace, restoreFaceOf, restoreFace}
 
 -- ---- line and column of an answer: by its own place, whatever stands behind it
 
@@ -156,6 +127,20 @@ module _ (src m : List ℕ) (T : Tables) (X : Indexes) (c : Counts) (g : Singles
       let k : a ≡ valuationCells src v = counted src t (valuationNumbers v) n s a ht hn hs ha in
       let f : _≡_ {A = Valued} (record { answer = v; out = out }) (eppValue src (countsOf m) (singlesOf m) T X row out₀) = rw (hc, hg) at e in
       rw k (ap (valueFaceOf src) f)
+
+-- a reading into blocks
+pub face-store : (src m : List ℕ) (kind : ℕ) (T : AllTables) (X : Indexes) (c : Counts) (q : PosixCounts) (g : Singles) → c ≡ countsOf m → q ≡ posixOf m → g ≡ singlesOf m
+    → (out₀ out a : List ℕ) (k : Storing) (t : Told) (n : ℕ) (s : Spot) → _≡_ {A = StoreResult} (record { answer = k; blocks = out }) (stored src kind c q g T X out₀) → toldNumbers t ≡ take 4 (storingNumbers k) → n ≡ getD (storingNumbers k) 4 0 → s ≡ answerSpot src (toldNumbers t) → a ≡ toldNumbers t ++ halves n ++ spotCells s
+    → _≡_ {A = StoreFace} (record { answer = a; blocks = out }) (storeFace src kind m T X out₀)
+face-store src m kind T X c q g hc hq hg out₀ out a k t n s e ht hn hs ha =
+    let l : a ≡ countedCells src (storingNumbers k) = counted src t (storingNumbers k) n s a ht hn (spot-counted src t s hs (storingNumbers k) ht) ha in
+    let f : _≡_ {A = StoreResult} (record { answer = k; blocks = out }) (stored src kind (countsOf m) (posixOf m) (singlesOf m) T X out₀) = rw (hc, hq, hg) at e in
+    rw l (ap (storeFaceOf src) f)
+
+-- and back
+pub face-restore : (b S : List ℕ) (T : AllTables) (X : Indexes) (o : Restored) (m : List ℕ) → m ≡ restoringCells (o .answer) (o .head) → o ≡ restored b S T X
+    → _≡_ {A = RestoreFace} (record { answer = m; source = o .source; tables = o .tables; indexes = o .indexes }) (restoreFace b S T X)
+face-restore b S T X o m h e = rw h (ap restoreFaceOf e)
 
 -- ---- the place of a name
 

@@ -4,7 +4,6 @@ use mathlib.Core.Path.{_≡_, refl, sym, ap, _∙_}
 use mathlib.Core.List.{List, [], _∷_, _++_}
 use mathlib.Core.Bool.{Bool, true, false}
 use native.Mathlib.Omega.{arith}
-use native.Mathlib.Nat.{div-add-mod'}
 use lib.ListN.{length, getD}
 use lib.Seq.{ext-getD}
 use Rattle.grammar.specs.declared.Part.{Part}
@@ -32,26 +31,11 @@ use Rattle.pruning.proofs.Outcome.{pruning-one}
 use Rattle.walks.specs.declared.Next.{Next}
 use Rattle.walks.specs.declared.Standing.{Standing}
 use Rattle.walks.proofs.Once.{next-one}
+use Rattle.singles.specs.Singles.{singlesCells, singlesOf, countsCells}
+use Rattle.singles.proofs.Laws.{cells-back}
 use Rattle.names.specs.Name.{nowhere, namePlace, partAt, nameOf}
 use Rattle.names.proofs.Laws.{part-none}
-use Rattle.quiltrudder.specs.Face.{expectCells, singlesCells, countsCells, loadingCells, loadingNumbers, countsOf, partOf, expectOf, paramOf, singlesOf, listingCells, ReportFace, markingCells, MarkFace, standingOf, standingCells, nextCells, NextFace, pruningCells, readingAfter, PruneFace, nameAt}
-use Rattle.quiltrudder.proofs.Cells.{three, five, part-three, expect-five, param-five}
-
--- each single by itself
-part-back : (p : Part) → let l = partNumbers p in partOf (getD l 0 0) (getD l 1 0) (getD l 2 0) ≡ p
-unfolding partOf
-part-back Absent = refl
-part-back (At a b) = refl
-
-expect-back : (e : Expect) → let l = expectCells e in expectOf (getD l 0 0) (getD l 1 0) (getD l 2 0) (getD l 3 0) (getD l 4 0) ≡ e
-unfolding expectOf
-expect-back NotExpected = refl
-expect-back (Expected v a b) = ap (λ (x : ℕ). Expected x a b) (div-add-mod' v 4294967296)
-
-param-back : (p : Param) → let l = paramNumbers p in paramOf (getD l 0 0) (getD l 1 0) (getD l 2 0) (getD l 3 0) (getD l 4 0) ≡ p
-unfolding paramOf
-param-back NoParam = refl
-param-back (ParamAt a b c d) = refl
+use Rattle.quiltrudder.specs.Face.{loadingCells, loadingNumbers, countsOf, listingCells, ReportFace, markingCells, MarkFace, standingOf, standingCells, nextCells, NextFace, pruningCells, readingAfter, PruneFace, nameAt}
 
 -- number, place and table are four numbers
 abbrev four : List ℕ → List ℕ
@@ -72,19 +56,9 @@ judgement-four (NotRead f) = refl
 judgement-four (NotValid f) = flaw-four f
 
 -- where each number is looked for
-module _ (h a e r p n q z : List ℕ) (c : Counts) (hh : h ≡ four h) where
+module _ (h z : List ℕ) (c : Counts) (hh : h ≡ four h) where
   looked-counts : (s : List ℕ) → countsOf ((h ++ countsCells c ++ s) ++ z) .n ≡ countsCells c
   looked-counts s = rw hh
-
-  looked-singles : a ≡ three a → e ≡ five e → r ≡ five r → p ≡ five p → n ≡ three n → q ≡ three q → (g : Singles)
-      → partOf (getD a 0 0) (getD a 1 0) (getD a 2 0) ≡ g .start
-      → expectOf (getD e 0 0) (getD e 1 0) (getD e 2 0) (getD e 3 0) (getD e 4 0) ≡ g .expect
-      → expectOf (getD r 0 0) (getD r 1 0) (getD r 2 0) (getD r 3 0) (getD r 4 0) ≡ g .«expect_rr»
-      → paramOf (getD p 0 0) (getD p 1 0) (getD p 2 0) (getD p 3 0) (getD p 4 0) ≡ g .param
-      → partOf (getD n 0 0) (getD n 1 0) (getD n 2 0) ≡ g .generics
-      → partOf (getD q 0 0) (getD q 1 0) (getD q 2 0) ≡ g .programs
-      → singlesOf ((h ++ countsCells c ++ (a ++ e ++ r ++ p ++ n ++ q)) ++ z) ≡ g
-  looked-singles ha he hr hp hn hq g ks ke kr kp kn kq = rw (hh, ha, he, hr, hp, hn, hq) (rw (ks, ke, kr, kp, kn, kq))
 
 pub cells-at : (c : Counts) (k : ℕ) → k < 10 → getD (countsCells c) k 0 ≡ getD (c .n) k 0
 cells-at c zero h = refl
@@ -102,14 +76,12 @@ cells-at c (suc (suc (suc (suc (suc (suc (suc (suc (suc (suc k)))))))))) h = abs
 -- What a load wrote is what the others take, whatever stands behind it: the singles,
 pub singles-back : (o : LoadResult) (z : List ℕ) → singlesOf (loadingNumbers o ++ z) ≡ o .singles
 unfolding loadingCells
-singles-back o z =
-    let g = o .singles in
-    looked-singles (judgementNumbers (o .answer)) (partNumbers (g .start)) (expectCells (g .expect)) (expectCells (g .«expect_rr»)) (paramNumbers (g .param)) (partNumbers (g .generics)) (partNumbers (g .programs)) z (o .counts) (judgement-four (o .answer)) (part-three (g .start)) (expect-five (g .expect)) (expect-five (g .«expect_rr»)) (param-five (g .param)) (part-three (g .generics)) (part-three (g .programs)) g (part-back (g .start)) (expect-back (g .expect)) (expect-back (g .«expect_rr»)) (param-back (g .param)) (part-back (g .generics)) (part-back (g .programs))
+singles-back o z = rw (judgement-four (o .answer)) (cells-back (four (judgementNumbers (o .answer)) ++ countsCells (o .counts)) z (o .singles) refl)
 
 -- each of the ten counts,
 pub counts-back : (o : LoadResult) (z : List ℕ) (k : ℕ) → k < 10 → getD (countsOf (loadingNumbers o ++ z) .n) k 0 ≡ getD (o .counts .n) k 0
 unfolding loadingCells
-counts-back o z k h = ap (λ (l : List ℕ). getD l k 0) (looked-counts _ [] [] [] [] [] [] z (o .counts) (judgement-four (o .answer)) (singlesCells (o .singles))) ∙ cells-at (o .counts) k h
+counts-back o z k h = ap (λ (l : List ℕ). getD l k 0) (looked-counts _ z (o .counts) (judgement-four (o .answer)) (singlesCells (o .singles))) ∙ cells-at (o .counts) k h
 
 -- and all together, being ten.
 pub all-counts-back : (o : LoadResult) (z : List ℕ) → length (o .counts .n) ≡ 10 → countsOf (loadingNumbers o ++ z) ≡ o .counts

@@ -52,9 +52,10 @@ use Rattle.values.specs.declared.Valuation.{Valuation}
 use Rattle.values.specs.declared.Valuation.the-variants.{Written, OfUnsoundTables, PastCount, NotString, NoTextRoom}
 use Rattle.values.specs.Value.{valuationNumbers, eppValue}
 use Rattle.names.specs.Name.{nowhere, namePlace}
-use Rattle.quiltrudder.specs.Face.{halves, answerSpot, spotCells, posixCells, AnswerSpotted, CellsSpotted, singlesCells, countsCells, loadingCells, loadingNumbers, loadFace, countsOf, singlesOf, validateFace, countedCells, faultsFace, ReportFace, MarkFace, NextFace, PruneFace, nameAt, nameFace, valueFace}
+use Rattle.singles.specs.Singles.{singlesCells, singlesOf, posixCells, countsCells}
+use Rattle.quiltrudder.specs.Face.{halves, answerSpot, spotCells, AnswerSpotted, CellsSpotted, loadingCells, loadingNumbers, loadFace, countsOf, validateFace, countedCells, faultsFace, ReportFace, MarkFace, NextFace, PruneFace, nameAt, nameFace, valueFace}
 use Rattle.quiltrudder.proofs.Answers.{flaw-from, validity-from, place-lies}
-use Rattle.quiltrudder.proofs.Cells.{singles-length}
+use Rattle.singles.proofs.Laws.{singles-length}
 use Rattle.quiltrudder.proofs.Face.{judgement-four}
 
 -- ---- by numbers and places

@@ -10,16 +10,14 @@ use Rattle.scan.specs.declared.Place.{Place}
 use Rattle.tables.specs.Table.{put}
 use Rattle.places.specs.declared.Spot.{Spot}
 use Rattle.places.specs.Places.{Spotted, spotAt}
-use Rattle.grammar.specs.declared.Part.{Part}
-use Rattle.grammar.specs.declared.Part.the-variants.{Absent, At}
-use Rattle.grammar.specs.declared.Expect.{Expect}
-use Rattle.grammar.specs.declared.Expect.the-variants.{NotExpected, Expected}
-use Rattle.grammar.specs.declared.Param.{Param}
-use Rattle.grammar.specs.declared.Param.the-variants.{NoParam, ParamAt}
 use Rattle.grammar.specs.declared.Counts.{Counts}
 use Rattle.grammar.specs.declared.PosixCounts.{PosixCounts}
 use Rattle.grammar.specs.declared.Singles.{Singles}
-use Rattle.grammar.specs.Numbers.{partNumbers, paramNumbers}
+use Rattle.catalogue.specs.declared.Head.{Head}
+use Rattle.storing.specs.Storing.{StoreResult, storingNumbers, stored}
+use Rattle.restoring.specs.declared.Restoring.{Restoring}
+use Rattle.restoring.specs.Restoring.{Restored, restoringNumbers, restored}
+use Rattle.singles.specs.Singles.{singlesCells, countsCells, posixCells, singlesOf}
 use Rattle.grammar.specs.Sound.{Tables, AllTables, Indexes}
 use Rattle.loading.specs.declared.Judgement.{Judgement}
 use Rattle.loading.specs.Load.{judgementNumbers, LoadResult, loadAll}
@@ -66,25 +64,6 @@ CellsSpotted src a k n = Spotted src (getD a k 0) (record { line = getD a n 0; c
 
 -- ---- what a load answers
 
--- each single is led by 0 or 1; `%expect` and `%expect-rr` are five numbers: the value in halves, and the place
-abbrev pub expectCells : Expect → List ℕ
-expectCells NotExpected = 0 ∷ 0 ∷ 0 ∷ 0 ∷ 0 ∷ []
-expectCells (Expected v a b) = 1 ∷ v % 4294967296 ∷ v / 4294967296 ∷ a ∷ b ∷ []
-
--- start three numbers, `%expect` and `%expect-rr` five each, parse parameter five, generics three, programs three
-abbrev pub singlesCells : Singles → List ℕ
-singlesCells g =
-    partNumbers (g .start) ++ expectCells (g .expect) ++ expectCells (g .«expect_rr») ++ paramNumbers (g .param) ++ partNumbers (g .generics) ++ partNumbers (g .programs)
-
--- "the ten counts of tables 1 to 10"
-abbrev pub countsCells : Counts → List ℕ
-countsCells c =
-    getD (c .n) 0 0 ∷ getD (c .n) 1 0 ∷ getD (c .n) 2 0 ∷ getD (c .n) 3 0 ∷ getD (c .n) 4 0 ∷ getD (c .n) 5 0 ∷ getD (c .n) 6 0 ∷ getD (c .n) 7 0 ∷ getD (c .n) 8 0 ∷ getD (c .n) 9 0 ∷ []
-
--- and "counts beside the ten" (document 02, request Nine), of tables 15 to 17
-abbrev pub posixCells : PosixCounts → List ℕ
-posixCells p = getD (p .n) 0 0 ∷ getD (p .n) 1 0 ∷ getD (p .n) 2 0 ∷ []
-
 -- in the order number, from, to, table, the ten counts, then each single
 unfoldable pub loadingCells : Judgement → Counts → Singles → List ℕ
 loadingCells j c g = judgementNumbers j ++ countsCells c ++ singlesCells g
@@ -115,27 +94,6 @@ FullNumber n = (n ≡ 0) ⊎ (((20 ≤ n) × (n ≤ 27)) ⊎ ((30 ≤ n) × (n �
 abbrev pub countsOf : List ℕ → Counts
 countsOf m =
     record { n = getD m 4 0 ∷ getD m 5 0 ∷ getD m 6 0 ∷ getD m 7 0 ∷ getD m 8 0 ∷ getD m 9 0 ∷ getD m 10 0 ∷ getD m 11 0 ∷ getD m 12 0 ∷ getD m 13 0 ∷ [] }
-
--- a single is absent where its flag is 0, and given where it is any other number
-unfoldable pub partOf : ℕ → ℕ → ℕ → Part
-partOf f a b = elim (eqb f 0) [ true ↦ Absent | false ↦ At a b ]
-
-unfoldable pub expectOf : ℕ → ℕ → ℕ → ℕ → ℕ → Expect
-expectOf f low high a b = elim (eqb f 0) [ true ↦ NotExpected | false ↦ Expected (high * 4294967296 + low) a b ]
-
-unfoldable pub paramOf : ℕ → ℕ → ℕ → ℕ → ℕ → Param
-paramOf f a b c d = elim (eqb f 0) [ true ↦ NoParam | false ↦ ParamAt a b c d ]
-
-abbrev pub singlesOf : List ℕ → Singles
-singlesOf m =
-    record {
-      start = partOf (getD m 14 0) (getD m 15 0) (getD m 16 0);
-      expect = expectOf (getD m 17 0) (getD m 18 0) (getD m 19 0) (getD m 20 0) (getD m 21 0);
-      «expect_rr» = expectOf (getD m 22 0) (getD m 23 0) (getD m 24 0) (getD m 25 0) (getD m 26 0);
-      param = paramOf (getD m 27 0) (getD m 28 0) (getD m 29 0) (getD m 30 0) (getD m 31 0);
-      generics = partOf (getD m 32 0) (getD m 33 0) (getD m 34 0);
-      programs = partOf (getD m 35 0) (getD m 36 0) (getD m 37 0);
-    }
 
 -- ---- what the others answer
 
@@ -260,3 +218,36 @@ valueFaceOf src o = record { answer = valuationCells src (o .answer); out = o .o
 
 abbrev pub valueFace : List ℕ → List ℕ → Tables → Indexes → ℕ → List ℕ → ValueFace
 valueFace src m T X row out = valueFaceOf src (eppValue src (countsOf m) (singlesOf m) T X row out)
+
+-- ---- the catalogue
+
+-- writing: number, place, table, how many blocks in halves, line and column; and the blocks
+pub record StoreFace : Type 0 where
+  pub answer : List ℕ
+  pub blocks : List ℕ
+
+abbrev pub storeFaceOf : List ℕ → StoreResult → StoreFace
+storeFaceOf src o = record { answer = countedCells src (storingNumbers (o .answer)); blocks = o .blocks }
+
+-- the three counts among a reading's numbers
+abbrev pub posixOf : List ℕ → PosixCounts
+posixOf m = record { n = getD m 38 0 ∷ getD m 39 0 ∷ getD m 40 0 ∷ [] }
+
+abbrev pub storeFace : List ℕ → ℕ → List ℕ → AllTables → Indexes → List ℕ → StoreFace
+storeFace src kind m T X out = storeFaceOf src (stored src kind (countsOf m) (posixOf m) (singlesOf m) T X out)
+
+-- loading back: a reading's numbers as load gives them, and behind them the kind and the source's length. Every place is 0 to 0, at line 1 and column 1.
+abbrev pub restoringCells : Restoring → Head → List ℕ
+restoringCells a h = (restoringNumbers a ++ countsCells (h .counts) ++ singlesCells (h .singles)) ++ (posixCells (h .posix) ++ (1 ∷ 1 ∷ h .kind ∷ h .length ∷ []))
+
+pub record RestoreFace : Type 0 where
+  pub answer : List ℕ
+  pub source : List ℕ
+  pub tables : AllTables
+  pub indexes : Indexes
+
+abbrev pub restoreFaceOf : Restored → RestoreFace
+restoreFaceOf o = record { answer = restoringCells (o .answer) (o .head); source = o .source; tables = o .tables; indexes = o .indexes }
+
+abbrev pub restoreFace : List ℕ → List ℕ → AllTables → Indexes → RestoreFace
+restoreFace s S T X = restoreFaceOf (restored s S T X)

@@ -1,15 +1,13 @@
 // Quiltrudder's operations: loading a Yacc specification (it is read, and what was read is validated), validating tables from elsewhere, the list of all faults, the unused report, its marking by itself,
 // the unused rows one by one, pruning, the name of a row and the value of an `%epp` row, each with line and column of its answer's place, and line and column of any place. None of them requires anything.
 use grammar::Counts;
-use grammar::Expect;
-use grammar::Param;
-use grammar::Part;
 use grammar::PosixCounts;
 use grammar::Singles;
 use grammar::Told;
 use loading::Judgement;
 use places::Spot;
 use pruning::Pruning;
+use restoring::StoredReading;
 use usage::Listing;
 use usage::Marking;
 use validation::FaultListing;
@@ -20,10 +18,11 @@ use walks::NextAt;
 use walks::Standing;
 // The next unused row, with the record of where the walk stands moved on in place.
 pub use walks::next_unused;
+// A reading into the catalogue's blocks, and back.
+pub use restoring::load_stored;
+pub use storing::store;
 ghost use mathlib.Core.Path.{_≡_};
 ghost use mathlib.Core.List.{List, _++_};
-ghost use Rattle.tables.specs.Table.{put};
-ghost use Rattle.grammar.specs.Numbers.{paramNumbers};
 ghost use Rattle.grammar.specs.Sound.{Tables};
 ghost use Rattle.places.specs.Places.{spotAt};
 ghost use Rattle.loading.specs.Load.{judgementNumbers, LoadResult, loadAll};
@@ -35,7 +34,8 @@ ghost use Rattle.walks.specs.Walk.{nextNumbers};
 ghost use Rattle.names.specs.Name.{nameOf};
 ghost use Rattle.values.specs.Value.{valuationNumbers, Valued, eppValue};
 ghost use Rattle.numbers.specs.Numbers.{toldNumbers};
-ghost use Rattle.quiltrudder.specs.Face.{halves, answerSpot, spotCells, expectCells, singlesCells, posixCells, loadingCells, LoadFace, loadFace, countsOf, partOf, expectOf, paramOf, singlesOf, validateFace, FaultsFace, faultsFace, ReportFace, MarkFace, NextFace, readingAfter, PruneFace, nameAt, nameCells, nameFace, ValueFace, valueFace};
+ghost use Rattle.singles.specs.Singles.{posixCells};
+ghost use Rattle.quiltrudder.specs.Face.{halves, answerSpot, spotCells, loadingCells, LoadFace, loadFace, countsOf, validateFace, FaultsFace, faultsFace, ReportFace, MarkFace, NextFace, readingAfter, PruneFace, nameAt, nameCells, nameFace, ValueFace, valueFace, StoreFace, storeFace, posixOf, restoringCells, RestoreFace, restoreFace};
 
 // A load's answer, its counts and singles, and line and column of the answer's place.
 pub struct LoadingAt {
@@ -457,58 +457,6 @@ pub fn epp_value(
     }
 }
 
-// Stores `cells` into `out` from cell `at` on, as far as there is room.
-fn put_cells(out: &mut [u32], at: usize, cells: &[u32])
-    ensures { λ r. ⌜ now (out .exit) ≡ put (now (out .entry)) at (now (cells .entry)) ⌝ }
-{
-    let mut i = 0;
-    let mut k = at;
-    while i < cells.len() && k < out.len() {
-        out[k] = cells[i];
-        i += 1;
-        k += 1;
-    }
-}
-
-// `%expect` or `%expect-rr`: a flag, the value's low and high half, and the place.
-fn expect_cells(e: Expect) -> [u32; 5]
-    ensures { λ r. ⌜ r ≡ expectCells e ⌝ }
-{
-    match e {
-        Expect::NotExpected => [0, 0, 0, 0, 0],
-        Expect::Expected(v, a, b) => [1, (v % 4294967296) as u32, (v / 4294967296) as u32, a, b],
-    }
-}
-
-// The parse parameter: a flag, and the places of its name and its type.
-fn param_cells(p: Param) -> [u32; 5]
-    ensures { λ r. ⌜ r ≡ paramNumbers p ⌝ }
-{
-    match p {
-        Param::NoParam => [0, 0, 0, 0, 0],
-        Param::ParamAt(a, b, c, d) => [1, a, b, c, d],
-    }
-}
-
-fn single_cells(g: Singles) -> [u32; 24]
-    ensures { λ r. ⌜ r ≡ singlesCells g ⌝ }
-{
-    let start = g.start;
-    let expect = g.expect;
-    let expect_rr = g.expect_rr;
-    let param = g.param;
-    let generics = g.generics;
-    let programs = g.programs;
-    let mut m = [0u32; 24];
-    put_cells(&mut m, 0, &grammar::part_cells(start));
-    put_cells(&mut m, 3, &expect_cells(expect));
-    put_cells(&mut m, 8, &expect_cells(expect_rr));
-    put_cells(&mut m, 13, &param_cells(param));
-    put_cells(&mut m, 18, &grammar::part_cells(generics));
-    put_cells(&mut m, 21, &grammar::part_cells(programs));
-    m
-}
-
 // What a load answers: number, place and table, the ten counts, the singles, the counts of kind 4's tables, line and column.
 fn loading_cells(j: Judgement, c: Counts, p: PosixCounts, g: Singles, s: Spot) -> [u32; 43]
     ensures { λ r. ⌜ r ≡ loadingCells j c g ++ (posixCells p ++ spotCells s) ⌝ }
@@ -527,44 +475,16 @@ fn loading_cells(j: Judgement, c: Counts, p: PosixCounts, g: Singles, s: Spot) -
         c.n[8],
         c.n[9],
     ];
-    let singles = single_cells(g);
+    let singles = singles::single_cells(g);
     let spot = [s.line, s.column];
     let posix = [p.n[0], p.n[1], p.n[2]];
     let mut m = [0u32; 43];
-    put_cells(&mut m, 0, &told);
-    put_cells(&mut m, 4, &counts);
-    put_cells(&mut m, 14, &singles);
-    put_cells(&mut m, 38, &posix);
-    put_cells(&mut m, 41, &spot);
+    singles::put_cells(&mut m, 0, &told);
+    singles::put_cells(&mut m, 4, &counts);
+    singles::put_cells(&mut m, 14, &singles);
+    singles::put_cells(&mut m, 38, &posix);
+    singles::put_cells(&mut m, 41, &spot);
     m
-}
-
-// A single that stands in the numbers of a reading: absent where its flag is 0.
-fn part_of(f: u32, a: u32, b: u32) -> Part
-    ensures { λ r. ⌜ r ≡ partOf f a b ⌝ }
-{
-    if f == 0 {
-        return Part::Absent;
-    }
-    Part::At(a, b)
-}
-
-fn expect_of(f: u32, low: u32, high: u32, a: u32, b: u32) -> Expect
-    ensures { λ r. ⌜ r ≡ expectOf f low high a b ⌝ }
-{
-    if f == 0 {
-        return Expect::NotExpected;
-    }
-    Expect::Expected((high as u64) * 4294967296 + (low as u64), a, b)
-}
-
-fn param_of(f: u32, a: u32, b: u32, c: u32, d: u32) -> Param
-    ensures { λ r. ⌜ r ≡ paramOf f a b c d ⌝ }
-{
-    if f == 0 {
-        return Param::NoParam;
-    }
-    Param::ParamAt(a, b, c, d)
 }
 
 // The ten counts of a reading's numbers.
@@ -584,19 +504,6 @@ fn counts_of(m: &[u32; 43]) -> Counts
             m[12],
             m[13],
         ],
-    }
-}
-
-fn singles_of(m: &[u32; 43]) -> Singles
-    ensures { λ r. ⌜ r ≡ singlesOf (now (m .entry)) ⌝ }
-{
-    Singles {
-        start: part_of(m[14], m[15], m[16]),
-        expect: expect_of(m[17], m[18], m[19], m[20], m[21]),
-        expect_rr: expect_of(m[22], m[23], m[24], m[25], m[26]),
-        param: param_of(m[27], m[28], m[29], m[30], m[31]),
-        generics: part_of(m[32], m[33], m[34]),
-        programs: part_of(m[35], m[36], m[37]),
     }
 }
 
@@ -733,7 +640,7 @@ pub extern "C" fn quiltrudder_validate(
     ensures { λ r. ⌜ now (answer .exit) ≡ validateFace (now (src .entry)) (now (reading .entry)) (record { t1 = now (t1 .entry); t2 = now (t2 .entry); t3 = now (t3 .entry); t4 = now (t4 .entry); t5 = now (t5 .entry); t6 = now (t6 .entry); t7 = now (t7 .entry); t8 = now (t8 .entry); t9 = now (t9 .entry); t10 = now (t10 .entry) }) (record { tokens = now (i1 .entry); rules = now (i7 .entry) }) ⌝ }
 {
     let c = counts_of(reading);
-    let g = singles_of(reading);
+    let g = singles::singles_of(reading);
     let v = validate(src, c, g, t1, t2, t3, t4, t5, t6, t7, t8, t9, t10, i1, i7);
     let a = v.answer;
     let s = v.spot;
@@ -764,7 +671,7 @@ pub extern "C" fn quiltrudder_faults(
     ensures { λ r. ⌜ _≡_ {A = FaultsFace} (record { answer = now (answer .exit); cells = now (t14 .exit) }) (faultsFace (now (src .entry)) (now (reading .entry)) (record { t1 = now (t1 .entry); t2 = now (t2 .entry); t3 = now (t3 .entry); t4 = now (t4 .entry); t5 = now (t5 .entry); t6 = now (t6 .entry); t7 = now (t7 .entry); t8 = now (t8 .entry); t9 = now (t9 .entry); t10 = now (t10 .entry) }) (record { tokens = now (i1 .entry); rules = now (i7 .entry) }) (now (t14 .entry))) ⌝ }
 {
     let c = counts_of(reading);
-    let g = singles_of(reading);
+    let g = singles::singles_of(reading);
     let l = faults(
         src,
         c,
@@ -812,7 +719,7 @@ pub extern "C" fn quiltrudder_report(
     ensures { λ r. ⌜ ReportFace (now (src .entry)) (now (reading .entry)) (record { t1 = now (t1 .entry); t2 = now (t2 .entry); t3 = now (t3 .entry); t4 = now (t4 .entry); t5 = now (t5 .entry); t6 = now (t6 .entry); t7 = now (t7 .entry); t8 = now (t8 .entry); t9 = now (t9 .entry); t10 = now (t10 .entry) }) (record { tokens = now (i1 .entry); rules = now (i7 .entry) }) (now (work .entry)) (now (work .exit)) (now (out .entry)) (now (out .exit)) (now (answer .exit)) ⌝ }
 {
     let c = counts_of(reading);
-    let g = singles_of(reading);
+    let g = singles::singles_of(reading);
     let l = report(
         src,
         c,
@@ -860,7 +767,7 @@ pub extern "C" fn quiltrudder_mark(
     ensures { λ r. ⌜ MarkFace (now (src .entry)) (now (reading .entry)) (record { t1 = now (t1 .entry); t2 = now (t2 .entry); t3 = now (t3 .entry); t4 = now (t4 .entry); t5 = now (t5 .entry); t6 = now (t6 .entry); t7 = now (t7 .entry); t8 = now (t8 .entry); t9 = now (t9 .entry); t10 = now (t10 .entry) }) (record { tokens = now (i1 .entry); rules = now (i7 .entry) }) (now (work .entry)) (now (work .exit)) (now (answer .exit)) ⌝ }
 {
     let c = counts_of(reading);
-    let g = singles_of(reading);
+    let g = singles::singles_of(reading);
     let l = mark(
         src,
         c,
@@ -909,7 +816,7 @@ pub extern "C" fn quiltrudder_next_unused(
     ensures { λ r. ⌜ NextFace (now (src .entry)) (now (reading .entry)) (record { t1 = now (t1 .entry); t2 = now (t2 .entry); t3 = now (t3 .entry); t4 = now (t4 .entry); t5 = now (t5 .entry); t6 = now (t6 .entry); t7 = now (t7 .entry); t8 = now (t8 .entry); t9 = now (t9 .entry); t10 = now (t10 .entry) }) (record { tokens = now (i1 .entry); rules = now (i7 .entry) }) (now (work .entry)) (now (at .entry)) (now (at .exit)) (now (answer .exit)) ⌝ }
 {
     let c = counts_of(reading);
-    let g = singles_of(reading);
+    let g = singles::singles_of(reading);
     let before = Standing {
         rules: at[0],
         tokens: at[1],
@@ -987,7 +894,7 @@ pub extern "C" fn quiltrudder_prune(
     ensures { λ r. ⌜ PruneFace (now (src .entry)) (now (reading .entry)) (now (reading .exit)) (record { t1 = now (t1 .entry); t2 = now (t2 .entry); t3 = now (t3 .entry); t4 = now (t4 .entry); t5 = now (t5 .entry); t6 = now (t6 .entry); t7 = now (t7 .entry); t8 = now (t8 .entry); t9 = now (t9 .entry); t10 = now (t10 .entry) }) (record { t1 = now (t1 .exit); t2 = now (t2 .entry); t3 = now (t3 .exit); t4 = now (t4 .entry); t5 = now (t5 .exit); t6 = now (t6 .entry); t7 = now (t7 .exit); t8 = now (t8 .exit); t9 = now (t9 .exit); t10 = now (t10 .entry) }) (record { tokens = now (i1 .entry); rules = now (i7 .entry) }) (record { tokens = now (i1 .exit); rules = now (i7 .exit) }) (now (work .entry)) (now (work .exit)) (now (answer .exit)) ⌝ }
 {
     let c = counts_of(reading);
-    let g = singles_of(reading);
+    let g = singles::singles_of(reading);
     let l = prune(
         src,
         c,
@@ -1038,7 +945,7 @@ pub extern "C" fn quiltrudder_name(
     ensures { λ r. ⌜ now (answer .exit) ≡ nameFace (now (src .entry)) (now (reading .entry)) (record { t1 = now (t1 .entry); t2 = now (t2 .entry); t3 = now (t3 .entry); t4 = now (t4 .entry); t5 = now (t5 .entry); t6 = now (t6 .entry); t7 = now (t7 .entry); t8 = now (t8 .entry); t9 = now (t9 .entry); t10 = now (t10 .entry) }) (record { tokens = now (i1 .entry); rules = now (i7 .entry) }) table row ⌝ }
 {
     let c = counts_of(reading);
-    let g = singles_of(reading);
+    let g = singles::singles_of(reading);
     *answer = name_cells(
         src,
         c,
@@ -1084,7 +991,7 @@ pub extern "C" fn quiltrudder_epp_value(
     ensures { λ r. ⌜ _≡_ {A = ValueFace} (record { answer = now (answer .exit); out = now (out .exit) }) (valueFace (now (src .entry)) (now (reading .entry)) (record { t1 = now (t1 .entry); t2 = now (t2 .entry); t3 = now (t3 .entry); t4 = now (t4 .entry); t5 = now (t5 .entry); t6 = now (t6 .entry); t7 = now (t7 .entry); t8 = now (t8 .entry); t9 = now (t9 .entry); t10 = now (t10 .entry) }) (record { tokens = now (i1 .entry); rules = now (i7 .entry) }) row (now (out .entry))) ⌝ }
 {
     let c = counts_of(reading);
-    let g = singles_of(reading);
+    let g = singles::singles_of(reading);
     let v = epp_value(
         src,
         c,
@@ -1116,4 +1023,150 @@ pub extern "C" fn quiltrudder_locate(src: &[u8], at: u32, answer: &mut [u32; 2])
 {
     let s = locate(src, at);
     *answer = [s.line, s.column];
+}
+
+// The counts of kind 4's tables among a reading's numbers.
+fn posix_of(m: &[u32; 43]) -> PosixCounts
+    ensures { λ r. ⌜ r ≡ posixOf (now (m .entry)) ⌝ }
+{
+    PosixCounts {
+        n: [m[38], m[39], m[40]],
+    }
+}
+
+// Writes a reading into blocks; its answer is number, place, table, how many blocks there are (low and high half), line and column.
+#[no_mangle]
+pub extern "C" fn quiltrudder_store(
+    src: &[u8],
+    kind: u32,
+    reading: &[u32; 43],
+    t1: &[u32],
+    t2: &[u32],
+    t3: &[u32],
+    t4: &[u32],
+    t5: &[u32],
+    t6: &[u32],
+    t7: &[u32],
+    t8: &[u32],
+    t9: &[u32],
+    t10: &[u32],
+    i1: &[u32],
+    i7: &[u32],
+    t15: &[u32],
+    t16: &[u32],
+    t17: &[u32],
+    blocks: &mut [u8],
+    answer: &mut [u32; 8],
+)
+    ensures { λ r. ⌜ _≡_ {A = StoreFace} (record { answer = now (answer .exit); blocks = now (blocks .exit) }) (storeFace (now (src .entry)) kind (now (reading .entry)) (record { t1 = now (t1 .entry); t2 = now (t2 .entry); t3 = now (t3 .entry); t4 = now (t4 .entry); t5 = now (t5 .entry); t6 = now (t6 .entry); t7 = now (t7 .entry); t8 = now (t8 .entry); t9 = now (t9 .entry); t10 = now (t10 .entry); t15 = now (t15 .entry); t16 = now (t16 .entry); t17 = now (t17 .entry) }) (record { tokens = now (i1 .entry); rules = now (i7 .entry) }) (now (blocks .entry))) ⌝ }
+{
+    let c = counts_of(reading);
+    let p = posix_of(reading);
+    let g = singles::singles_of(reading);
+    let r = storing::store(
+        src,
+        kind,
+        c,
+        p,
+        g,
+        t1,
+        t2,
+        t3,
+        t4,
+        t5,
+        t6,
+        t7,
+        t8,
+        t9,
+        t10,
+        i1,
+        i7,
+        t15,
+        t16,
+        t17,
+        blocks,
+    );
+    let t = numbers::of_storing(r);
+    let n = numbers::stored_blocks(r);
+    *answer = counted_cells(t, n, spot_of(src, t));
+}
+
+// What loading back answers: a reading's numbers, and behind them the kind and the source's length.
+fn restoring_cells(r: StoredReading) -> [u32; 45]
+    ensures { λ q. ⌜ q ≡ restoringCells (r .answer) (record { kind = r .kind; counts = r .counts; posix = r .posix; length = r .length; singles = r .singles }) ⌝ }
+{
+    let a = r.answer;
+    let c = r.counts;
+    let p = r.posix;
+    let g = r.singles;
+    let t = numbers::of_restoring(a);
+    let told = [
+        t.number,
+        t.from,
+        t.to,
+        t.table,
+        c.n[0],
+        c.n[1],
+        c.n[2],
+        c.n[3],
+        c.n[4],
+        c.n[5],
+        c.n[6],
+        c.n[7],
+        c.n[8],
+        c.n[9],
+    ];
+    let singles = singles::single_cells(g);
+    let rest = [p.n[0], p.n[1], p.n[2], 1, 1, r.kind, r.length];
+    let mut m = [0u32; 45];
+    singles::put_cells(&mut m, 0, &told);
+    singles::put_cells(&mut m, 14, &singles);
+    singles::put_cells(&mut m, 38, &rest);
+    m
+}
+
+// Reads a reading back from blocks.
+#[no_mangle]
+pub extern "C" fn quiltrudder_load_stored(
+    blocks: &[u8],
+    src: &mut [u8],
+    t1: &mut [u32],
+    t2: &mut [u32],
+    t3: &mut [u32],
+    t4: &mut [u32],
+    t5: &mut [u32],
+    t6: &mut [u32],
+    t7: &mut [u32],
+    t8: &mut [u32],
+    t9: &mut [u32],
+    t10: &mut [u32],
+    i1: &mut [u32],
+    i7: &mut [u32],
+    t15: &mut [u32],
+    t16: &mut [u32],
+    t17: &mut [u32],
+    answer: &mut [u32; 45],
+)
+    ensures { λ r. ⌜ _≡_ {A = RestoreFace} (record { answer = now (answer .exit); source = now (src .exit); tables = record { t1 = now (t1 .exit); t2 = now (t2 .exit); t3 = now (t3 .exit); t4 = now (t4 .exit); t5 = now (t5 .exit); t6 = now (t6 .exit); t7 = now (t7 .exit); t8 = now (t8 .exit); t9 = now (t9 .exit); t10 = now (t10 .exit); t15 = now (t15 .exit); t16 = now (t16 .exit); t17 = now (t17 .exit) }; indexes = record { tokens = now (i1 .exit); rules = now (i7 .exit) } }) (restoreFace (now (blocks .entry)) (now (src .entry)) (record { t1 = now (t1 .entry); t2 = now (t2 .entry); t3 = now (t3 .entry); t4 = now (t4 .entry); t5 = now (t5 .entry); t6 = now (t6 .entry); t7 = now (t7 .entry); t8 = now (t8 .entry); t9 = now (t9 .entry); t10 = now (t10 .entry); t15 = now (t15 .entry); t16 = now (t16 .entry); t17 = now (t17 .entry) }) (record { tokens = now (i1 .entry); rules = now (i7 .entry) })) ⌝ }
+{
+    let r = restoring::load_stored(
+        blocks,
+        src,
+        t1,
+        t2,
+        t3,
+        t4,
+        t5,
+        t6,
+        t7,
+        t8,
+        t9,
+        t10,
+        i1,
+        i7,
+        t15,
+        t16,
+        t17,
+    );
+    *answer = restoring_cells(r);
 }

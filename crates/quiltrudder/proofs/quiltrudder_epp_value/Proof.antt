@@ -16,4 +16,4 @@ quiltrudder-epp-value-spec =
     (λ c κs. search needs)
     (λ c κs. search needs)
     (λ c. search needs)
-    (λ c. face-value _ (now (c .before .before .before .before .before .before .before .before .before .before .before .before .before .before .before .before .before .before .before .before .before .before .before .before .args .reading)) _ _ _ _ (c .before .before .before .before .before .before .before .before .before .counts-of .ensures) (c .before .before .before .before .before .before .before .before .singles-of .ensures) _ _ _ _ _ _ _ _ (c .before .before .before .before .before .before .epp-value .ensures .0) (c .before .before .of-valuation .ensures) (c .before .written .ensures) (c .before .before .before .before .before .before .epp-value .ensures .1) (c .counted-cells .ensures)))
+    (λ c. face-value _ (now (c .before .before .before .before .before .before .before .before .before .before .before .before .before .before .before .before .before .before .before .before .before .before .before .before .before .args .reading)) _ _ _ _ (c .before .before .before .before .before .before .before .before .before .before .counts-of .ensures) (c .before .before .before .before .before .before .before .before .singles-of .ensures) _ _ _ _ _ _ _ _ (c .before .before .before .before .before .before .epp-value .ensures .0) (c .before .before .of-valuation .ensures) (c .before .written .ensures) (c .before .before .before .before .before .before .epp-value .ensures .1) (c .counted-cells .ensures)))

@@ -16,4 +16,4 @@ quiltrudder-faults-spec =
     (λ c κs. search needs)
     (λ c κs. search needs)
     (λ c. search needs)
-    (λ c. face-faults _ (now (c .before .before .before .before .before .before .before .before .before .before .before .before .before .before .before .before .before .before .before .before .before .before .before .before .args .reading)) _ _ _ _ (c .before .before .before .before .before .before .before .before .before .counts-of .ensures) (c .before .before .before .before .before .before .before .before .singles-of .ensures) _ _ _ _ _ _ _ (c .before .before .before .before .before .before .faults .ensures .0) (c .before .before .of-fault-listing .ensures) (c .before .faulted .ensures) (c .before .before .before .before .before .before .faults .ensures .1) (c .counted-cells .ensures)))
+    (λ c. face-faults _ (now (c .before .before .before .before .before .before .before .before .before .before .before .before .before .before .before .before .before .before .before .before .before .before .before .before .before .args .reading)) _ _ _ _ (c .before .before .before .before .before .before .before .before .before .before .counts-of .ensures) (c .before .before .before .before .before .before .before .before .singles-of .ensures) _ _ _ _ _ _ _ (c .before .before .before .before .before .before .faults .ensures .0) (c .before .before .of-fault-listing .ensures) (c .before .faulted .ensures) (c .before .before .before .before .before .before .faults .ensures .1) (c .counted-cells .ensures)))

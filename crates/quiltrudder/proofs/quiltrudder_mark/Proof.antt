@@ -14,4 +14,4 @@ quiltrudder-mark-spec =
     (λ c κs. search needs)
     (λ c κs. search needs)
     (λ c. search needs)
-    (λ c. face-mark _ (now (c .before .before .before .before .before .before .before .before .before .before .before .before .before .before .before .before .before .before .before .before .before .before .before .args .reading)) _ _ _ _ (c .before .before .before .before .before .before .before .before .counts-of .ensures) (c .before .before .before .before .before .before .before .singles-of .ensures) _ _ _ _ _ (c .before .before .before .before .before .mark .ensures .0) (c .before .of-marking .ensures) (c .before .before .before .before .before .mark .ensures .1)))
+    (λ c. face-mark _ (now (c .before .before .before .before .before .before .before .before .before .before .before .before .before .before .before .before .before .before .before .before .before .before .before .before .args .reading)) _ _ _ _ (c .before .before .before .before .before .before .before .before .before .counts-of .ensures) (c .before .before .before .before .before .before .before .singles-of .ensures) _ _ _ _ _ (c .before .before .before .before .before .mark .ensures .0) (c .before .of-marking .ensures) (c .before .before .before .before .before .mark .ensures .1)))

@@ -12,4 +12,4 @@ quiltrudder-name-spec =
     (λ c κs. search needs)
     (λ c κs. search needs)
     (λ c κs. search needs)
-    (λ c. face-name _ (now (c .before .before .before .before .before .before .before .before .before .before .before .before .before .before .before .before .args .reading)) _ _ _ _ (c .before .before .counts-of .ensures) (c .before .singles-of .ensures) _ _ _ (c .name-cells .ensures)))
+    (λ c. face-name _ (now (c .before .before .before .before .before .before .before .before .before .before .before .before .before .before .before .before .before .args .reading)) _ _ _ _ (c .before .before .before .counts-of .ensures) (c .before .singles-of .ensures) _ _ _ (c .name-cells .ensures)))

@@ -16,6 +16,6 @@ quiltrudder-next-unused-spec =
     (λ c κs. search needs)
     (λ c κs. search needs)
     (λ c.
-    let a = c .before .before .before .before .before .before .before .before .before .before .before .before .before .before .before .before .before .before .before .before .before .before .before .args in
+    let a = c .before .before .before .before .before .before .before .before .before .before .before .before .before .before .before .before .before .before .before .before .before .before .before .before .args in
     let s = c .before .before .before .before .step in
-    face-next _ (now (a .reading)) _ _ _ _ (c .before .before .before .before .before .before .before .before .counts-of .ensures) (c .before .before .before .before .before .before .before .singles-of .ensures) _ (now (a .at)) _ (s .result .next .answer) (s .result .at) _ (s .ensures .0) (s .ensures .1) (c .next-cells .ensures)))
+    face-next _ (now (a .reading)) _ _ _ _ (c .before .before .before .before .before .before .before .before .before .counts-of .ensures) (c .before .before .before .before .before .before .before .singles-of .ensures) _ (now (a .at)) _ (s .result .next .answer) (s .result .at) _ (s .ensures .0) (s .ensures .1) (c .next-cells .ensures)))

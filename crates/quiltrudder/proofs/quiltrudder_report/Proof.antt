@@ -17,4 +17,4 @@ quiltrudder-report-spec =
     (λ c κs. search needs)
     (λ c. search needs)
     (λ c. search needs)
-    (λ c. face-report _ (now (c .before .before .before .before .before .before .before .before .before .before .before .before .before .before .before .before .before .before .before .before .before .before .before .before .before .before .before .before .args .reading)) _ _ _ _ (c .before .before .before .before .before .before .before .before .before .before .before .before .counts-of .ensures) (c .before .before .before .before .before .before .before .before .before .before .before .singles-of .ensures) _ _ _ _ _ _ _ _ _ (c .before .before .before .before .before .before .before .before .report .ensures .0) (c .before .before .of-listing .ensures) (c .before .listed .ensures) (c .before .before .before .before .before .before .before .before .report .ensures .1) (c .counted-cells .ensures)))
+    (λ c. face-report _ (now (c .before .before .before .before .before .before .before .before .before .before .before .before .before .before .before .before .before .before .before .before .before .before .before .before .before .before .before .before .before .args .reading)) _ _ _ _ (c .before .before .before .before .before .before .before .before .before .before .before .before .before .counts-of .ensures) (c .before .before .before .before .before .before .before .before .before .before .before .singles-of .ensures) _ _ _ _ _ _ _ _ _ (c .before .before .before .before .before .before .before .before .report .ensures .0) (c .before .before .of-listing .ensures) (c .before .listed .ensures) (c .before .before .before .before .before .before .before .before .report .ensures .1) (c .counted-cells .ensures)))

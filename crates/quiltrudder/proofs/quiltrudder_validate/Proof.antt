@@ -13,4 +13,4 @@ quiltrudder-validate-spec =
     (λ c κs. search needs)
     (λ c κs. search needs)
     (λ c κs. search needs)
-    (λ c. face-validity _ (now (c .before .before .before .before .before .before .before .before .before .before .before .before .before .before .before .before .before .before .before .args .reading)) _ _ _ _ (c .before .before .before .before .before .counts-of .ensures) (c .before .before .before .before .singles-of .ensures) _ _ _ (c .before .before .before .validate .ensures .0) (c .before .of-validity .ensures) (c .before .before .before .validate .ensures .1)))
+    (λ c. face-validity _ (now (c .before .before .before .before .before .before .before .before .before .before .before .before .before .before .before .before .before .before .before .before .args .reading)) _ _ _ _ (c .before .before .before .before .before .before .counts-of .ensures) (c .before .before .before .before .singles-of .ensures) _ _ _ (c .before .before .before .validate .ensures .0) (c .before .of-validity .ensures) (c .before .before .before .validate .ensures .1)))

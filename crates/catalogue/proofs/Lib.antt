@@ -1,0 +1,4 @@
+pub mod Laws
+pub mod Heads
+pub mod Room
+pub mod Contents

@@ -1,0 +1,5 @@
+pub mod Cases
+pub mod Rows
+pub mod Altered
+pub mod Back
+pub mod Again
