@@ -71,6 +71,8 @@ extern "C" {
 #define QUILTRUDDER_PLACE_CELLS 4
 #define QUILTRUDDER_VALUATION_CELLS 8
 #define QUILTRUDDER_SPOT_CELLS 2
+#define QUILTRUDDER_STORING_CELLS 8
+#define QUILTRUDDER_STORED_CELLS 45
 
 /* Where they stand. Every answer but that of a name begins with number, place and table number; the table number is 0 unless the number is 42. */
 #define QUILTRUDDER_NUMBER 0
@@ -140,6 +142,10 @@ extern "C" {
 #define QUILTRUDDER_TAG 50 /* kind 4: a tag that its line does not close, or none behind %type */
 #define QUILTRUDDER_PROLOGUE_NOT_CLOSED 51 /* kind 4: %{ without its %} */
 #define QUILTRUDDER_UNION 52 /* kind 4: %union without a body, or one that does not close */
+#define QUILTRUDDER_NO_BLOCKS 60 /* load_stored: no bytes, or no whole number of blocks */
+#define QUILTRUDDER_BLOCK_NUMBER 61 /* a block with a wrong number */
+#define QUILTRUDDER_BLOCK_CHECK 62 /* a block with a wrong check */
+#define QUILTRUDDER_BLOCK_CONTENT 63 /* content that counts and source length do not fill exactly, padding, a kind or a lead */
 
 /* In a reading: the ten counts of tables 1 to 10, and then the singles. Each single is led by its flag: 0 absent, its numbers zero; 1 given. */
 #define QUILTRUDDER_COUNTS 4
@@ -150,6 +156,14 @@ extern "C" {
 #define QUILTRUDDER_GENERICS 32 /* parse generics: flag, from, to */
 #define QUILTRUDDER_PROGRAMS 35 /* flag, from, to */
 #define QUILTRUDDER_POSIX_COUNTS 38 /* the three counts of tables 15 to 17 */
+
+/* Behind a reading's numbers, of a stored one. */
+#define QUILTRUDDER_STORED_KIND 43
+#define QUILTRUDDER_STORED_LENGTH 44 /* of the source */
+
+/* The catalogue's blocks (docs/FORMAT.md): how many a reading takes whose rows have so many cells together, with a source of so many bytes. */
+#define QUILTRUDDER_BLOCK_BYTES 512
+#define QUILTRUDDER_BLOCKS(cells, source) (((size_t)156 + 4 * (size_t)(cells) + (size_t)(source) + 503) / 504)
 
 /* In the answers of the faults, of the report and of a value: the count, by its low and high 32 bits; 0 after a refusal. */
 #define QUILTRUDDER_COUNT_LOW 4
@@ -336,6 +350,57 @@ void quiltrudder_prune(
     uint32_t *i7, size_t i7_length,
     uint32_t *work, size_t work_length,
     uint32_t answer[QUILTRUDDER_PRUNING_CELLS]);
+
+/* Writes a reading of kind 1 to 4, tables 15 to 17 with it, and its source into the catalogue's blocks. The answer has number, place and table, how many blocks were written (QUILTRUDDER_COUNT_LOW and
+ * _HIGH), line and column; bytes of `blocks` behind them are zero. Equal kind, source, counts, singles and rows give equal blocks, whatever was lent.
+ *
+ * Number 0; 43; 44, for tables 15 to 17 too; 42 with table 18 where `blocks` is too short. After a refusal `blocks` is zero. */
+void quiltrudder_store(
+    const uint8_t *src, size_t src_length,
+    uint32_t kind,
+    const uint32_t reading[QUILTRUDDER_READING_CELLS],
+    const uint32_t *t1, size_t t1_length,
+    const uint32_t *t2, size_t t2_length,
+    const uint32_t *t3, size_t t3_length,
+    const uint32_t *t4, size_t t4_length,
+    const uint32_t *t5, size_t t5_length,
+    const uint32_t *t6, size_t t6_length,
+    const uint32_t *t7, size_t t7_length,
+    const uint32_t *t8, size_t t8_length,
+    const uint32_t *t9, size_t t9_length,
+    const uint32_t *t10, size_t t10_length,
+    const uint32_t *i1, size_t i1_length,
+    const uint32_t *i7, size_t i7_length,
+    const uint32_t *t15, size_t t15_length,
+    const uint32_t *t16, size_t t16_length,
+    const uint32_t *t17, size_t t17_length,
+    uint8_t *blocks, size_t blocks_length,
+    uint32_t answer[QUILTRUDDER_STORING_CELLS]);
+
+/* Reads a reading back from blocks, whatever the lent memory held: the same rows and source as were written, zeros behind them, and the indexes as load fills them. The answer begins with the 43
+ * numbers of a reading, which the other functions take, and has kind and source length behind them; every place is 0, 0, at line 1 and column 1. `src` may be longer than the source.
+ *
+ * Number 0; 60; block by block 61 and 62; 63; 45; 42 with the lowest table that has no room, then 19 for the source; 44. After a refusal everything lent is zero, and so are all numbers behind the first four
+ * but line and column. One altered byte anywhere is refused. */
+void quiltrudder_load_stored(
+    const uint8_t *blocks, size_t blocks_length,
+    uint8_t *src, size_t src_length,
+    uint32_t *t1, size_t t1_length,
+    uint32_t *t2, size_t t2_length,
+    uint32_t *t3, size_t t3_length,
+    uint32_t *t4, size_t t4_length,
+    uint32_t *t5, size_t t5_length,
+    uint32_t *t6, size_t t6_length,
+    uint32_t *t7, size_t t7_length,
+    uint32_t *t8, size_t t8_length,
+    uint32_t *t9, size_t t9_length,
+    uint32_t *t10, size_t t10_length,
+    uint32_t *i1, size_t i1_length,
+    uint32_t *i7, size_t i7_length,
+    uint32_t *t15, size_t t15_length,
+    uint32_t *t16, size_t t16_length,
+    uint32_t *t17, size_t t17_length,
+    uint32_t answer[QUILTRUDDER_STORED_CELLS]);
 
 /* The place of the name of a row of table 1 or 7: from, to, line, column. 0, 0, 1, 1 for another table, a row that is not below the table's count, or unsound
  * tables. The source's bytes at that place are the name. */
