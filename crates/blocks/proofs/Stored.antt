@@ -20,10 +20,10 @@ use Rattle.blocks.proofs.Laws.{seal-length}
 
 -- ---- bytes stored one behind the other
 
-abbrev Low : List ℕ → Type 0
-Low s = (i : ℕ) → getD s i 0 < 256
+abbrev Bytes : List ℕ → Type 0
+Bytes s = (i : ℕ) → getD s i 0 < 256
 
-cells-low : (vs s : List ℕ) (at : ℕ) → Low vs → Low s → Low (put s at vs)
+cells-low : (vs s : List ℕ) (at : ℕ) → Bytes vs → Bytes s → Bytes (put s at vs)
 cells-low [] s at p q = q
 cells-low (v ∷ vs) s at p q = cells-low vs (set s at v) (at + 1) (λ j. p (suc j)) (λ i. set-each (λ (x : ℕ). x < 256) s at v i (p 0) (q i))
 
@@ -63,14 +63,14 @@ check-put s at c h = (rw (b0, b 1 (omega arith)) (omega arith), rw (n3, n2, b 2 
     n2 = omega arith
 
 -- all of them bytes
-check-low : (c : Sums) → c .first < 65535 → c .second < 65535 → Low (checkOf c)
+check-low : (c : Sums) → c .first < 65535 → c .second < 65535 → Bytes (checkOf c)
 check-low c h k zero = omega arith
 check-low c h k (suc zero) = omega arith
 check-low c h k (suc (suc zero)) = omega arith
 check-low c h k (suc (suc (suc zero))) = omega arith
 check-low c h k (suc (suc (suc (suc j)))) = omega arith
 
-number-low : (v : ℕ) → v < 4294967296 → Low (bytesOf v)
+number-low : (v : ℕ) → v < 4294967296 → Bytes (bytesOf v)
 unfolding bytesOfAll
 number-low v h i = bytes-low (v ∷ []) i one
   where
@@ -97,7 +97,7 @@ module _ (s : List ℕ) (k : ℕ) where
       rw seal-put
       (cells-else (checkOf (sumsOf numbered (k * 512))) numbered (k * 512 + 508) i (λ h l. e h (omega arith)) ∙ cells-else (bytesOf k) s (k * 512) i d)
 
-  seal-low : k < 4294967296 → Low s → Low (sealBlock s k)
+  seal-low : k < 4294967296 → Bytes s → Bytes (sealBlock s k)
   unfolding numbered
   seal-low h q =
       let l = sums-low numbered (k * 512) in
@@ -132,7 +132,7 @@ all-else zero s i d = refl
 all-else (suc n) s i d =
     seal-else (sealAll n s) n i (λ a b. let c = d (omega arith) in omega arith) (λ a b. let c = d (omega arith) in omega arith) ∙ all-else n s i (λ h. d (omega arith))
 
-all-low : (n : ℕ) (s : List ℕ) → n ≤ 4294967296 → Low s → Low (sealAll n s)
+all-low : (n : ℕ) (s : List ℕ) → n ≤ 4294967296 → Bytes s → Bytes (sealAll n s)
 unfolding sealAll
 all-low zero s h q = q
 all-low (suc n) s h q = seal-low (sealAll n s) n h (all-low n s (omega arith) q)
@@ -148,7 +148,7 @@ all-right (suc n) s h l k m =
 
 -- ---- what is written
 
-content-low : (s : List ℕ) (i : ℕ) (b : List ℕ) → Low b → Low s → Low (putContent s i b)
+content-low : (s : List ℕ) (i : ℕ) (b : List ℕ) → Bytes b → Bytes s → Bytes (putContent s i b)
 unfolding putContent
 content-low s i [] p q = q
 content-low s i (v ∷ b) p q = content-low (set s (contentAt i) v) (i + 1) b (λ j. p (suc j)) (λ j. set-each (λ (x : ℕ). x < 256) s (contentAt i) v j (p 0) (q j))

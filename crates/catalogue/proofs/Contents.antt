@@ -13,7 +13,7 @@ use Rattle.grammar.specs.Sound.{AllTables, cellsOf}
 use Rattle.blocks.specs.Blocks.{bytesOfAll, wordsIn}
 use Rattle.blocks.proofs.Content.{bytes-length, bytes-append, bytes-low, bytes-back, numbers-back, numbers-length, numbers-low}
 use Rattle.catalogue.specs.declared.Head.{Head}
-use Rattle.catalogue.specs.Catalogue.{Low, Bytes, cellsAt, cellsBefore, rowsFrom, contentSize, rowCells, headCells, headOf, headTest, content, filledTest}
+use Rattle.catalogue.specs.Catalogue.{Fit32, Bytes, cellsAt, cellsBefore, rowsFrom, contentSize, rowCells, headCells, headOf, headTest, content, filledTest}
 use Rattle.catalogue.proofs.Heads.{head-length, head-iff}
 use Rattle.catalogue.proofs.Room.{filled-iff}
 
@@ -58,7 +58,7 @@ module _ (c : Counts) (p : PosixCounts) (T : AllTables) where
       let e : k + 1 ≡ suc k = omega arith in
       rw (e, zero-add k, append-nil (take (cellsAt c p k) (cellsOf T k))) at (rows-split 0 k 1)
 
-  rows-low : ((j : ℕ) → j < 13 → Low (cellsOf T j)) → (k : ℕ) → k ≤ 13 → Low (rowCells c p T 0 k)
+  rows-low : ((j : ℕ) → j < 13 → Fit32 (cellsOf T j)) → (k : ℕ) → k ≤ 13 → Fit32 (rowCells c p T 0 k)
   unfolding rowCells
   rows-low f zero h = λ j. omega arith
   rows-low f (suc k) h = rw (rows-next k) (append-below 4294967296 (rowCells c p T 0 k) (take (cellsAt c p k) (cellsOf T k)) (rows-low f k (omega arith)) (take-below 4294967296 (cellsAt c p k) (cellsOf T k) (f k h)))
@@ -76,7 +76,7 @@ module _ (c : Counts) (p : PosixCounts) (T : AllTables) where
 -- ---- what is written
 
 module _ (h : Head) (T : AllTables) (src : List ℕ) where
-  pub content-bytes : Low (headCells h) → ((j : ℕ) → j < 13 → Low (cellsOf T j)) → Bytes src → Bytes (content h T src)
+  pub content-bytes : Fit32 (headCells h) → ((j : ℕ) → j < 13 → Fit32 (cellsOf T j)) → Bytes src → Bytes (content h T src)
   unfolding content
   content-bytes f g b =
       append-below 256 (bytesOfAll (headCells h ++ rowCells (h .counts) (h .posix) T 0 13)) src
@@ -100,7 +100,7 @@ module _ (h : Head) (T : AllTables) (src : List ℕ) where
       rw (rows-at (h .counts) (h .posix) T k l, ← append-assoc (headCells h) before (xs ++ rest), bytes-append (headCells h ++ before) (xs ++ rest), bytes-append xs rest)
       (rw (append-assoc (bytesOfAll (headCells h ++ before) ++ (bytesOfAll xs ++ bytesOfAll rest)) src z, append-assoc (bytesOfAll (headCells h ++ before)) (bytesOfAll xs ++ bytesOfAll rest) (src ++ z), append-assoc (bytesOfAll xs) (bytesOfAll rest) (src ++ z)))
 
-  pub head-read : (z : List ℕ) → Low (headCells h) → wordsIn (content h T src ++ z) 0 39 ≡ headCells h
+  pub head-read : (z : List ℕ) → Fit32 (headCells h) → wordsIn (content h T src ++ z) 0 39 ≡ headCells h
   head-read z f = rw (head-first z) (rw (head-length h) at (numbers-back [] (headCells h) (bytesOfAll (rowCells (h .counts) (h .posix) T 0 13) ++ (src ++ z)) f))
 
   module _ (fits : (j : ℕ) → j < 13 → cellsAt (h .counts) (h .posix) j ≤ length (cellsOf T j)) where
@@ -113,7 +113,7 @@ module _ (h : Head) (T : AllTables) (src : List ℕ) where
     unfolding content contentSize
     content-length = rw (length-append (bytesOfAll (headCells h ++ rowCells (h .counts) (h .posix) T 0 13)) src, front-length 13 (omega arith))
 
-    pub rows-read : (z : List ℕ) (k : ℕ) → k < 13 → Low (cellsOf T k) → wordsIn (content h T src ++ z) (rowsFrom (h .counts) (h .posix) k) (cellsAt (h .counts) (h .posix) k) ≡ take (cellsAt (h .counts) (h .posix) k) (cellsOf T k)
+    pub rows-read : (z : List ℕ) (k : ℕ) → k < 13 → Fit32 (cellsOf T k) → wordsIn (content h T src ++ z) (rowsFrom (h .counts) (h .posix) k) (cellsAt (h .counts) (h .posix) k) ≡ take (cellsAt (h .counts) (h .posix) k) (cellsOf T k)
     rows-read z k l low =
         let n = cellsAt (h .counts) (h .posix) k in
         rw (table-at z k l)

@@ -19,7 +19,7 @@ use Rattle.grammar.specs.Numbers.{partNumbers, paramNumbers}
 use Rattle.singles.specs.Singles.{expectCells, singlesCells, countsCells, posixCells, partFrom, expectFrom, paramFrom}
 use Rattle.singles.proofs.Laws.{three, five, fourteen, part-three, expect-five, param-five, singles-length, cells-back}
 use Rattle.catalogue.specs.declared.Head.{Head}
-use Rattle.catalogue.specs.Catalogue.{Low, headCells, headOf, zeroCells, leadTest, headTest}
+use Rattle.catalogue.specs.Catalogue.{Fit32, headCells, headOf, zeroCells, leadTest, headTest}
 
 -- a list by its cells from cell k on
 abbrev cellsFrom : List ℕ → ℕ → ℕ → List ℕ
@@ -125,7 +125,7 @@ leads-each m e =
     (x .0, x .1 .0, x .1 .1 .0, x .1 .1 .1 .0, x .1 .1 .1 .1 .0, x .1 .1 .1 .1 .1)
 
 -- numbers whose leads pass are a head's
-leads-head : (m : List ℕ) → length m ≡ 39 → Low m → leads m ≡ true → m ≡ headCells (headOf m)
+leads-head : (m : List ℕ) → length m ≡ 39 → Fit32 m → leads m ≡ true → m ≡ headCells (headOf m)
 unfolding headCells leadTest zeroCells
 leads-head m l low e =
     let x = leads-each m e in
@@ -140,7 +140,7 @@ leads-head m l low e =
     ))
 
 -- the 39 numbers that pass are exactly those that writing gives, of a kind that there is
-pub head-iff : (m : List ℕ) → length m ≡ 39 → Low m → (headTest m ≡ true) ↔ ((m ≡ headCells (headOf m)) × (1 ≤ getD m 38 0) × (getD m 38 0 ≤ 4))
+pub head-iff : (m : List ℕ) → length m ≡ 39 → Fit32 m → (headTest m ≡ true) ↔ ((m ≡ headCells (headOf m)) × (1 ≤ getD m 38 0) × (getD m 38 0 ≤ 4))
 unfolding headTest
 head-iff m l low =
     let f = both-iff (both-iff (le-iff 1 (getD m 38 0)) (le-iff (getD m 38 0) 4)) (leads-head m l low, λ e. ap leads e ∙ head-leads (headOf m)) in

@@ -20,8 +20,8 @@ use Rattle.catalogue.specs.declared.Finding.{Finding}
 use Rattle.catalogue.specs.declared.Finding.the-variants.{Holds, NoWholeBlocks, FaultyNumber, FaultyCheck, Unfilled, WrongSize, NoRoom}
 
 -- numbers of 32 bits each
-abbrev pub Low : List ℕ → Type 0
-Low xs = (j : ℕ) → getD xs j 0 < 4294967296
+abbrev pub Fit32 : List ℕ → Type 0
+Fit32 xs = (j : ℕ) → getD xs j 0 < 4294967296
 
 -- bytes
 abbrev pub Bytes : List ℕ → Type 0

@@ -15,12 +15,12 @@ use Rattle.grammar.specs.declared.Counts.{Counts}
 use Rattle.grammar.specs.declared.Singles.{Singles}
 use Rattle.grammar.specs.declared.Refusal.{Refusal}
 use Rattle.grammar.specs.Refusals.{numberOf}
-use Rattle.grammar.specs.Sound.{Tables, AllTables, tenOf, Indexes, Sound}
+use Rattle.grammar.specs.Sound.{Tables, AllTables, tenOf, Indexes, Sound, PosixSound}
 use Rattle.reader.specs.declared.Verdict.{Verdict}
 use Rattle.reader.specs.declared.Verdict.the-variants.{Accepted, Rejected}
 use Rattle.reader.specs.Read.{Result, readAll}
 use Rattle.reader.specs.Allowed.{RepeatsOnly, Full, Cleared}
-use Rattle.reader.proofs.Sound.{read-sound, read-ten, read-values, stopped-clean}
+use Rattle.reader.proofs.Sound.{read-sound, read-posix-sound, read-ten, read-three, read-values, stopped-clean}
 use Rattle.refusals.specs.Refusal.{ReadNumber}
 use Rattle.refusals.proofs.Read.{refusal-documented}
 use Rattle.sound.specs.Test.{soundTest}
@@ -147,19 +147,32 @@ module _ (src : List ℕ) (kind : ℕ) (T : AllTables) (X : Indexes) where
       go (Accepted k) (Invalid f) a e = let q = flaw-number f in omega (arith, rw (q .0) at e, q .2)
       go (Rejected f) w a e = no-44 (numberOf f) (refusal-documented src kind T X f a .number) e
 
-  -- and leaves a full, sound reading where it is loaded, where it is not valid, and where repeats alone were refused;
-  pub load-sound : FullLoad (loadAll src kind T X .answer) → Sound src (loadAll src kind T X .counts) (loadAll src kind T X .singles) (tenOf (loadAll src kind T X .tables)) (loadAll src kind T X .indexes)
+  full-read : FullLoad (loadAll src kind T X .answer) → Full (read .answer)
   unfolding loadAll
-  load-sound x = read-sound src kind T X (go (read .answer) fitness x)
+  full-read = go (read .answer) fitness
     where
       go : (v : Verdict) (w : Validity) → FullLoad (judged v w) → Full v
       go (Accepted i) w y = tt
       go (Rejected f) w y = y
 
-  -- of ten counts, whatever the answer, and `%epp` values that are strings;
+  -- and leaves a full, sound reading where it is loaded, where it is not valid, and where repeats alone were refused;
+  pub load-sound : FullLoad (loadAll src kind T X .answer) → Sound src (loadAll src kind T X .counts) (loadAll src kind T X .singles) (tenOf (loadAll src kind T X .tables)) (loadAll src kind T X .indexes)
+  unfolding loadAll
+  load-sound x = read-sound src kind T X (full-read x)
+
+  -- tables 15 to 17 too,
+  pub load-posix-sound : FullLoad (loadAll src kind T X .answer) → PosixSound src (loadAll src kind T X .counts) (loadAll src kind T X .posix) (loadAll src kind T X .tables)
+  unfolding loadAll
+  load-posix-sound x = read-posix-sound src kind T X (full-read x)
+
+  -- of ten counts and three, whatever the answer, and `%epp` values that are strings;
   pub load-ten : length (loadAll src kind T X .counts .n) ≡ 10
   unfolding loadAll
   load-ten = read-ten src kind T X
+
+  pub load-three : length (loadAll src kind T X .posix .n) ≡ 3
+  unfolding loadAll
+  load-three = read-three src kind T X
 
   pub load-values : (r : ℕ) → r < getD (loadAll src kind T X .counts .n) epps 0 → stringAt src (cell (width epps) (loadAll src kind T X .tables .t5) r value) ≡ Closed (cell (width epps) (loadAll src kind T X .tables .t5) r (value + 1))
   unfolding loadAll

@@ -46,7 +46,7 @@ pub fn judge(
     requires { ⌜ Walkable (now src) c (now t1) (now t7) (now t8) (now t9) (now i7) ⌝ }
     ensures { λ q. ⌜ q ≡ judged (Accepted end) (first (faults (now (src .entry)) c g (now (t1 .entry)) (now (t2 .entry)) (now (t4 .entry)) (now (t5 .entry)) (now (t6 .entry)) (now (t7 .entry)) (now (t8 .entry)) (now (t9 .entry)))) ⌝ }
 {
-    match validation::find_fault(src, c, g, t1, t2, t4, t5, t6, t7, t8, t9, i1, i7) {
+    match validator::find_fault(src, c, g, t1, t2, t4, t5, t6, t7, t8, t9, i1, i7) {
         Validity::Valid => Judgement::Loaded(end),
         Validity::UnsoundTables => Judgement::Loaded(end),
         Validity::Invalid(f) => Judgement::NotValid(f),
@@ -75,7 +75,7 @@ pub fn load(
 ) -> Loading
     ensures { λ r. ⌜ _≡_ {A = LoadResult} (record { answer = r .answer; counts = r .counts; posix = r .posix; singles = r .singles; tables = record { t1 = now (t1 .exit); t2 = now (t2 .exit); t3 = now (t3 .exit); t4 = now (t4 .exit); t5 = now (t5 .exit); t6 = now (t6 .exit); t7 = now (t7 .exit); t8 = now (t8 .exit); t9 = now (t9 .exit); t10 = now (t10 .exit); t15 = now (t15 .exit); t16 = now (t16 .exit); t17 = now (t17 .exit) }; indexes = record { tokens = now (i1 .exit); rules = now (i7 .exit) } }) (loadAll (now (src .entry)) kind (record { t1 = now (t1 .entry); t2 = now (t2 .entry); t3 = now (t3 .entry); t4 = now (t4 .entry); t5 = now (t5 .entry); t6 = now (t6 .entry); t7 = now (t7 .entry); t8 = now (t8 .entry); t9 = now (t9 .entry); t10 = now (t10 .entry); t15 = now (t15 .entry); t16 = now (t16 .entry); t17 = now (t17 .entry) }) (record { tokens = now (i1 .entry); rules = now (i7 .entry) })) ⌝ }
 {
-    let r = reader::read(
+    let r = runs::read(
         src,
         kind,
         t1,

@@ -1,6 +1,7 @@
 // Each operation's answer as document 01's number, place and table number.
 use grammar::Told;
 use loading::Judgement;
+use places::Spot;
 use pruning::Pruning;
 use restoring::Restoring;
 use storing::Storing;
@@ -11,7 +12,7 @@ use validation::Flaw;
 use validation::Validity;
 use values::Valuation;
 ghost use mathlib.Core.Path.{_≡_};
-ghost use mathlib.Core.List.{List, [], _∷_, _++_};
+ghost use mathlib.Core.List.{[], _∷_, _++_};
 ghost use lib.ListN.{take, getD};
 ghost use Rattle.validation.specs.Faults.{flawNumbers, validityNumbers};
 ghost use Rattle.validation.specs.Walk.{faultListingNumbers};
@@ -21,7 +22,7 @@ ghost use Rattle.storing.specs.Storing.{storingNumbers};
 ghost use Rattle.restoring.specs.Restoring.{restoringNumbers};
 ghost use Rattle.values.specs.Value.{valuationNumbers};
 ghost use Rattle.loading.specs.Load.{judgementNumbers};
-ghost use Rattle.numbers.specs.Numbers.{toldNumbers};
+ghost use Rattle.numbers.specs.Numbers.{toldNumbers, answerSpot};
 
 pub fn of_flaw(f: Flaw) -> Told
     ensures { λ r. ⌜ toldNumbers r ≡ flawNumbers f ++ (0 ∷ []) ⌝ }
@@ -337,4 +338,12 @@ pub fn of_restoring(r: Restoring) -> Told
         Restoring::NoSpace(k) => at_start(42, k),
         Restoring::RestoringUnsound => at_start(44, 0),
     }
+}
+
+// Line and column of the start of an answer's place.
+pub fn spot_of(src: &[u8], t: Told) -> Spot
+    ensures { λ r. ⌜ r ≡ answerSpot (now (src .entry)) (toldNumbers t) ⌝ }
+{
+    let from = t.from;
+    places::locate(src, from)
 }

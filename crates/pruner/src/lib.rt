@@ -485,7 +485,7 @@ pub fn prune(
 ) -> Outcome
     ensures { λ r. ⌜ Prunings (now (src .entry)) g (r .answer) (record { counts = c; tables = record { t1 = now (t1 .entry); t2 = now (t2 .entry); t3 = now (t3 .entry); t4 = now (t4 .entry); t5 = now (t5 .entry); t6 = now (t6 .entry); t7 = now (t7 .entry); t8 = now (t8 .entry); t9 = now (t9 .entry); t10 = now (t10 .entry) }; indexes = record { tokens = now (i1 .entry); rules = now (i7 .entry) }; work = now (work .entry) }) (record { counts = r .counts; tables = record { t1 = now (t1 .exit); t2 = now (t2 .entry); t3 = now (t3 .exit); t4 = now (t4 .entry); t5 = now (t5 .exit); t6 = now (t6 .entry); t7 = now (t7 .exit); t8 = now (t8 .exit); t9 = now (t9 .exit); t10 = now (t10 .entry) }; indexes = record { tokens = now (i1 .exit); rules = now (i7 .exit) }; work = now (work .exit) }) ⌝ }
 {
-    match validation::validate(src, c, g, t1, t2, t3, t4, t5, t6, t7, t8, t9, t10, i1, i7) {
+    match validator::validate(src, c, g, t1, t2, t3, t4, t5, t6, t7, t8, t9, t10, i1, i7) {
         Validity::Valid => {
             let start = g.start;
             if !staying::mark_staying(work, src, c, start, t1, t4, t6, t7, t8, t9, i1, i7) {

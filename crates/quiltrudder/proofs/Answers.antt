@@ -49,11 +49,11 @@ use Rattle.names.specs.Name.{nowhere, rowPlace, namePlace}
 use Rattle.values.specs.declared.Valuation.{Valuation}
 use Rattle.values.specs.Value.{valuationNumbers, Valued, eppValue}
 use Rattle.storing.specs.declared.Storing.{Storing}
-use Rattle.storing.specs.Storing.{StoreResult, storingNumbers, stored}
+use Rattle.storing.specs.Storing.{StoreResult, storingNumbers, storeAll}
 use Rattle.restoring.specs.Restoring.{Restored, restored}
-use Rattle.numbers.specs.Numbers.{toldNumbers}
-use Rattle.singles.specs.Singles.{singlesOf, posixCells}
-use Rattle.quiltrudder.specs.Face.{halves, answerSpot, spotCells, loadingNumbers, LoadFace, loadFaceOf, loadFace, countsOf, validityCells, validateFace, FaultsFace, countedCells, faultListingCells, faultsFaceOf, faultsFace, ReportFace, MarkFace, standingOf, standingCells, NextFace, readingAfter, PruneFace, nameAt, nameCells, nameFace, ValueFace, valuationCells, valueFaceOf, valueFace, StoreFace, storeFaceOf, posixOf, storeFace, restoringCells, RestoreFace, restoreFaceOf, restoreFace}
+use Rattle.numbers.specs.Numbers.{toldNumbers, answerSpot}
+use Rattle.singles.specs.Singles.{singlesOf, posixCells, countsOf, posixOf}
+use Rattle.quiltrudder.specs.Face.{halves, spotCells, loadingNumbers, LoadFace, loadFaceOf, loadFace, validityCells, validateFace, FaultsFace, countedCells, faultListingCells, faultsFaceOf, faultsFace, ReportFace, MarkFace, standingOf, standingCells, NextFace, readingAfter, PruneFace, nameAt, nameCells, nameFace, ValueFace, valuationCells, valueFaceOf, valueFace, StoreFace, storeFaceOf, storeFace, restoringCells, RestoreFace, restoreFaceOf, restoreFace}
 
 -- ---- line and column of an answer: by its own place, whatever stands behind it
 
@@ -130,11 +130,11 @@ module _ (src m : List ℕ) (T : Tables) (X : Indexes) (c : Counts) (g : Singles
 
 -- a reading into blocks
 pub face-store : (src m : List ℕ) (kind : ℕ) (T : AllTables) (X : Indexes) (c : Counts) (q : PosixCounts) (g : Singles) → c ≡ countsOf m → q ≡ posixOf m → g ≡ singlesOf m
-    → (out₀ out a : List ℕ) (k : Storing) (t : Told) (n : ℕ) (s : Spot) → _≡_ {A = StoreResult} (record { answer = k; blocks = out }) (stored src kind c q g T X out₀) → toldNumbers t ≡ take 4 (storingNumbers k) → n ≡ getD (storingNumbers k) 4 0 → s ≡ answerSpot src (toldNumbers t) → a ≡ toldNumbers t ++ halves n ++ spotCells s
+    → (out₀ out a : List ℕ) (k : Storing) (t : Told) (n : ℕ) (s : Spot) → _≡_ {A = StoreResult} (record { answer = k; blocks = out }) (storeAll src kind c q g T X out₀) → toldNumbers t ≡ take 4 (storingNumbers k) → n ≡ getD (storingNumbers k) 4 0 → s ≡ answerSpot src (toldNumbers t) → a ≡ toldNumbers t ++ halves n ++ spotCells s
     → _≡_ {A = StoreFace} (record { answer = a; blocks = out }) (storeFace src kind m T X out₀)
 face-store src m kind T X c q g hc hq hg out₀ out a k t n s e ht hn hs ha =
     let l : a ≡ countedCells src (storingNumbers k) = counted src t (storingNumbers k) n s a ht hn (spot-counted src t s hs (storingNumbers k) ht) ha in
-    let f : _≡_ {A = StoreResult} (record { answer = k; blocks = out }) (stored src kind (countsOf m) (posixOf m) (singlesOf m) T X out₀) = rw (hc, hq, hg) at e in
+    let f : _≡_ {A = StoreResult} (record { answer = k; blocks = out }) (storeAll src kind (countsOf m) (posixOf m) (singlesOf m) T X out₀) = rw (hc, hq, hg) at e in
     rw l (ap (storeFaceOf src) f)
 
 -- and back

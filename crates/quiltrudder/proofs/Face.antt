@@ -4,7 +4,7 @@ use mathlib.Core.Path.{_≡_, refl, sym, ap, _∙_}
 use mathlib.Core.List.{List, [], _∷_, _++_}
 use mathlib.Core.Bool.{Bool, true, false}
 use native.Mathlib.Omega.{arith}
-use lib.ListN.{length, getD}
+use lib.ListN.{length, getD, length-append}
 use lib.Seq.{ext-getD}
 use Rattle.grammar.specs.declared.Part.{Part}
 use Rattle.grammar.specs.declared.Part.the-variants.{Absent, At}
@@ -31,11 +31,11 @@ use Rattle.pruning.proofs.Outcome.{pruning-one}
 use Rattle.walks.specs.declared.Next.{Next}
 use Rattle.walks.specs.declared.Standing.{Standing}
 use Rattle.walks.proofs.Once.{next-one}
-use Rattle.singles.specs.Singles.{singlesCells, singlesOf, countsCells}
-use Rattle.singles.proofs.Laws.{cells-back}
+use Rattle.singles.specs.Singles.{singlesCells, singlesOf, countsCells, countsOf}
+use Rattle.singles.proofs.Laws.{singles-length, cells-back}
 use Rattle.names.specs.Name.{nowhere, namePlace, partAt, nameOf}
 use Rattle.names.proofs.Laws.{part-none}
-use Rattle.quiltrudder.specs.Face.{loadingCells, loadingNumbers, countsOf, listingCells, ReportFace, markingCells, MarkFace, standingOf, standingCells, nextCells, NextFace, pruningCells, readingAfter, PruneFace, nameAt}
+use Rattle.quiltrudder.specs.Face.{loadingCells, loadingNumbers, listingCells, ReportFace, markingCells, MarkFace, standingOf, standingCells, nextCells, NextFace, pruningCells, readingAfter, PruneFace, nameAt}
 
 -- number, place and table are four numbers
 abbrev four : List ℕ → List ℕ
@@ -54,6 +54,14 @@ pub judgement-four : (j : Judgement) → judgementNumbers j ≡ four (judgementN
 judgement-four (Loaded i) = refl
 judgement-four (NotRead f) = refl
 judgement-four (NotValid f) = flaw-four f
+
+-- with ten counts and 24 cells of singles they are 38
+pub loading-length : (o : LoadResult) → length (loadingNumbers o) ≡ 38
+unfolding loadingCells
+loading-length o =
+    let a = length-append (judgementNumbers (o .answer)) (countsCells (o .counts)) in
+    let b = length-append (judgementNumbers (o .answer) ++ countsCells (o .counts)) (singlesCells (o .singles)) in
+    omega (arith, a, b, ap length (judgement-four (o .answer)), singles-length (o .singles))
 
 -- where each number is looked for
 module _ (h z : List ℕ) (c : Counts) (hh : h ≡ four h) where

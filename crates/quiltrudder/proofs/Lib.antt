@@ -6,3 +6,4 @@ pub mod Promises
 pub mod Spots
 pub mod Walked
 pub mod Pruned
+pub mod Catalogued

@@ -40,8 +40,8 @@ use Rattle.values.specs.declared.Valuation.{Valuation}
 use Rattle.values.specs.declared.Valuation.the-variants.{Written, OfUnsoundTables, PastCount, NotString, NoTextRoom}
 use Rattle.values.specs.Value.{valuationNumbers, eppValue}
 use Rattle.quiltrudder.specs.Report.{grammarRead, excusesRead, Roomy, Exactly}
-use Rattle.singles.specs.Singles.{singlesCells, singlesOf, countsCells}
-use Rattle.quiltrudder.specs.Face.{halves, spotCells, loadingCells, loadFace, FullNumber, countsOf, validityCells, validateFace, FaultsFace, faultListingCells, faultsFaceOf, faultsFace, listingCells, ReportFace, ExactlyFace, CrowdedFace, nameAt, nameCells, nameFace, ValueFace, valuationCells, valueFaceOf, valueFace}
+use Rattle.singles.specs.Singles.{singlesCells, singlesOf, countsCells, countsOf}
+use Rattle.quiltrudder.specs.Face.{halves, spotCells, loadingCells, loadFace, FullNumber, validityCells, validateFace, FaultsFace, faultListingCells, faultsFaceOf, faultsFace, listingCells, ReportFace, ExactlyFace, CrowdedFace, nameAt, nameCells, nameFace, ValueFace, valuationCells, valueFaceOf, valueFace}
 use Rattle.quiltrudder.proofs.Face.{singles-back, all-counts-back, name-part}
 use Rattle.quiltrudder.proofs.Operations.{validate-not-44, faults-not-44, report-not-44, value-row-not-44, report-either, report-fits, report-exactly}
 

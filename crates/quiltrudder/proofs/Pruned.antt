@@ -18,8 +18,8 @@ use Rattle.pruning.specs.declared.Pruning.{Pruning}
 use Rattle.pruning.specs.declared.Pruning.the-variants.{AllPruned}
 use Rattle.pruning.specs.Pruned.{Prunings}
 use Rattle.pruning.proofs.Outcome.{pruning-ten, pruning-validates}
-use Rattle.singles.specs.Singles.{singlesOf, countsCells}
-use Rattle.quiltrudder.specs.Face.{countsOf, validityCells, validateFace, PruneFace}
+use Rattle.singles.specs.Singles.{singlesOf, countsCells, countsOf}
+use Rattle.quiltrudder.specs.Face.{validityCells, validateFace, PruneFace}
 use Rattle.quiltrudder.proofs.Face.{cells-at}
 
 -- the numbers of a reading with ten of them rewritten

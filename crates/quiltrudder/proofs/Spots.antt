@@ -52,11 +52,17 @@ use Rattle.values.specs.declared.Valuation.{Valuation}
 use Rattle.values.specs.declared.Valuation.the-variants.{Written, OfUnsoundTables, PastCount, NotString, NoTextRoom}
 use Rattle.values.specs.Value.{valuationNumbers, eppValue}
 use Rattle.names.specs.Name.{nowhere, namePlace}
-use Rattle.singles.specs.Singles.{singlesCells, singlesOf, posixCells, countsCells}
-use Rattle.quiltrudder.specs.Face.{halves, answerSpot, spotCells, AnswerSpotted, CellsSpotted, loadingCells, loadingNumbers, loadFace, countsOf, validateFace, countedCells, faultsFace, ReportFace, MarkFace, NextFace, PruneFace, nameAt, nameFace, valueFace}
+use Rattle.storing.specs.declared.Storing.{Storing}
+use Rattle.storing.specs.declared.Storing.the-variants.{StoredBlocks, UnknownKind, StoringUnsound, NoBlocks}
+use Rattle.storing.specs.Storing.{storingNumbers, storeAll}
+use Rattle.restoring.specs.declared.Restoring.{Restoring}
+use Rattle.restoring.specs.declared.Restoring.the-variants.{AllRestored, NotWhole, BadNumber, BadCheck, BadContent, BadSizes, NoSpace, RestoringUnsound}
+use Rattle.restoring.specs.Restoring.{restoringNumbers}
+use Rattle.singles.specs.Singles.{singlesCells, singlesOf, posixCells, countsCells, countsOf, posixOf}
+use Rattle.numbers.specs.Numbers.{answerSpot, AnswerSpotted}
+use Rattle.quiltrudder.specs.Face.{halves, spotCells, CellsSpotted, loadingCells, loadingNumbers, loadFace, validateFace, countedCells, faultsFace, ReportFace, MarkFace, NextFace, PruneFace, nameAt, nameFace, valueFace, storeFace}
 use Rattle.quiltrudder.proofs.Answers.{flaw-from, validity-from, place-lies}
-use Rattle.singles.proofs.Laws.{singles-length}
-use Rattle.quiltrudder.proofs.Face.{judgement-four}
+use Rattle.quiltrudder.proofs.Face.{judgement-four, loading-length}
 
 -- ---- by numbers and places
 
@@ -164,6 +170,24 @@ module _ (src : List ℕ) (c : Counts) (g : Singles) (T : Tables) (X : Indexes) 
           spotted src _ (s .short) (omega (arith, l .onward, l .inside))
       go false e = spotted-first src
 
+-- Storing and loading back answer at the source's begin.
+module _ (src : List ℕ) where
+  pub store-spotted : (s : Storing) → AnswerSpotted src (storingNumbers s)
+  store-spotted (StoredBlocks n) = spotted-first src
+  store-spotted UnknownKind = spotted-first src
+  store-spotted StoringUnsound = spotted-first src
+  store-spotted NoBlocks = spotted-first src
+
+  pub restore-spotted : (r : Restoring) → AnswerSpotted src (restoringNumbers r)
+  restore-spotted AllRestored = spotted-first src
+  restore-spotted NotWhole = spotted-first src
+  restore-spotted BadNumber = spotted-first src
+  restore-spotted BadCheck = spotted-first src
+  restore-spotted BadContent = spotted-first src
+  restore-spotted BadSizes = spotted-first src
+  restore-spotted (NoSpace k) = spotted-first src
+  restore-spotted RestoringUnsound = spotted-first src
+
 -- ---- by the cells of the C names' arrays
 
 cells-spotted : (src l : List ℕ) (k n i : ℕ) (p : Spot) → length l ≡ n → getD (l ++ spotCells p) k 0 ≡ i → Spotted src i p → CellsSpotted src (l ++ spotCells p) k n
@@ -224,6 +248,12 @@ valuation-five PastCount = refl
 valuation-five NotString = refl
 valuation-five NoTextRoom = refl
 
+storing-five : (s : Storing) → length (storingNumbers s) ≡ 5
+storing-five (StoredBlocks n) = refl
+storing-five UnknownKind = refl
+storing-five StoringUnsound = refl
+storing-five NoBlocks = refl
+
 -- Load's,
 pub face-load-spotted : (src : List ℕ) (kind : ℕ) (T : AllTables) (X : Indexes) → CellsSpotted src (loadFace src kind T X .answer) 1 41
 unfolding loadingCells
@@ -241,7 +271,7 @@ face-load-spotted src kind T X =
     front = let a = length-append (judgementNumbers (o .answer)) (countsCells (o .counts)) in omega (arith, a, four)
 
     read : length (loadingNumbers o) ≡ 38
-    read = let a = length-append (judgementNumbers (o .answer) ++ countsCells (o .counts)) (singlesCells (o .singles)) in omega (arith, a, front, singles-length (o .singles))
+    read = loading-length o
 
     long : length (loadingNumbers o ++ posixCells (o .posix)) ≡ 41
     long = let a = length-append (loadingNumbers o) (posixCells (o .posix)) in omega (arith, a, read)
@@ -293,3 +323,7 @@ module _ (src m : List ℕ) (T : Tables) (X : Indexes) where
 
   pub face-name-spotted : (table row : ℕ) → CellsSpotted src (nameFace src m T X table row) 0 2
   face-name-spotted table row = name-spotted src (countsOf m) (singlesOf m) T X table row
+
+-- Storing's; that of loading back is `face-restore-spotted`.
+pub face-store-spotted : (src : List ℕ) (kind : ℕ) (m : List ℕ) (T : AllTables) (X : Indexes) (out : List ℕ) → CellsSpotted src (storeFace src kind m T X out .answer) 1 6
+face-store-spotted src kind m T X out = let a = storeAll src kind (countsOf m) (posixOf m) (singlesOf m) T X out .answer in counted-spotted src (storingNumbers a) (storing-five a) (store-spotted src a)

@@ -27,8 +27,8 @@ use Rattle.walks.specs.Walk.{Advanced}
 use Rattle.walks.specs.Sequence.{FreshCalls, standsBehind}
 use Rattle.walks.proofs.Once.{next-one}
 use Rattle.walks.proofs.Theorems.{walk-gives, walk-ends, walk-stands}
-use Rattle.singles.specs.Singles.{singlesOf}
-use Rattle.quiltrudder.specs.Face.{countsOf, listingCells, ReportFace, markingCells, MarkFace, standingOf, standingCells, nextCells, NextFace, FreshFaces}
+use Rattle.singles.specs.Singles.{singlesOf, countsOf}
+use Rattle.quiltrudder.specs.Face.{listingCells, ReportFace, markingCells, MarkFace, standingOf, standingCells, nextCells, NextFace, FreshFaces}
 
 -- the number 0 of a marking
 marking-0 : (src : List ℕ) (k : Marking) → getD (markingCells src k) 0 0 ≡ 0 → k ≡ AllMarked

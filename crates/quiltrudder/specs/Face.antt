@@ -1,24 +1,25 @@
 -- The C names' numbers: the same operations over numbers and slices alone, each with its answer written as 32-bit numbers into a lent array of fixed size.
-use Prim.Native.Nat.{ℕ, suc, _+_, _*_, _/_, _%_, _≤_, _<_, _^_}
+use Prim.Native.Nat.{ℕ, suc, _+_, _*_, _/_, _%_, _-_, _≤_, _<_, _^_}
 use mathlib.Core.Path.{_≡_}
 use mathlib.Core.Bool.{true, false}
 use mathlib.Core.List.{List, [], _∷_, _++_}
 use mathlib.Core.Logic.{_⊎_}
 use lib.Dec.{eqb}
-use lib.ListN.{getD, take}
+use lib.ListN.{length, getD, take, replicate}
 use Rattle.scan.specs.declared.Place.{Place}
 use Rattle.tables.specs.Table.{put}
 use Rattle.places.specs.declared.Spot.{Spot}
 use Rattle.places.specs.Places.{Spotted, spotAt}
 use Rattle.grammar.specs.declared.Counts.{Counts}
-use Rattle.grammar.specs.declared.PosixCounts.{PosixCounts}
 use Rattle.grammar.specs.declared.Singles.{Singles}
 use Rattle.catalogue.specs.declared.Head.{Head}
-use Rattle.storing.specs.Storing.{StoreResult, storingNumbers, stored}
+use Rattle.catalogue.specs.Catalogue.{cellsAt}
+use Rattle.storing.specs.Storing.{StoreResult, storingNumbers, storeAll}
 use Rattle.restoring.specs.declared.Restoring.{Restoring}
-use Rattle.restoring.specs.Restoring.{Restored, restoringNumbers, restored}
-use Rattle.singles.specs.Singles.{singlesCells, countsCells, posixCells, singlesOf}
-use Rattle.grammar.specs.Sound.{Tables, AllTables, Indexes}
+use Rattle.restoring.specs.Restoring.{Restored, restoringNumbers, enteredIndexes, restored}
+use Rattle.singles.specs.Singles.{singlesCells, countsCells, posixCells, singlesOf, countsOf, posixOf}
+use Rattle.numbers.specs.Numbers.{answerSpot}
+use Rattle.grammar.specs.Sound.{Tables, AllTables, Indexes, cellsOf}
 use Rattle.loading.specs.declared.Judgement.{Judgement}
 use Rattle.loading.specs.Load.{judgementNumbers, LoadResult, loadAll}
 use Rattle.sound.specs.Test.{soundTest}
@@ -47,18 +48,10 @@ halves v = v % 4294967296 ∷ v / 4294967296 ∷ []
 
 -- ---- line and column
 
--- "a line and a byte column, both from 1, with the start of every answer's place" (document 02, request Ten): of an answer whose numbers begin with its number and its place
-abbrev pub answerSpot : List ℕ → List ℕ → Spot
-answerSpot src told = spotAt src (getD told 1 0)
-
 abbrev pub spotCells : Spot → List ℕ
 spotCells s = s .line ∷ s .column ∷ []
 
--- they are what the lines of the source say, without a scan: of an answer's numbers,
-abbrev pub AnswerSpotted : List ℕ → List ℕ → Type 0
-AnswerSpotted src told = Spotted src (getD told 1 0) (answerSpot src told)
-
--- and of an array whose place starts in cell k, with line and column in the cells n and n + 1
+-- they are what the lines of the source say, without a scan: of an array whose place starts in cell k, with line and column in the cells n and n + 1 (of an answer's numbers it is `AnswerSpotted`)
 abbrev pub CellsSpotted : List ℕ → List ℕ → ℕ → ℕ → Type 0
 CellsSpotted src a k n = Spotted src (getD a k 0) (record { line = getD a n 0; column = getD a (n + 1) 0 })
 
@@ -87,13 +80,6 @@ loadFace src kind T X = loadFaceOf src (loadAll src kind T X)
 -- "0 accepted", or "20 Precedence, [..] 27 EPP repeated", or validation's 30 to 35: the numbers after which "all tables hold the full reading"
 abbrev pub FullNumber : ℕ → Type 0
 FullNumber n = (n ≡ 0) ⊎ (((20 ≤ n) × (n ≤ 27)) ⊎ ((30 ≤ n) × (n ≤ 35)))
-
--- ---- what the others take: such an array, of which the counts and singles alone are looked at
-
--- the numbers behind number, place and table
-abbrev pub countsOf : List ℕ → Counts
-countsOf m =
-    record { n = getD m 4 0 ∷ getD m 5 0 ∷ getD m 6 0 ∷ getD m 7 0 ∷ getD m 8 0 ∷ getD m 9 0 ∷ getD m 10 0 ∷ getD m 11 0 ∷ getD m 12 0 ∷ getD m 13 0 ∷ [] }
 
 -- ---- what the others answer
 
@@ -229,12 +215,8 @@ pub record StoreFace : Type 0 where
 abbrev pub storeFaceOf : List ℕ → StoreResult → StoreFace
 storeFaceOf src o = record { answer = countedCells src (storingNumbers (o .answer)); blocks = o .blocks }
 
--- the three counts among a reading's numbers
-abbrev pub posixOf : List ℕ → PosixCounts
-posixOf m = record { n = getD m 38 0 ∷ getD m 39 0 ∷ getD m 40 0 ∷ [] }
-
 abbrev pub storeFace : List ℕ → ℕ → List ℕ → AllTables → Indexes → List ℕ → StoreFace
-storeFace src kind m T X out = storeFaceOf src (stored src kind (countsOf m) (posixOf m) (singlesOf m) T X out)
+storeFace src kind m T X out = storeFaceOf src (storeAll src kind (countsOf m) (posixOf m) (singlesOf m) T X out)
 
 -- loading back: a reading's numbers as load gives them, and behind them the kind and the source's length. Every place is 0 to 0, at line 1 and column 1.
 abbrev pub restoringCells : Restoring → Head → List ℕ
@@ -251,3 +233,16 @@ restoreFaceOf o = record { answer = restoringCells (o .answer) (o .head); source
 
 abbrev pub restoreFace : List ℕ → List ℕ → AllTables → Indexes → RestoreFace
 restoreFace s S T X = restoreFaceOf (restored s S T X)
+
+-- "Loading those blocks [..] gives back the same tables and source and fills the indexes", in the C names' numbers: o is what loading left in a lent source S, lent tables T₀ and lent indexes X₀ of a reading with the numbers
+-- m and the tables T. Counts and singles stand where the other C names look for them.
+pub record BackFace (src : List ℕ) (kind : ℕ) (m : List ℕ) (T : AllTables) (S : List ℕ) (T₀ : AllTables) (X₀ : Indexes) (o : RestoreFace) : Type 0 where
+  pub number : getD (o .answer) 0 0 ≡ 0
+  pub counts : countsOf (o .answer) ≡ countsOf m
+  pub singles : singlesOf (o .answer) ≡ singlesOf m
+  pub posix : posixOf (o .answer) ≡ posixOf m
+  pub kind-is : getD (o .answer) 43 0 ≡ kind
+  pub length-is : getD (o .answer) 44 0 ≡ length src
+  pub source : o .source ≡ src ++ replicate (length S - length src) 0
+  pub tables : (k : ℕ) → k < 13 → cellsOf (o .tables) k ≡ take (cellsAt (countsOf m) (posixOf m) k) (cellsOf T k) ++ replicate (length (cellsOf T₀ k) - cellsAt (countsOf m) (posixOf m) k) 0
+  pub indexes : o .indexes ≡ enteredIndexes src (countsOf m) (o .tables) (length (X₀ .tokens)) (length (X₀ .rules))

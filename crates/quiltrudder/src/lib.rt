@@ -1,5 +1,5 @@
 // Quiltrudder's operations: loading a Yacc specification (it is read, and what was read is validated), validating tables from elsewhere, the list of all faults, the unused report, its marking by itself,
-// the unused rows one by one, pruning, the name of a row and the value of an `%epp` row, each with line and column of its answer's place, and line and column of any place. None of them requires anything.
+// the unused rows one by one, pruning, a reading in the catalogue's blocks and back, the name of a row and the value of an `%epp` row, each with line and column of its answer's place, and line and column of any place. None of them requires anything.
 use grammar::Counts;
 use grammar::PosixCounts;
 use grammar::Singles;
@@ -7,7 +7,9 @@ use grammar::Told;
 use loading::Judgement;
 use places::Spot;
 use pruning::Pruning;
+use restoring::Restoring;
 use restoring::StoredReading;
+use storing::Storing;
 use usage::Listing;
 use usage::Marking;
 use validation::FaultListing;
@@ -18,24 +20,23 @@ use walks::NextAt;
 use walks::Standing;
 // The next unused row, with the record of where the walk stands moved on in place.
 pub use walks::next_unused;
-// A reading into the catalogue's blocks, and back.
-pub use restoring::load_stored;
-pub use storing::store;
 ghost use mathlib.Core.Path.{_≡_};
-ghost use mathlib.Core.List.{List, _++_};
+ghost use mathlib.Core.List.{_++_};
 ghost use Rattle.grammar.specs.Sound.{Tables};
 ghost use Rattle.places.specs.Places.{spotAt};
 ghost use Rattle.loading.specs.Load.{judgementNumbers, LoadResult, loadAll};
 ghost use Rattle.validation.specs.Faults.{validityNumbers, validity};
 ghost use Rattle.validation.specs.Walk.{AllFaults, faultListing, faultListingNumbers};
 ghost use Rattle.usage.specs.Report.{listingNumbers, markingNumbers, Reported, MarkedBits};
-ghost use Rattle.pruning.specs.Pruned.{Lent, pruningNumbers, Prunings};
+ghost use Rattle.pruning.specs.Pruned.{pruningNumbers, Prunings};
 ghost use Rattle.walks.specs.Walk.{nextNumbers};
+ghost use Rattle.storing.specs.Storing.{StoreResult, storingNumbers, storeAll};
+ghost use Rattle.restoring.specs.Restoring.{Restored, restoringNumbers, restored};
 ghost use Rattle.names.specs.Name.{nameOf};
 ghost use Rattle.values.specs.Value.{valuationNumbers, Valued, eppValue};
-ghost use Rattle.numbers.specs.Numbers.{toldNumbers};
+ghost use Rattle.numbers.specs.Numbers.{toldNumbers, answerSpot};
 ghost use Rattle.singles.specs.Singles.{posixCells};
-ghost use Rattle.quiltrudder.specs.Face.{halves, answerSpot, spotCells, loadingCells, LoadFace, loadFace, countsOf, validateFace, FaultsFace, faultsFace, ReportFace, MarkFace, NextFace, readingAfter, PruneFace, nameAt, nameCells, nameFace, ValueFace, valueFace, StoreFace, storeFace, posixOf, restoringCells, RestoreFace, restoreFace};
+ghost use Rattle.quiltrudder.specs.Face.{halves, spotCells, loadingCells, LoadFace, loadFace, validateFace, FaultsFace, faultsFace, ReportFace, MarkFace, NextFace, readingAfter, PruneFace, nameAt, nameCells, nameFace, ValueFace, valueFace, StoreFace, storeFace, restoringCells, RestoreFace, restoreFace};
 
 // A load's answer, its counts and singles, and line and column of the answer's place.
 pub struct LoadingAt {
@@ -79,19 +80,27 @@ pub struct ValuationAt {
     pub spot: Spot,
 }
 
+pub struct StoringAt {
+    pub answer: Storing,
+    pub spot: Spot,
+}
+
+// Loading back answers what a load does, and the kind and the source's length, which a load was given.
+pub struct RestoringAt {
+    pub answer: Restoring,
+    pub kind: u32,
+    pub counts: Counts,
+    pub posix: PosixCounts,
+    pub singles: Singles,
+    pub length: u32,
+    pub spot: Spot,
+}
+
 // Line and column of a place in a source, both from 1; past the source's end those of its end.
 pub fn locate(src: &[u8], at: u32) -> Spot
     ensures { λ r. ⌜ r ≡ spotAt (now (src .entry)) at ⌝ }
 {
     places::locate(src, at)
-}
-
-// Line and column of the start of an answer's place.
-fn spot_of(src: &[u8], t: Told) -> Spot
-    ensures { λ r. ⌜ r ≡ answerSpot (now (src .entry)) (toldNumbers t) ⌝ }
-{
-    let from = t.from;
-    places::locate(src, from)
 }
 
 // Reads a source of kind 1, 2, 3 or 4 into the lent tables and, where that is accepted, validates what was read.
@@ -145,7 +154,7 @@ pub fn load(
         counts,
         posix,
         singles,
-        spot: spot_of(src, numbers::of_judgement(answer)),
+        spot: numbers::spot_of(src, numbers::of_judgement(answer)),
     }
 }
 
@@ -170,10 +179,10 @@ pub fn validate(
     ensures { λ r. ⌜ r .answer ≡ validity (now (src .entry)) c g (record { t1 = now (t1 .entry); t2 = now (t2 .entry); t3 = now (t3 .entry); t4 = now (t4 .entry); t5 = now (t5 .entry); t6 = now (t6 .entry); t7 = now (t7 .entry); t8 = now (t8 .entry); t9 = now (t9 .entry); t10 = now (t10 .entry) }) (record { tokens = now (i1 .entry); rules = now (i7 .entry) }) ⌝ }
     ensures { λ r. ⌜ r .spot ≡ answerSpot (now (src .entry)) (validityNumbers (r .answer)) ⌝ }
 {
-    let answer = validation::validate(src, c, g, t1, t2, t3, t4, t5, t6, t7, t8, t9, t10, i1, i7);
+    let answer = validator::validate(src, c, g, t1, t2, t3, t4, t5, t6, t7, t8, t9, t10, i1, i7);
     ValidityAt {
         answer,
-        spot: spot_of(src, numbers::of_validity(answer)),
+        spot: numbers::spot_of(src, numbers::of_validity(answer)),
     }
 }
 
@@ -199,7 +208,7 @@ pub fn faults(
     ensures { λ r. ⌜ _≡_ {A = AllFaults} (record { answer = r .answer; cells = now (t14 .exit) }) (faultListing (now (src .entry)) c g (record { t1 = now (t1 .entry); t2 = now (t2 .entry); t3 = now (t3 .entry); t4 = now (t4 .entry); t5 = now (t5 .entry); t6 = now (t6 .entry); t7 = now (t7 .entry); t8 = now (t8 .entry); t9 = now (t9 .entry); t10 = now (t10 .entry) }) (record { tokens = now (i1 .entry); rules = now (i7 .entry) }) (now (t14 .entry))) ⌝ }
     ensures { λ r. ⌜ r .spot ≡ answerSpot (now (src .entry)) (faultListingNumbers (r .answer)) ⌝ }
 {
-    let answer = validation::faults(
+    let answer = validator::faults(
         src,
         c,
         g,
@@ -219,7 +228,7 @@ pub fn faults(
     );
     FaultListingAt {
         answer,
-        spot: spot_of(src, numbers::of_fault_listing(answer)),
+        spot: numbers::spot_of(src, numbers::of_fault_listing(answer)),
     }
 }
 
@@ -267,7 +276,7 @@ pub fn report(
     );
     ListingAt {
         answer,
-        spot: spot_of(src, numbers::of_listing(answer)),
+        spot: numbers::spot_of(src, numbers::of_listing(answer)),
     }
 }
 
@@ -313,7 +322,7 @@ pub fn mark(
     );
     MarkingAt {
         answer,
-        spot: spot_of(src, numbers::of_marking(answer)),
+        spot: numbers::spot_of(src, numbers::of_marking(answer)),
     }
 }
 
@@ -362,7 +371,120 @@ pub fn prune(
     PruningAt {
         answer,
         counts,
-        spot: spot_of(src, numbers::of_pruning(answer)),
+        spot: numbers::spot_of(src, numbers::of_pruning(answer)),
+    }
+}
+
+// Writes a reading of kind 1 to 4 and its source into the catalogue's blocks (docs/FORMAT.md); behind them `blocks` is zero.
+pub fn store(
+    src: &[u8],
+    kind: u32,
+    c: Counts,
+    p: PosixCounts,
+    g: Singles,
+    t1: &[u32],
+    t2: &[u32],
+    t3: &[u32],
+    t4: &[u32],
+    t5: &[u32],
+    t6: &[u32],
+    t7: &[u32],
+    t8: &[u32],
+    t9: &[u32],
+    t10: &[u32],
+    i1: &[u32],
+    i7: &[u32],
+    t15: &[u32],
+    t16: &[u32],
+    t17: &[u32],
+    blocks: &mut [u8],
+) -> StoringAt
+    ensures { λ r. ⌜ _≡_ {A = StoreResult} (record { answer = r .answer; blocks = now (blocks .exit) }) (storeAll (now (src .entry)) kind c p g (record { t1 = now (t1 .entry); t2 = now (t2 .entry); t3 = now (t3 .entry); t4 = now (t4 .entry); t5 = now (t5 .entry); t6 = now (t6 .entry); t7 = now (t7 .entry); t8 = now (t8 .entry); t9 = now (t9 .entry); t10 = now (t10 .entry); t15 = now (t15 .entry); t16 = now (t16 .entry); t17 = now (t17 .entry) }) (record { tokens = now (i1 .entry); rules = now (i7 .entry) }) (now (blocks .entry))) ⌝ }
+    ensures { λ r. ⌜ r .spot ≡ answerSpot (now (src .entry)) (storingNumbers (r .answer)) ⌝ }
+{
+    let answer = storing::store(
+        src,
+        kind,
+        c,
+        p,
+        g,
+        t1,
+        t2,
+        t3,
+        t4,
+        t5,
+        t6,
+        t7,
+        t8,
+        t9,
+        t10,
+        i1,
+        i7,
+        t15,
+        t16,
+        t17,
+        blocks,
+    );
+    StoringAt {
+        answer,
+        spot: numbers::spot_of(src, numbers::of_storing(answer)),
+    }
+}
+
+// Reads a reading back from blocks, whatever the lent memory held; behind the rows and the source it is zero.
+pub fn load_stored(
+    blocks: &[u8],
+    src: &mut [u8],
+    t1: &mut [u32],
+    t2: &mut [u32],
+    t3: &mut [u32],
+    t4: &mut [u32],
+    t5: &mut [u32],
+    t6: &mut [u32],
+    t7: &mut [u32],
+    t8: &mut [u32],
+    t9: &mut [u32],
+    t10: &mut [u32],
+    i1: &mut [u32],
+    i7: &mut [u32],
+    t15: &mut [u32],
+    t16: &mut [u32],
+    t17: &mut [u32],
+) -> RestoringAt
+    ensures { λ r. ⌜ _≡_ {A = Restored} (record { answer = r .answer; head = record { kind = r .kind; counts = r .counts; posix = r .posix; length = r .length; singles = r .singles }; source = now (src .exit); tables = record { t1 = now (t1 .exit); t2 = now (t2 .exit); t3 = now (t3 .exit); t4 = now (t4 .exit); t5 = now (t5 .exit); t6 = now (t6 .exit); t7 = now (t7 .exit); t8 = now (t8 .exit); t9 = now (t9 .exit); t10 = now (t10 .exit); t15 = now (t15 .exit); t16 = now (t16 .exit); t17 = now (t17 .exit) }; indexes = record { tokens = now (i1 .exit); rules = now (i7 .exit) } }) (restored (now (blocks .entry)) (now (src .entry)) (record { t1 = now (t1 .entry); t2 = now (t2 .entry); t3 = now (t3 .entry); t4 = now (t4 .entry); t5 = now (t5 .entry); t6 = now (t6 .entry); t7 = now (t7 .entry); t8 = now (t8 .entry); t9 = now (t9 .entry); t10 = now (t10 .entry); t15 = now (t15 .entry); t16 = now (t16 .entry); t17 = now (t17 .entry) }) (record { tokens = now (i1 .entry); rules = now (i7 .entry) })) ⌝ }
+    ensures { λ r. ⌜ r .spot ≡ answerSpot (now (src .exit)) (restoringNumbers (r .answer)) ⌝ }
+{
+    let r = restoring::load_stored(
+        blocks,
+        src,
+        t1,
+        t2,
+        t3,
+        t4,
+        t5,
+        t6,
+        t7,
+        t8,
+        t9,
+        t10,
+        i1,
+        i7,
+        t15,
+        t16,
+        t17,
+    );
+    let answer = r.answer;
+    let counts = r.counts;
+    let posix = r.posix;
+    let singles = r.singles;
+    RestoringAt {
+        answer,
+        kind: r.kind,
+        counts,
+        posix,
+        singles,
+        length: r.length,
+        spot: numbers::spot_of(src, numbers::of_restoring(answer)),
     }
 }
 
@@ -453,7 +575,7 @@ pub fn epp_value(
     );
     ValuationAt {
         answer,
-        spot: spot_of(src, numbers::of_valuation(answer)),
+        spot: numbers::spot_of(src, numbers::of_valuation(answer)),
     }
 }
 
@@ -485,26 +607,6 @@ fn loading_cells(j: Judgement, c: Counts, p: PosixCounts, g: Singles, s: Spot) -
     singles::put_cells(&mut m, 38, &posix);
     singles::put_cells(&mut m, 41, &spot);
     m
-}
-
-// The ten counts of a reading's numbers.
-fn counts_of(m: &[u32; 43]) -> Counts
-    ensures { λ r. ⌜ r ≡ countsOf (now (m .entry)) ⌝ }
-{
-    Counts {
-        n: [
-            m[4],
-            m[5],
-            m[6],
-            m[7],
-            m[8],
-            m[9],
-            m[10],
-            m[11],
-            m[12],
-            m[13],
-        ],
-    }
 }
 
 // Number, place and table, a count by its low and high half, line and column.
@@ -639,7 +741,7 @@ pub extern "C" fn quiltrudder_validate(
 )
     ensures { λ r. ⌜ now (answer .exit) ≡ validateFace (now (src .entry)) (now (reading .entry)) (record { t1 = now (t1 .entry); t2 = now (t2 .entry); t3 = now (t3 .entry); t4 = now (t4 .entry); t5 = now (t5 .entry); t6 = now (t6 .entry); t7 = now (t7 .entry); t8 = now (t8 .entry); t9 = now (t9 .entry); t10 = now (t10 .entry) }) (record { tokens = now (i1 .entry); rules = now (i7 .entry) }) ⌝ }
 {
-    let c = counts_of(reading);
+    let c = singles::counts_of(reading);
     let g = singles::singles_of(reading);
     let v = validate(src, c, g, t1, t2, t3, t4, t5, t6, t7, t8, t9, t10, i1, i7);
     let a = v.answer;
@@ -670,7 +772,7 @@ pub extern "C" fn quiltrudder_faults(
 )
     ensures { λ r. ⌜ _≡_ {A = FaultsFace} (record { answer = now (answer .exit); cells = now (t14 .exit) }) (faultsFace (now (src .entry)) (now (reading .entry)) (record { t1 = now (t1 .entry); t2 = now (t2 .entry); t3 = now (t3 .entry); t4 = now (t4 .entry); t5 = now (t5 .entry); t6 = now (t6 .entry); t7 = now (t7 .entry); t8 = now (t8 .entry); t9 = now (t9 .entry); t10 = now (t10 .entry) }) (record { tokens = now (i1 .entry); rules = now (i7 .entry) }) (now (t14 .entry))) ⌝ }
 {
-    let c = counts_of(reading);
+    let c = singles::counts_of(reading);
     let g = singles::singles_of(reading);
     let l = faults(
         src,
@@ -718,7 +820,7 @@ pub extern "C" fn quiltrudder_report(
 )
     ensures { λ r. ⌜ ReportFace (now (src .entry)) (now (reading .entry)) (record { t1 = now (t1 .entry); t2 = now (t2 .entry); t3 = now (t3 .entry); t4 = now (t4 .entry); t5 = now (t5 .entry); t6 = now (t6 .entry); t7 = now (t7 .entry); t8 = now (t8 .entry); t9 = now (t9 .entry); t10 = now (t10 .entry) }) (record { tokens = now (i1 .entry); rules = now (i7 .entry) }) (now (work .entry)) (now (work .exit)) (now (out .entry)) (now (out .exit)) (now (answer .exit)) ⌝ }
 {
-    let c = counts_of(reading);
+    let c = singles::counts_of(reading);
     let g = singles::singles_of(reading);
     let l = report(
         src,
@@ -766,7 +868,7 @@ pub extern "C" fn quiltrudder_mark(
 )
     ensures { λ r. ⌜ MarkFace (now (src .entry)) (now (reading .entry)) (record { t1 = now (t1 .entry); t2 = now (t2 .entry); t3 = now (t3 .entry); t4 = now (t4 .entry); t5 = now (t5 .entry); t6 = now (t6 .entry); t7 = now (t7 .entry); t8 = now (t8 .entry); t9 = now (t9 .entry); t10 = now (t10 .entry) }) (record { tokens = now (i1 .entry); rules = now (i7 .entry) }) (now (work .entry)) (now (work .exit)) (now (answer .exit)) ⌝ }
 {
-    let c = counts_of(reading);
+    let c = singles::counts_of(reading);
     let g = singles::singles_of(reading);
     let l = mark(
         src,
@@ -815,7 +917,7 @@ pub extern "C" fn quiltrudder_next_unused(
 )
     ensures { λ r. ⌜ NextFace (now (src .entry)) (now (reading .entry)) (record { t1 = now (t1 .entry); t2 = now (t2 .entry); t3 = now (t3 .entry); t4 = now (t4 .entry); t5 = now (t5 .entry); t6 = now (t6 .entry); t7 = now (t7 .entry); t8 = now (t8 .entry); t9 = now (t9 .entry); t10 = now (t10 .entry) }) (record { tokens = now (i1 .entry); rules = now (i7 .entry) }) (now (work .entry)) (now (at .entry)) (now (at .exit)) (now (answer .exit)) ⌝ }
 {
-    let c = counts_of(reading);
+    let c = singles::counts_of(reading);
     let g = singles::singles_of(reading);
     let before = Standing {
         rules: at[0],
@@ -893,7 +995,7 @@ pub extern "C" fn quiltrudder_prune(
 )
     ensures { λ r. ⌜ PruneFace (now (src .entry)) (now (reading .entry)) (now (reading .exit)) (record { t1 = now (t1 .entry); t2 = now (t2 .entry); t3 = now (t3 .entry); t4 = now (t4 .entry); t5 = now (t5 .entry); t6 = now (t6 .entry); t7 = now (t7 .entry); t8 = now (t8 .entry); t9 = now (t9 .entry); t10 = now (t10 .entry) }) (record { t1 = now (t1 .exit); t2 = now (t2 .entry); t3 = now (t3 .exit); t4 = now (t4 .entry); t5 = now (t5 .exit); t6 = now (t6 .entry); t7 = now (t7 .exit); t8 = now (t8 .exit); t9 = now (t9 .exit); t10 = now (t10 .entry) }) (record { tokens = now (i1 .entry); rules = now (i7 .entry) }) (record { tokens = now (i1 .exit); rules = now (i7 .exit) }) (now (work .entry)) (now (work .exit)) (now (answer .exit)) ⌝ }
 {
-    let c = counts_of(reading);
+    let c = singles::counts_of(reading);
     let g = singles::singles_of(reading);
     let l = prune(
         src,
@@ -944,7 +1046,7 @@ pub extern "C" fn quiltrudder_name(
 )
     ensures { λ r. ⌜ now (answer .exit) ≡ nameFace (now (src .entry)) (now (reading .entry)) (record { t1 = now (t1 .entry); t2 = now (t2 .entry); t3 = now (t3 .entry); t4 = now (t4 .entry); t5 = now (t5 .entry); t6 = now (t6 .entry); t7 = now (t7 .entry); t8 = now (t8 .entry); t9 = now (t9 .entry); t10 = now (t10 .entry) }) (record { tokens = now (i1 .entry); rules = now (i7 .entry) }) table row ⌝ }
 {
-    let c = counts_of(reading);
+    let c = singles::counts_of(reading);
     let g = singles::singles_of(reading);
     *answer = name_cells(
         src,
@@ -990,7 +1092,7 @@ pub extern "C" fn quiltrudder_epp_value(
 )
     ensures { λ r. ⌜ _≡_ {A = ValueFace} (record { answer = now (answer .exit); out = now (out .exit) }) (valueFace (now (src .entry)) (now (reading .entry)) (record { t1 = now (t1 .entry); t2 = now (t2 .entry); t3 = now (t3 .entry); t4 = now (t4 .entry); t5 = now (t5 .entry); t6 = now (t6 .entry); t7 = now (t7 .entry); t8 = now (t8 .entry); t9 = now (t9 .entry); t10 = now (t10 .entry) }) (record { tokens = now (i1 .entry); rules = now (i7 .entry) }) row (now (out .entry))) ⌝ }
 {
-    let c = counts_of(reading);
+    let c = singles::counts_of(reading);
     let g = singles::singles_of(reading);
     let v = epp_value(
         src,
@@ -1025,15 +1127,6 @@ pub extern "C" fn quiltrudder_locate(src: &[u8], at: u32, answer: &mut [u32; 2])
     *answer = [s.line, s.column];
 }
 
-// The counts of kind 4's tables among a reading's numbers.
-fn posix_of(m: &[u32; 43]) -> PosixCounts
-    ensures { λ r. ⌜ r ≡ posixOf (now (m .entry)) ⌝ }
-{
-    PosixCounts {
-        n: [m[38], m[39], m[40]],
-    }
-}
-
 // Writes a reading into blocks; its answer is number, place, table, how many blocks there are (low and high half), line and column.
 #[no_mangle]
 pub extern "C" fn quiltrudder_store(
@@ -1060,8 +1153,8 @@ pub extern "C" fn quiltrudder_store(
 )
     ensures { λ r. ⌜ _≡_ {A = StoreFace} (record { answer = now (answer .exit); blocks = now (blocks .exit) }) (storeFace (now (src .entry)) kind (now (reading .entry)) (record { t1 = now (t1 .entry); t2 = now (t2 .entry); t3 = now (t3 .entry); t4 = now (t4 .entry); t5 = now (t5 .entry); t6 = now (t6 .entry); t7 = now (t7 .entry); t8 = now (t8 .entry); t9 = now (t9 .entry); t10 = now (t10 .entry); t15 = now (t15 .entry); t16 = now (t16 .entry); t17 = now (t17 .entry) }) (record { tokens = now (i1 .entry); rules = now (i7 .entry) }) (now (blocks .entry))) ⌝ }
 {
-    let c = counts_of(reading);
-    let p = posix_of(reading);
+    let c = singles::counts_of(reading);
+    let p = singles::posix_of(reading);
     let g = singles::singles_of(reading);
     let r = storing::store(
         src,
@@ -1088,7 +1181,7 @@ pub extern "C" fn quiltrudder_store(
     );
     let t = numbers::of_storing(r);
     let n = numbers::stored_blocks(r);
-    *answer = counted_cells(t, n, spot_of(src, t));
+    *answer = counted_cells(t, n, numbers::spot_of(src, t));
 }
 
 // What loading back answers: a reading's numbers, and behind them the kind and the source's length.

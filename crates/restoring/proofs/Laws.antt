@@ -27,7 +27,7 @@ use Rattle.catalogue.proofs.Room.{short-none, filled-iff}
 use Rattle.reader.proofs.Laws.{zeroed-again}
 use Rattle.restoring.specs.declared.Restoring.{Restoring}
 use Rattle.restoring.specs.declared.Restoring.the-variants.{AllRestored, RestoringUnsound}
-use Rattle.restoring.specs.Restoring.{Restored, noHead, clearIndexes, clearedOut, filledTable, filledTables, filledSource, enteredIndexes, Tested, keptIf, filledIn, restoredAs, restored}
+use Rattle.restoring.specs.Restoring.{Restored, noHead, clearIndexes, clearedOut, filledTable, filledTables, filledSource, enteredIndexes, Tested, keptIf, filledFrom, restoredAs, restored}
 
 -- ---- where rows lie
 
@@ -181,16 +181,16 @@ module _ (b : List ℕ) (h : Head) (S : List ℕ) (T : AllTables) (X : Indexes) 
       let x = enteredIndexes src (h .counts) u (length (X .tokens)) (length (X .rules)) in
       keptIf (soundReading src (h .counts) (h .posix) (h .singles) u x) h s u x
 
-  as-tested : keptIf ok h S' T' X' ≡ filledIn b h S T X
-  unfolding filledIn
+  as-tested : keptIf ok h S' T' X' ≡ filledFrom b h S T X
+  unfolding filledFrom
   as-tested =
       let x = enteredIndexes (take (h .length) S') (h .counts) T' (length (X .tokens)) (length (X .rules)) in
       ap (λ (q : Bool). keptIf q h S' T' X') (t .sound) ∙ ap (λ (y : Indexes). keptIf (soundReading (take (h .length) S') (h .counts) (h .posix) (h .singles) T' x) h S' T' y) (t .indexes) ∙ ap (λ (s : List ℕ). asTested s T') hS ∙ ap (λ (u : AllTables). asTested (filledSource b (h .counts) (h .posix) (h .length) S) u) hT
 
-  pub stays : ok ≡ true → record { answer = AllRestored; head = h; source = S'; tables = T'; indexes = X' } ≡ filledIn b h S T X
+  pub stays : ok ≡ true → record { answer = AllRestored; head = h; source = S'; tables = T'; indexes = X' } ≡ filledFrom b h S T X
   stays e = ap (λ (q : Bool). keptIf q h S' T' X') (sym e) ∙ as-tested
 
-  pub goes : ok ≡ false → (o : Restored) → o ≡ clearedOut RestoringUnsound S' T' X' → o ≡ filledIn b h S T X
+  pub goes : ok ≡ false → (o : Restored) → o ≡ clearedOut RestoringUnsound S' T' X' → o ≡ filledFrom b h S T X
   goes e o f = f ∙ ap (λ (q : Bool). keptIf q h S' T' X') (sym e) ∙ as-tested
 
 -- ---- what is cleared
@@ -262,7 +262,7 @@ module _ (S : List ℕ) (T : AllTables) (X : Indexes) (S' : List ℕ) (Z : AllTa
             let w : Fits s (lengthsOf Z) (length S') h = rw hh holds in
             (w .source, λ k d. rw (lengths-at Z k) at (w .tables k d), w .content, zeroed-again S S' (z .0), zeroed-again (X .tokens) (Y .tokens) (z .1), zeroed-again (X .rules) (Y .rules) (z .2))
 
-        pub restored-filled : (o : Restored) → o ≡ filledIn (contentOf s) h S' Z Y → o ≡ restored s S T X
+        pub restored-filled : (o : Restored) → o ≡ filledFrom (contentOf s) h S' Z Y → o ≡ restored s S T X
         restored-filled o r =
             restored-as Holds o e
-            (r ∙ ap (λ (x : Head). filledIn (contentOf s) x S' Z Y) hh ∙ ap (λ (x : List ℕ). filledIn (contentOf s) (headIn s) x Z Y) (z .0) ∙ ap (λ (x : AllTables). filledIn (contentOf s) (headIn s) (zeroed S) x Y) tables-cleared ∙ ap (λ (x : Indexes). filledIn (contentOf s) (headIn s) (zeroed S) (zeroAll T) x) indexes-cleared)
+            (r ∙ ap (λ (x : Head). filledFrom (contentOf s) x S' Z Y) hh ∙ ap (λ (x : List ℕ). filledFrom (contentOf s) (headIn s) x Z Y) (z .0) ∙ ap (λ (x : AllTables). filledFrom (contentOf s) (headIn s) (zeroed S) x Y) tables-cleared ∙ ap (λ (x : Indexes). filledFrom (contentOf s) (headIn s) (zeroed S) (zeroAll T) x) indexes-cleared)

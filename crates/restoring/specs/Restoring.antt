@@ -74,8 +74,8 @@ abbrev pub keptIf : Bool → Head → List ℕ → AllTables → Indexes → Res
 keptIf true h S T X = record { answer = AllRestored; head = h; source = S; tables = T; indexes = X }
 keptIf false h S T X = clearedOut RestoringUnsound S T X
 
-unfoldable pub filledIn : List ℕ → Head → List ℕ → AllTables → Indexes → Restored
-filledIn b h S T X =
+unfoldable pub filledFrom : List ℕ → Head → List ℕ → AllTables → Indexes → Restored
+filledFrom b h S T X =
     let T' = filledTables b (h .counts) (h .posix) T in
     let S' = filledSource b (h .counts) (h .posix) (h .length) S in
     let src = take (h .length) S' in
@@ -83,7 +83,7 @@ filledIn b h S T X =
     keptIf (soundReading src (h .counts) (h .posix) (h .singles) T' X') h S' T' X'
 
 abbrev pub restoredAs : Finding → List ℕ → List ℕ → AllTables → Indexes → Restored
-restoredAs Holds s S T X = filledIn (contentOf s) (headIn s) (zeroed S) (zeroAll T) (clearIndexes X)
+restoredAs Holds s S T X = filledFrom (contentOf s) (headIn s) (zeroed S) (zeroAll T) (clearIndexes X)
 restoredAs NoWholeBlocks s S T X = clearedOut NotWhole S T X
 restoredAs FaultyNumber s S T X = clearedOut BadNumber S T X
 restoredAs FaultyCheck s S T X = clearedOut BadCheck S T X

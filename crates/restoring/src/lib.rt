@@ -17,7 +17,7 @@ ghost use Rattle.blocks.specs.Blocks.{wordsIn, capacity, contentOf};
 ghost use Rattle.tables.specs.Table.{zeroed};
 ghost use Rattle.catalogue.specs.Catalogue.{cellsAt, rowsFrom, contentSize, lengthsOf};
 ghost use Rattle.grammar.specs.Sound.{AllTables, Indexes, cellsOf};
-ghost use Rattle.restoring.specs.Restoring.{Restored, noHead, filledTable, filledTables, filledSource, Tested, filledIn, restored};
+ghost use Rattle.restoring.specs.Restoring.{Restored, noHead, filledTable, filledTables, filledSource, Tested, filledFrom, restored};
 
 pub enum Restoring {
     AllRestored,
@@ -221,7 +221,7 @@ fn fill(
     t17: &mut [u32],
 ) -> StoredReading
     requires { ⌜ (h .length ≤ length (now src)) × ((k : _) → k < 13 → cellsAt (h .counts) (h .posix) k ≤ length (cellsOf (record { t1 = now t1; t2 = now t2; t3 = now t3; t4 = now t4; t5 = now t5; t6 = now t6; t7 = now t7; t8 = now t8; t9 = now t9; t10 = now t10; t15 = now t15; t16 = now t16; t17 = now t17 }) k)) × (contentSize (h .counts) (h .posix) (h .length) ≤ capacity (now s)) × (now src ≡ zeroed (now src)) × (now i1 ≡ zeroed (now i1)) × (now i7 ≡ zeroed (now i7)) ⌝ }
-    ensures { λ r. ⌜ _≡_ {A = Restored} (record { answer = r .answer; head = record { kind = r .kind; counts = r .counts; posix = r .posix; length = r .length; singles = r .singles }; source = now (src .exit); tables = record { t1 = now (t1 .exit); t2 = now (t2 .exit); t3 = now (t3 .exit); t4 = now (t4 .exit); t5 = now (t5 .exit); t6 = now (t6 .exit); t7 = now (t7 .exit); t8 = now (t8 .exit); t9 = now (t9 .exit); t10 = now (t10 .exit); t15 = now (t15 .exit); t16 = now (t16 .exit); t17 = now (t17 .exit) }; indexes = record { tokens = now (i1 .exit); rules = now (i7 .exit) } }) (filledIn (contentOf (now (s .entry))) h (now (src .entry)) (record { t1 = now (t1 .entry); t2 = now (t2 .entry); t3 = now (t3 .entry); t4 = now (t4 .entry); t5 = now (t5 .entry); t6 = now (t6 .entry); t7 = now (t7 .entry); t8 = now (t8 .entry); t9 = now (t9 .entry); t10 = now (t10 .entry); t15 = now (t15 .entry); t16 = now (t16 .entry); t17 = now (t17 .entry) }) (record { tokens = now (i1 .entry); rules = now (i7 .entry) })) ⌝ }
+    ensures { λ r. ⌜ _≡_ {A = Restored} (record { answer = r .answer; head = record { kind = r .kind; counts = r .counts; posix = r .posix; length = r .length; singles = r .singles }; source = now (src .exit); tables = record { t1 = now (t1 .exit); t2 = now (t2 .exit); t3 = now (t3 .exit); t4 = now (t4 .exit); t5 = now (t5 .exit); t6 = now (t6 .exit); t7 = now (t7 .exit); t8 = now (t8 .exit); t9 = now (t9 .exit); t10 = now (t10 .exit); t15 = now (t15 .exit); t16 = now (t16 .exit); t17 = now (t17 .exit) }; indexes = record { tokens = now (i1 .exit); rules = now (i7 .exit) } }) (filledFrom (contentOf (now (s .entry))) h (now (src .entry)) (record { t1 = now (t1 .entry); t2 = now (t2 .entry); t3 = now (t3 .entry); t4 = now (t4 .entry); t5 = now (t5 .entry); t6 = now (t6 .entry); t7 = now (t7 .entry); t8 = now (t8 .entry); t9 = now (t9 .entry); t10 = now (t10 .entry); t15 = now (t15 .entry); t16 = now (t16 .entry); t17 = now (t17 .entry) }) (record { tokens = now (i1 .entry); rules = now (i7 .entry) })) ⌝ }
 {
     let c = h.counts;
     let p = h.posix;

@@ -21,17 +21,17 @@ use Rattle.grammar.specs.Sound.{AllTables, Indexes, cellsOf, zeroAll}
 use Rattle.sections.specs.Sections.{sized}
 use Rattle.catalogue.specs.declared.Head.{Head}
 use Rattle.catalogue.specs.declared.Finding.the-variants.{Holds}
-use Rattle.catalogue.specs.Catalogue.{Low, Bytes, headCells, headIn, cellsAt, rowsFrom, contentSize, content, lengthsOf, soundReading}
+use Rattle.catalogue.specs.Catalogue.{Fit32, Bytes, headCells, headIn, cellsAt, rowsFrom, contentSize, content, lengthsOf, soundReading}
 use Rattle.catalogue.proofs.Heads.{head-iff}
 use Rattle.catalogue.proofs.Room.{filled-iff}
 use Rattle.catalogue.proofs.Contents.{content-length, content-again}
 use Rattle.storing.specs.declared.Storing.{Storing}
 use Rattle.storing.specs.declared.Storing.the-variants.{StoredBlocks}
-use Rattle.storing.specs.Storing.{StoreResult, headWith, blockCount, stored}
+use Rattle.storing.specs.Storing.{StoreResult, headWith, blockCount, storeAll}
 use Rattle.storing.proofs.Laws.{reading-fits, stored-cases}
 use Rattle.storing.proofs.Theorems.{stored-iff, stored-holds}
 use Rattle.restoring.specs.declared.Restoring.the-variants.{AllRestored, RestoringUnsound}
-use Rattle.restoring.specs.Restoring.{Restored, filledTables, filledSource, enteredIndexes, keptIf, filledIn, restored}
+use Rattle.restoring.specs.Restoring.{Restored, filledTables, filledSource, enteredIndexes, keptIf, filledFrom, restored}
 use Rattle.roundtrip.proofs.Cases.{apart, Held, held-iff, loaded-held, restored-found, fresh-cells, fresh-source}
 use Rattle.roundtrip.proofs.Altered.{whole-blocks}
 
@@ -62,7 +62,7 @@ blocks-length : (b out : List ℕ) → length (blocksOf b out) ≡ length out
 unfolding blocksOf
 blocks-length b out = all-length (blocksFor (length b)) _ ∙ put-length (replicate (length out) 0) 0 b ∙ length-replicate {A = ℕ} (length out) 0
 
-pub stored-length : (src : List ℕ) (kind : ℕ) (c : Counts) (p : PosixCounts) (g : Singles) (T : AllTables) (X : Indexes) (out : List ℕ) → length (stored src kind c p g T X out .blocks) ≡ length out
+pub stored-length : (src : List ℕ) (kind : ℕ) (c : Counts) (p : PosixCounts) (g : Singles) (T : AllTables) (X : Indexes) (out : List ℕ) → length (storeAll src kind c p g T X out .blocks) ≡ length out
 stored-length src kind c p g T X out =
     let z = length-replicate {A = ℕ} (length out) 0 in
     stored-cases src kind c p g T X out (λ (r : StoreResult). length (r .blocks) ≡ length out) (λ _. z) (λ _ _. z) (λ _ _ _. z) (λ _ _ _. blocks-length (content (headWith src kind c p g) T src) out)
@@ -106,7 +106,7 @@ module _ (s S : List ℕ) (T : AllTables) (X : Indexes) (loads : restored s S T 
 
   -- what is left
   filled : restored s S T X ≡ keptIf (soundReading src (h .counts) (h .posix) (h .singles) U Y) h S' U Y
-  unfolding filledIn
+  unfolding filledFrom
   filled = restored-found S T X s Holds (loaded-held S T X s loads)
 
   sound : soundReading src (h .counts) (h .posix) (h .singles) U Y ≡ true
@@ -161,10 +161,10 @@ module _ (s S : List ℕ) (T : AllTables) (X : Indexes) (loads : restored s S T 
 
   -- ---- written again
 
-  heads-low : Low (headCells h)
-  heads-low = let m = wordsIn b 0 39 in let low : Low m = λ j. numbers-low b 0 39 j (content-bytes s bytes) in told Low (head-iff m (numbers-length b 0 39) low .0 (held .head) .0) low
+  heads-low : Fit32 (headCells h)
+  heads-low = let m = wordsIn b 0 39 in let low : Fit32 m = λ j. numbers-low b 0 39 j (content-bytes s bytes) in told Fit32 (head-iff m (numbers-length b 0 39) low .0 (held .head) .0) low
 
-  cells-low : (k : ℕ) → k < 13 → Low (cellsOf U k)
+  cells-low : (k : ℕ) → k < 13 → Fit32 (cellsOf U k)
   cells-low k l j =
       let at = rowsFrom (h .counts) (h .posix) k in
       let n = cellsAt (h .counts) (h .posix) k in
@@ -176,13 +176,13 @@ module _ (s S : List ℕ) (T : AllTables) (X : Indexes) (loads : restored s S T 
   kind-known : (1 ≤ h .kind) × (h .kind ≤ 4)
   kind-known = let m = wordsIn b 0 39 in let x = head-iff m (numbers-length b 0 39) (λ j. numbers-low b 0 39 j (content-bytes s bytes)) .0 (held .head) in (x .1, x .2)
 
-  written : (out : List ℕ) → length out ≡ length s → stored src (h .kind) (h .counts) (h .posix) (h .singles) U Y out ≡ record { answer = StoredBlocks (length s / 512); blocks = s }
+  written : (out : List ℕ) → length out ≡ length s → storeAll src (h .kind) (h .counts) (h .posix) (h .singles) U Y out ≡ record { answer = StoredBlocks (length s / 512); blocks = s }
   written out e =
       let w = whole-blocks s (held .whole) .1 in
-      let o = stored src (h .kind) (h .counts) (h .posix) (h .singles) U Y out in
+      let o = storeAll src (h .kind) (h .counts) (h .posix) (h .singles) U Y out in
       let n : length s / 512 ≡ blockCount src (h .counts) (h .posix) = sym count ∙ ap blocksFor (made-length ∙ ap (contentSize (h .counts) (h .posix)) (sym source-long)) in
       let a = stored-iff src (h .kind) (h .counts) (h .posix) (h .singles) U Y out (length s / 512) .1 (kind-known .0, kind-known .1, sound, omega (arith, n, w), n) in
-      let x = stored-holds src (h .kind) (h .counts) (h .posix) (h .singles) U Y out (length s / 512) a (told (λ (y : Head). Low (headCells y)) (sym head-same) heads-low) cells-low source-low .0 in
+      let x = stored-holds src (h .kind) (h .counts) (h .posix) (h .singles) U Y out (length s / 512) a (told (λ (y : Head). Fit32 (headCells y)) (sym head-same) heads-low) cells-low source-low .0 in
       let f = stored-one (content h U src) (o .blocks) s (told (λ (y : Head). Stored (content y U src) (o .blocks)) head-same x) again (stored-length src (h .kind) (h .counts) (h .posix) (h .singles) U Y out ∙ e) in
       result-is o (StoredBlocks (length s / 512)) s a f
 
@@ -191,5 +191,5 @@ pub loaded-stored : (s S : List ℕ) (T : AllTables) (X : Indexes) → restored 
     → let r = restored s S T X in
     let src = take (r .head .length) (r .source) in
     Stored (content (r .head) (r .tables) src) s
-    × ((out : List ℕ) → length out ≡ length s → stored src (r .head .kind) (r .head .counts) (r .head .posix) (r .head .singles) (r .tables) (r .indexes) out ≡ record { answer = StoredBlocks (length s / 512); blocks = s })
+    × ((out : List ℕ) → length out ≡ length s → storeAll src (r .head .kind) (r .head .counts) (r .head .posix) (r .head .singles) (r .tables) (r .indexes) out ≡ record { answer = StoredBlocks (length s / 512); blocks = s })
 loaded-stored s S T X e f = rw (loaded-is s S T X e f) (again s S T X e f, written s S T X e f)

@@ -22,7 +22,7 @@ use Rattle.catalogue.specs.declared.Finding.{Finding}
 use Rattle.catalogue.specs.declared.Finding.the-variants.{Holds, NoWholeBlocks, FaultyNumber, FaultyCheck, Unfilled, WrongSize, NoRoom}
 use Rattle.catalogue.specs.Catalogue.{Bytes, rowsFrom, contentSize, headIn, lengthsOf, wholeTest, examined, soundReading}
 use Rattle.restoring.specs.declared.Restoring.the-variants.{AllRestored, BadNumber, BadCheck, RestoringUnsound}
-use Rattle.restoring.specs.Restoring.{noHead, clearIndexes, clearedOut, filledTables, filledSource, enteredIndexes, keptIf, filledIn, restoredAs, restored}
+use Rattle.restoring.specs.Restoring.{noHead, clearIndexes, clearedOut, filledTables, filledSource, enteredIndexes, keptIf, filledFrom, restoredAs, restored}
 use Rattle.restoring.proofs.Laws.{Fits, holds-fits}
 use Rattle.roundtrip.proofs.Cases.{held-iff, loaded-held, restored-found, tables-ext, lengths-at, zero-at, fresh-length, fresh-source}
 
@@ -94,7 +94,7 @@ module _ (s S : List ℕ) (T : AllTables) (X : Indexes) (x : examined s (sized T
       ∙ ap (λ (z : Indexes). record { answer = RestoringUnsound; head = noHead; source = zeroed S; tables = zeroAll T; indexes = z }) c
 
   held-clear : (restoredAs Holds s S T X .answer ≡ AllRestored → ⊥) → restoredAs Holds s S T X ≡ clearedOut (restoredAs Holds s S T X .answer) S T X
-  unfolding filledIn
+  unfolding filledFrom
   held-clear d =
       let h = headIn s in
       let U = filledTables (contentOf s) (h .counts) (h .posix) (zeroAll T) in

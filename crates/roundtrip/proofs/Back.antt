@@ -32,11 +32,11 @@ use Rattle.catalogue.proofs.Heads.{head-length, head-back, head-iff}
 use Rattle.catalogue.proofs.Room.{short-none, filled-iff}
 use Rattle.catalogue.proofs.Contents.{content-length, head-read, rows-read, source-read}
 use Rattle.storing.specs.declared.Storing.the-variants.{StoredBlocks}
-use Rattle.storing.specs.Storing.{headWith, stored}
+use Rattle.storing.specs.Storing.{headWith, storeAll}
 use Rattle.storing.proofs.Laws.{reading-iff, reading-fits}
 use Rattle.storing.proofs.Theorems.{stored-iff, stored-holds}
 use Rattle.restoring.specs.declared.Restoring.the-variants.{AllRestored}
-use Rattle.restoring.specs.Restoring.{Restored, clearIndexes, filledTables, filledSource, enteredIndexes, keptIf, filledIn, restored}
+use Rattle.restoring.specs.Restoring.{Restored, clearIndexes, filledTables, filledSource, enteredIndexes, keptIf, filledFrom, restored}
 use Rattle.roundtrip.specs.Roundtrip.{Plain, Back}
 use Rattle.roundtrip.proofs.Cases.{Held, held-iff, restored-found, tables-ext, lengths-at, fresh-cells, fresh-length, fresh-source}
 use Rattle.roundtrip.proofs.Rows.{sound-table, rows-sound}
@@ -169,8 +169,8 @@ module _ (src : List ℕ) (kind : ℕ) (c : Counts) (p : PosixCounts) (g : Singl
       (rows-sound src c p g T X left m n (y .0) (y .1) (λ k a. rw (left-length k a) (fits k a)) (λ k a. rw (left-length k a) (left-cells k a))
       (told (λ (i : ℕ). Sized m i (width tokens)) (sym (left-length tokens (omega arith))) (q .0)) (told (λ (i : ℕ). Sized n i (width rules)) (sym (left-length rules (omega arith))) (q .1)) (enteredIndexes src c left m n) refl)
 
-  filled-is : filledIn (b ++ z) h (zeroed S) (zeroAll T₀) (clearIndexes X₀) ≡ record { answer = AllRestored; head = h; source = src ++ replicate (length S - length src) 0; tables = left; indexes = enteredIndexes src c left (length (X₀ .tokens)) (length (X₀ .rules)) }
-  unfolding filledIn
+  filled-is : filledFrom (b ++ z) h (zeroed S) (zeroAll T₀) (clearIndexes X₀) ≡ record { answer = AllRestored; head = h; source = src ++ replicate (length S - length src) 0; tables = left; indexes = enteredIndexes src c left (length (X₀ .tokens)) (length (X₀ .rules)) }
+  unfolding filledFrom
   filled-is =
       ap (λ (y : List ℕ). made (take (length src) y) y (length (zeroed (X₀ .tokens))) (length (zeroed (X₀ .rules)))) left-source
       ∙ ap (λ (y : List ℕ). made y (src ++ replicate (length S - length src) 0) (length (zeroed (X₀ .tokens))) (length (zeroed (X₀ .rules)))) (take-at src (replicate (length S - length src) 0) (length src) refl)
@@ -184,8 +184,8 @@ module _ (src : List ℕ) (kind : ℕ) (c : Counts) (p : PosixCounts) (g : Singl
   restored-is : restored s S T₀ X₀ ≡ record { answer = AllRestored; head = h; source = src ++ replicate (length S - length src) 0; tables = left; indexes = enteredIndexes src c left (length (X₀ .tokens)) (length (X₀ .rules)) }
   restored-is =
       restored-found S T₀ X₀ s Holds (held-iff s (sized T₀ X₀) (lengthsOf T₀) (length S) .1 held)
-      ∙ ap (λ (y : Head). filledIn (contentOf s) y (zeroed S) (zeroAll T₀) (clearIndexes X₀)) head-is
-      ∙ ap (λ (y : List ℕ). filledIn y h (zeroed S) (zeroAll T₀) (clearIndexes X₀)) (content-are b s x l)
+      ∙ ap (λ (y : Head). filledFrom (contentOf s) y (zeroed S) (zeroAll T₀) (clearIndexes X₀)) head-is
+      ∙ ap (λ (y : List ℕ). filledFrom y h (zeroed S) (zeroAll T₀) (clearIndexes X₀)) (content-are b s x l)
       ∙ filled-is
 
   pub held-back : Back src kind c p g T S T₀ X₀ (restored s S T₀ X₀)
@@ -194,7 +194,7 @@ module _ (src : List ℕ) (kind : ℕ) (c : Counts) (p : PosixCounts) (g : Singl
 -- ---- the theorem
 
 module _ (src : List ℕ) (kind : ℕ) (c : Counts) (p : PosixCounts) (g : Singles) (T : AllTables) (X : Indexes) (out : List ℕ) (n : ℕ) (s S : List ℕ) (T₀ : AllTables) (X₀ : Indexes) where
-  pub load-back : Plain src kind c p g T → stored src kind c p g T X out .answer ≡ StoredBlocks n → s ≡ take (n * 512) (stored src kind c p g T X out .blocks)
+  pub load-back : Plain src kind c p g T → storeAll src kind c p g T X out .answer ≡ StoredBlocks n → s ≡ take (n * 512) (storeAll src kind c p g T X out .blocks)
       → ((k : ℕ) → k < 13 → cellsAt c p k ≤ length (cellsOf T₀ k))
       → length src ≤ length S
       → sized T₀ X₀ ≡ true
@@ -203,12 +203,12 @@ module _ (src : List ℕ) (kind : ℕ) (c : Counts) (p : PosixCounts) (g : Singl
       let q = stored-iff src kind c p g T X out n .0 e in
       let y = stored-holds src kind c p g T X out n e (plain .heads) (plain .cells) (plain .bytes) in
       let b = content (headWith src kind c p g) T src in
-      let f = stored-front b (stored src kind c p g T X out .blocks) (y .0) in
-      let es : take (blocksFor (length b) * 512) (stored src kind c p g T X out .blocks) ≡ s = sym (hs ∙ ap (λ (i : ℕ). take (i * 512) (stored src kind c p g T X out .blocks)) (y .1)) in
+      let f = stored-front b (storeAll src kind c p g T X out .blocks) (y .0) in
+      let es : take (blocksFor (length b) * 512) (storeAll src kind c p g T X out .blocks) ≡ s = sym (hs ∙ ap (λ (i : ℕ). take (i * 512) (storeAll src kind c p g T X out .blocks)) (y .1)) in
       held-back src kind c p g T X s S T₀ X₀ plain (q .0, q .1) (q .2) (rw es at (f .0)) (rw es at (f .1)) fits short right
 
   -- Tables and indexes of the same lengths are then the same: those of a sound reading are zero behind their rows, and its indexes are what entering its rows gives.
-  pub load-same : Plain src kind c p g T → stored src kind c p g T X out .answer ≡ StoredBlocks n → s ≡ take (n * 512) (stored src kind c p g T X out .blocks)
+  pub load-same : Plain src kind c p g T → storeAll src kind c p g T X out .answer ≡ StoredBlocks n → s ≡ take (n * 512) (storeAll src kind c p g T X out .blocks)
       → ((k : ℕ) → k < 13 → length (cellsOf T₀ k) ≡ length (cellsOf T k))
       → length (X₀ .tokens) ≡ length (X .tokens)
       → length (X₀ .rules) ≡ length (X .rules)

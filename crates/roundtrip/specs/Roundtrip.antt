@@ -7,7 +7,7 @@ use Rattle.grammar.specs.declared.Counts.{Counts}
 use Rattle.grammar.specs.declared.PosixCounts.{PosixCounts}
 use Rattle.grammar.specs.declared.Singles.{Singles}
 use Rattle.grammar.specs.Sound.{AllTables, Indexes, cellsOf}
-use Rattle.catalogue.specs.Catalogue.{Low, Bytes, headCells, cellsAt}
+use Rattle.catalogue.specs.Catalogue.{Fit32, Bytes, headCells, cellsAt}
 use Rattle.storing.specs.Storing.{headWith}
 use Rattle.restoring.specs.declared.Restoring.the-variants.{AllRestored}
 use Rattle.restoring.specs.Restoring.{Restored, enteredIndexes}
@@ -16,8 +16,8 @@ use Rattle.restoring.specs.Restoring.{Restored, enteredIndexes}
 pub record Plain (src : List ℕ) (kind : ℕ) (c : Counts) (p : PosixCounts) (g : Singles) (T : AllTables) : Type 0 where
   pub ten : length (c .n) ≡ 10
   pub three : length (p .n) ≡ 3
-  pub heads : Low (headCells (headWith src kind c p g))
-  pub cells : (k : ℕ) → k < 13 → Low (cellsOf T k)
+  pub heads : Fit32 (headCells (headWith src kind c p g))
+  pub cells : (k : ℕ) → k < 13 → Fit32 (cellsOf T k)
   pub bytes : Bytes src
 
 -- "Loading those blocks [..] gives back the same tables and source and fills the indexes": r is what loading leaves in a lent source S, lent tables T₀ and lent indexes X₀, of a reading with source src and tables T.

@@ -55,3 +55,11 @@ singlesOf m =
       generics = partFrom (getD m 32 0) (getD m 33 0) (getD m 34 0);
       programs = partFrom (getD m 35 0) (getD m 36 0) (getD m 37 0);
     }
+
+-- the counts in the C names' array: the ten behind number, place and table, and the three behind the singles
+abbrev pub countsOf : List ℕ → Counts
+countsOf m =
+    record { n = getD m 4 0 ∷ getD m 5 0 ∷ getD m 6 0 ∷ getD m 7 0 ∷ getD m 8 0 ∷ getD m 9 0 ∷ getD m 10 0 ∷ getD m 11 0 ∷ getD m 12 0 ∷ getD m 13 0 ∷ [] }
+
+abbrev pub posixOf : List ℕ → PosixCounts
+posixOf m = record { n = getD m 38 0 ∷ getD m 39 0 ∷ getD m 40 0 ∷ [] }

@@ -1,14 +1,16 @@
 // The singles of a reading as 24 cells, each led by 0 or 1, and back; and cells stored into other cells. The C names and the catalogue share them.
+use grammar::Counts;
 use grammar::Expect;
 use grammar::Param;
 use grammar::Part;
+use grammar::PosixCounts;
 use grammar::Singles;
 ghost use mathlib.Core.Path.{_≡_};
 ghost use Prim.Native.Nat.{_≤_};
 ghost use lib.ListN.{length};
 ghost use Rattle.tables.specs.Table.{put};
 ghost use Rattle.grammar.specs.Numbers.{paramNumbers};
-ghost use Rattle.singles.specs.Singles.{expectCells, singlesCells, partFrom, expectFrom, paramFrom, singlesOf};
+ghost use Rattle.singles.specs.Singles.{expectCells, singlesCells, partFrom, expectFrom, paramFrom, singlesOf, countsOf, posixOf};
 
 // Stores `cells` into `out` from cell `at` on, as far as there is room.
 pub fn put_cells(out: &mut [u32], at: usize, cells: &[u32])
@@ -102,5 +104,34 @@ pub fn singles_of(m: &[u32]) -> Singles
         param: param_from(m[27], m[28], m[29], m[30], m[31]),
         generics: part_from(m[32], m[33], m[34]),
         programs: part_from(m[35], m[36], m[37]),
+    }
+}
+
+// The ten counts of a reading's numbers.
+pub fn counts_of(m: &[u32; 43]) -> Counts
+    ensures { λ r. ⌜ r ≡ countsOf (now (m .entry)) ⌝ }
+{
+    Counts {
+        n: [
+            m[4],
+            m[5],
+            m[6],
+            m[7],
+            m[8],
+            m[9],
+            m[10],
+            m[11],
+            m[12],
+            m[13],
+        ],
+    }
+}
+
+// The counts of kind 4's tables among a reading's numbers.
+pub fn posix_of(m: &[u32; 43]) -> PosixCounts
+    ensures { λ r. ⌜ r ≡ posixOf (now (m .entry)) ⌝ }
+{
+    PosixCounts {
+        n: [m[38], m[39], m[40]],
     }
 }

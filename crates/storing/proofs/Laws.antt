@@ -27,7 +27,7 @@ use Rattle.catalogue.proofs.Laws.{rows-ten, rows-three}
 use Rattle.catalogue.proofs.Heads.{head-length}
 use Rattle.catalogue.proofs.Contents.{row-cells-length, content-length}
 use Rattle.storing.specs.declared.Storing.the-variants.{StoredBlocks, UnknownKind, StoringUnsound, NoBlocks}
-use Rattle.storing.specs.Storing.{StoreResult, headWith, blockCount, storedRoom, storedSound, storedKind, stored}
+use Rattle.storing.specs.Storing.{StoreResult, headWith, blockCount, storedRoom, storedSound, storedKind, storeAll}
 
 -- ---- places of rows
 
@@ -167,8 +167,8 @@ module _ (src : List ℕ) (kind : ℕ) (c : Counts) (p : PosixCounts) (g : Singl
       → ((1 ≤ kind) × (kind ≤ 4) → soundReading src c p g T X ≡ false → C (record { answer = StoringUnsound; blocks = zeroed out }))
       → ((1 ≤ kind) × (kind ≤ 4) → soundReading src c p g T X ≡ true → length out < blockCount src c p * 512 → C (record { answer = NoBlocks; blocks = zeroed out }))
       → ((1 ≤ kind) × (kind ≤ 4) → soundReading src c p g T X ≡ true → blockCount src c p * 512 ≤ length out → C (record { answer = StoredBlocks (blockCount src c p); blocks = blocksOf (content (headWith src kind c p g) T src) out }))
-      → C (stored src kind c p g T X out)
-  unfolding stored
+      → C (storeAll src kind c p g T X out)
+  unfolding storeAll
   stored-cases C unknown unsound full right =
       let sound = soundReading src c p g T X in
       let n = blockCount src c p in
@@ -183,24 +183,24 @@ module _ (src : List ℕ) (kind : ℕ) (c : Counts) (p : PosixCounts) (g : Singl
 
   -- the code's answers: z is what is zeroed first
   module _ (z : List ℕ) (hz : z ≡ zeroed out) where
-    pub store-unknown : ((1 ≤ kind) × (kind ≤ 4) → ⊥) → _≡_ {A = StoreResult} (record { answer = UnknownKind; blocks = z }) (stored src kind c p g T X out)
+    pub store-unknown : ((1 ≤ kind) × (kind ≤ 4) → ⊥) → _≡_ {A = StoreResult} (record { answer = UnknownKind; blocks = z }) (storeAll src kind c p g T X out)
     store-unknown h =
         stored-cases (λ (r : StoreResult). record { answer = UnknownKind; blocks = z } ≡ r)
         (λ _. ap (λ (x : List ℕ). record { answer = UnknownKind; blocks = x }) hz) (λ k _. absurd (h k)) (λ k _ _. absurd (h k)) (λ k _ _. absurd (h k))
 
     module _ (known : (1 ≤ kind) × (kind ≤ 4)) (q : Bool) (hq : q ≡ soundReading src c p g T X) where
-      pub store-unsound : q ≡ false → _≡_ {A = StoreResult} (record { answer = StoringUnsound; blocks = z }) (stored src kind c p g T X out)
+      pub store-unsound : q ≡ false → _≡_ {A = StoreResult} (record { answer = StoringUnsound; blocks = z }) (storeAll src kind c p g T X out)
       store-unsound h =
           stored-cases (λ (r : StoreResult). record { answer = StoringUnsound; blocks = z } ≡ r)
           (λ k. absurd (k known)) (λ _ _. ap (λ (x : List ℕ). record { answer = StoringUnsound; blocks = x }) hz) (λ _ s _. absurd (false≢true (sym h ∙ hq ∙ s))) (λ _ s _. absurd (false≢true (sym h ∙ hq ∙ s)))
 
       module _ (sound : q ≡ true) (n : ℕ) (hn : n ≡ blockCount src c p) where
-        pub store-full : length out < n * 512 → _≡_ {A = StoreResult} (record { answer = NoBlocks; blocks = z }) (stored src kind c p g T X out)
+        pub store-full : length out < n * 512 → _≡_ {A = StoreResult} (record { answer = NoBlocks; blocks = z }) (storeAll src kind c p g T X out)
         store-full h =
             stored-cases (λ (r : StoreResult). record { answer = NoBlocks; blocks = z } ≡ r)
             (λ k. absurd (k known)) (λ _ s. absurd (false≢true (sym s ∙ sym hq ∙ sound))) (λ _ _ _. ap (λ (x : List ℕ). record { answer = NoBlocks; blocks = x }) hz) (λ _ _ l. absurd (omega (arith, hn, h, l)))
 
-        pub store-right : n * 512 ≤ length out → (o : List ℕ) → o ≡ sealAll n (putContent z 0 (content (headWith src kind c p g) T src)) → _≡_ {A = StoreResult} (record { answer = StoredBlocks n; blocks = o }) (stored src kind c p g T X out)
+        pub store-right : n * 512 ≤ length out → (o : List ℕ) → o ≡ sealAll n (putContent z 0 (content (headWith src kind c p g) T src)) → _≡_ {A = StoreResult} (record { answer = StoredBlocks n; blocks = o }) (storeAll src kind c p g T X out)
         unfolding blocksOf
         store-right h o e =
             stored-cases (λ (r : StoreResult). record { answer = StoredBlocks n; blocks = o } ≡ r)

@@ -13,11 +13,11 @@ use Rattle.grammar.specs.declared.Singles.{Singles}
 use Rattle.grammar.specs.Sound.{AllTables, Indexes, cellsOf}
 use Rattle.blocks.specs.Blocks.{blocksFor, blocksOf, Stored}
 use Rattle.blocks.proofs.Stored.{stored-blocks}
-use Rattle.catalogue.specs.Catalogue.{Low, Bytes, headCells, cellsAt, rowCells, content, soundReading}
+use Rattle.catalogue.specs.Catalogue.{Fit32, Bytes, headCells, cellsAt, rowCells, content, soundReading}
 use Rattle.catalogue.proofs.Contents.{content-length, content-bytes}
 use Rattle.storing.specs.declared.Storing.{Storing}
 use Rattle.storing.specs.declared.Storing.the-variants.{StoredBlocks, UnknownKind, StoringUnsound, NoBlocks}
-use Rattle.storing.specs.Storing.{StoreResult, headWith, blockCount, stored, storingNumbers}
+use Rattle.storing.specs.Storing.{StoreResult, headWith, blockCount, storeAll, storingNumbers}
 use Rattle.storing.proofs.Laws.{reading-fits, reading-few, stored-cases}
 
 -- answers with different numbers differ,
@@ -44,7 +44,7 @@ module _ (src : List ℕ) (kind : ℕ) (c : Counts) (p : PosixCounts) (g : Singl
   -- ---- the answer that gives blocks
 
   -- It comes exactly where the kind is known, the reading sound and the room enough.
-  pub stored-iff : (n : ℕ) → (stored src kind c p g T X out .answer ≡ StoredBlocks n)
+  pub stored-iff : (n : ℕ) → (storeAll src kind c p g T X out .answer ≡ StoredBlocks n)
       ↔ ((1 ≤ kind) × (kind ≤ 4) × (soundReading src c p g T X ≡ true) × (blockCount src c p * 512 ≤ length out) × (n ≡ blockCount src c p))
   stored-iff n =
       stored-cases src kind c p g T X out (λ (r : StoreResult). (r .answer ≡ StoredBlocks n) ↔ ((1 ≤ kind) × (kind ≤ 4) × (soundReading src c p g T X ≡ true) × (blockCount src c p * 512 ≤ length out) × (n ≡ blockCount src c p)))
@@ -54,8 +54,8 @@ module _ (src : List ℕ) (kind : ℕ) (c : Counts) (p : PosixCounts) (g : Singl
       (λ k s l. (λ e. (k .0, k .1, s, l, sym (ap countOf e)), λ x. ap StoredBlocks (sym (x .4))))
 
   -- and the blocks are then the written ones
-  stored-as : (n : ℕ) → stored src kind c p g T X out .answer ≡ StoredBlocks n
-      → stored src kind c p g T X out ≡ record { answer = StoredBlocks (blockCount src c p); blocks = blocksOf (content (headWith src kind c p g) T src) out }
+  stored-as : (n : ℕ) → storeAll src kind c p g T X out .answer ≡ StoredBlocks n
+      → storeAll src kind c p g T X out ≡ record { answer = StoredBlocks (blockCount src c p); blocks = blocksOf (content (headWith src kind c p g) T src) out }
   stored-as n =
       stored-cases src kind c p g T X out (λ (r : StoreResult). r .answer ≡ StoredBlocks n → r ≡ record { answer = StoredBlocks (blockCount src c p); blocks = blocksOf (content (headWith src kind c p g) T src) out })
       (λ k e. absurd (apart UnknownKind (StoredBlocks n) (λ z. omega arith) e))
@@ -64,8 +64,8 @@ module _ (src : List ℕ) (kind : ℕ) (c : Counts) (p : PosixCounts) (g : Singl
       (λ k s l e. refl)
 
   -- Blocks that are answered hold the content, and are as many as it takes.
-  pub stored-holds : (n : ℕ) → stored src kind c p g T X out .answer ≡ StoredBlocks n → Low (headCells (headWith src kind c p g)) → ((k : ℕ) → k < 13 → Low (cellsOf T k)) → Bytes src
-      → Stored (content (headWith src kind c p g) T src) (stored src kind c p g T X out .blocks) × (n ≡ blocksFor (length (content (headWith src kind c p g) T src)))
+  pub stored-holds : (n : ℕ) → storeAll src kind c p g T X out .answer ≡ StoredBlocks n → Fit32 (headCells (headWith src kind c p g)) → ((k : ℕ) → k < 13 → Fit32 (cellsOf T k)) → Bytes src
+      → Stored (content (headWith src kind c p g) T src) (storeAll src kind c p g T X out .blocks) × (n ≡ blocksFor (length (content (headWith src kind c p g) T src)))
   stored-holds n e heads cells bytes =
       let b = content (headWith src kind c p g) T src in
       let x = stored-iff n .0 e in
@@ -77,7 +77,7 @@ module _ (src : List ℕ) (kind : ℕ) (c : Counts) (p : PosixCounts) (g : Singl
 
   -- ---- the refusals: "43, 44, then 42 for the blocks"
 
-  pub unknown-iff : (stored src kind c p g T X out .answer ≡ UnknownKind) ↔ ((1 ≤ kind) × (kind ≤ 4) → ⊥)
+  pub unknown-iff : (storeAll src kind c p g T X out .answer ≡ UnknownKind) ↔ ((1 ≤ kind) × (kind ≤ 4) → ⊥)
   unknown-iff =
       stored-cases src kind c p g T X out (λ (r : StoreResult). (r .answer ≡ UnknownKind) ↔ ((1 ≤ kind) × (kind ≤ 4) → ⊥))
       (λ k. (λ e. k, λ x. refl))
@@ -85,7 +85,7 @@ module _ (src : List ℕ) (kind : ℕ) (c : Counts) (p : PosixCounts) (g : Singl
       (λ k s l. (λ e. absurd (apart NoBlocks UnknownKind (λ z. omega arith) e), λ x. absurd (x k)))
       (λ k s l. (λ e. absurd (apart (StoredBlocks (blockCount src c p)) UnknownKind (λ z. omega arith) e), λ x. absurd (x k)))
 
-  pub unsound-iff : (stored src kind c p g T X out .answer ≡ StoringUnsound) ↔ ((1 ≤ kind) × (kind ≤ 4) × (soundReading src c p g T X ≡ false))
+  pub unsound-iff : (storeAll src kind c p g T X out .answer ≡ StoringUnsound) ↔ ((1 ≤ kind) × (kind ≤ 4) × (soundReading src c p g T X ≡ false))
   unsound-iff =
       stored-cases src kind c p g T X out (λ (r : StoreResult). (r .answer ≡ StoringUnsound) ↔ ((1 ≤ kind) × (kind ≤ 4) × (soundReading src c p g T X ≡ false)))
       (λ k. (λ e. absurd (apart UnknownKind StoringUnsound (λ z. omega arith) e), λ x. absurd (k (x .0, x .1))))
@@ -93,7 +93,7 @@ module _ (src : List ℕ) (kind : ℕ) (c : Counts) (p : PosixCounts) (g : Singl
       (λ k s l. (λ e. absurd (apart NoBlocks StoringUnsound (λ z. omega arith) e), λ x. absurd (false≢true (sym (x .2) ∙ s))))
       (λ k s l. (λ e. absurd (apart (StoredBlocks (blockCount src c p)) StoringUnsound (λ z. omega arith) e), λ x. absurd (false≢true (sym (x .2) ∙ s))))
 
-  pub no-blocks-iff : (stored src kind c p g T X out .answer ≡ NoBlocks) ↔ ((1 ≤ kind) × (kind ≤ 4) × (soundReading src c p g T X ≡ true) × (length out < blockCount src c p * 512))
+  pub no-blocks-iff : (storeAll src kind c p g T X out .answer ≡ NoBlocks) ↔ ((1 ≤ kind) × (kind ≤ 4) × (soundReading src c p g T X ≡ true) × (length out < blockCount src c p * 512))
   no-blocks-iff =
       stored-cases src kind c p g T X out (λ (r : StoreResult). (r .answer ≡ NoBlocks) ↔ ((1 ≤ kind) × (kind ≤ 4) × (soundReading src c p g T X ≡ true) × (length out < blockCount src c p * 512)))
       (λ k. (λ e. absurd (apart UnknownKind NoBlocks (λ z. omega arith) e), λ x. absurd (k (x .0, x .1))))
@@ -102,7 +102,7 @@ module _ (src : List ℕ) (kind : ℕ) (c : Counts) (p : PosixCounts) (g : Singl
       (λ k s l. (λ e. absurd (apart (StoredBlocks (blockCount src c p)) NoBlocks (λ z. omega arith) e), λ x. absurd (omega (arith, l, x .3))))
 
   -- "which are zero after each"
-  pub refused-zero : (stored src kind c p g T X out .answer ≡ UnknownKind) ⊎ ((stored src kind c p g T X out .answer ≡ StoringUnsound) ⊎ (stored src kind c p g T X out .answer ≡ NoBlocks)) → stored src kind c p g T X out .blocks ≡ zeroed out
+  pub refused-zero : (storeAll src kind c p g T X out .answer ≡ UnknownKind) ⊎ ((storeAll src kind c p g T X out .answer ≡ StoringUnsound) ⊎ (storeAll src kind c p g T X out .answer ≡ NoBlocks)) → storeAll src kind c p g T X out .blocks ≡ zeroed out
   refused-zero =
       stored-cases src kind c p g T X out (λ (r : StoreResult). (r .answer ≡ UnknownKind) ⊎ ((r .answer ≡ StoringUnsound) ⊎ (r .answer ≡ NoBlocks)) → r .blocks ≡ zeroed out)
       (λ k d. refl)
@@ -114,19 +114,19 @@ module _ (src : List ℕ) (kind : ℕ) (c : Counts) (p : PosixCounts) (g : Singl
       given a = apart (StoredBlocks (blockCount src c p)) a
 
   -- all of it: each answer exactly when, and the blocks after each
-  pub stored-refused : ((stored src kind c p g T X out .answer ≡ UnknownKind) ↔ ((1 ≤ kind) × (kind ≤ 4) → ⊥))
-      × ((stored src kind c p g T X out .answer ≡ StoringUnsound) ↔ ((1 ≤ kind) × (kind ≤ 4) × (soundReading src c p g T X ≡ false)))
-      × ((stored src kind c p g T X out .answer ≡ NoBlocks) ↔ ((1 ≤ kind) × (kind ≤ 4) × (soundReading src c p g T X ≡ true) × (length out < blockCount src c p * 512)))
-      × ((stored src kind c p g T X out .answer ≡ UnknownKind) ⊎ ((stored src kind c p g T X out .answer ≡ StoringUnsound) ⊎ (stored src kind c p g T X out .answer ≡ NoBlocks)) → stored src kind c p g T X out .blocks ≡ zeroed out)
+  pub stored-refused : ((storeAll src kind c p g T X out .answer ≡ UnknownKind) ↔ ((1 ≤ kind) × (kind ≤ 4) → ⊥))
+      × ((storeAll src kind c p g T X out .answer ≡ StoringUnsound) ↔ ((1 ≤ kind) × (kind ≤ 4) × (soundReading src c p g T X ≡ false)))
+      × ((storeAll src kind c p g T X out .answer ≡ NoBlocks) ↔ ((1 ≤ kind) × (kind ≤ 4) × (soundReading src c p g T X ≡ true) × (length out < blockCount src c p * 512)))
+      × ((storeAll src kind c p g T X out .answer ≡ UnknownKind) ⊎ ((storeAll src kind c p g T X out .answer ≡ StoringUnsound) ⊎ (storeAll src kind c p g T X out .answer ≡ NoBlocks)) → storeAll src kind c p g T X out .blocks ≡ zeroed out)
   stored-refused = (unknown-iff, unsound-iff, no-blocks-iff, refused-zero)
 
 -- "Equal tables give equal blocks": readings of one kind, source, counts and singles whose rows are equal, stored into blocks of one length.
 pub stored-equal : (src : List ℕ) (kind : ℕ) (c : Counts) (p : PosixCounts) (g : Singles) (T U : AllTables) (X Y : Indexes) (out out′ : List ℕ) (n m : ℕ)
-    → stored src kind c p g T X out .answer ≡ StoredBlocks n
-    → stored src kind c p g U Y out′ .answer ≡ StoredBlocks m
+    → storeAll src kind c p g T X out .answer ≡ StoredBlocks n
+    → storeAll src kind c p g U Y out′ .answer ≡ StoredBlocks m
     → ((k : ℕ) → k < 13 → take (cellsAt c p k) (cellsOf T k) ≡ take (cellsAt c p k) (cellsOf U k))
     → length out ≡ length out′
-    → stored src kind c p g T X out ≡ stored src kind c p g U Y out′
+    → storeAll src kind c p g T X out ≡ storeAll src kind c p g U Y out′
 unfolding content blocksOf
 stored-equal src kind c p g T U X Y out out′ n m e f rows l =
     let same : blocksOf (content (headWith src kind c p g) T src) out ≡ blocksOf (content (headWith src kind c p g) U src) out′ = rw (rows-same c p T U rows 0 13 (omega arith), l) in

@@ -41,8 +41,8 @@ abbrev pub storedKind : Bool → Bool → ℕ → List ℕ → List ℕ → Stor
 storedKind true sound n b out = storedSound sound n b out
 storedKind false sound n b out = record { answer = UnknownKind; blocks = zeroed out }
 
-unfoldable pub stored : List ℕ → ℕ → Counts → PosixCounts → Singles → AllTables → Indexes → List ℕ → StoreResult
-stored src kind c p g T X out =
+unfoldable pub storeAll : List ℕ → ℕ → Counts → PosixCounts → Singles → AllTables → Indexes → List ℕ → StoreResult
+storeAll src kind c p g T X out =
     storedKind (leb 1 kind && leb kind 4) (soundReading src c p g T X) (blockCount src c p) (content (headWith src kind c p g) T src) out
 
 -- number, place and table of an answer, and how many blocks were written

@@ -9,7 +9,7 @@ ghost use lib.ListN.{length, take};
 ghost use Rattle.blocks.specs.Blocks.{bytesOfAll, capacity, putContent, sealAll, blocksFor};
 ghost use Rattle.catalogue.specs.Catalogue.{headCells, cellsAt, rowsFrom, contentSize, rowCells, content};
 ghost use Rattle.grammar.specs.Sound.{AllTables, cellsOf};
-ghost use Rattle.storing.specs.Storing.{StoreResult, stored};
+ghost use Rattle.storing.specs.Storing.{StoreResult, storeAll};
 
 pub enum Storing {
     StoredBlocks(u32),
@@ -141,7 +141,7 @@ pub fn store(
     t17: &[u32],
     out: &mut [u8],
 ) -> Storing
-    ensures { λ r. ⌜ _≡_ {A = StoreResult} (record { answer = r; blocks = now (out .exit) }) (stored (now (src .entry)) kind c p g (record { t1 = now (t1 .entry); t2 = now (t2 .entry); t3 = now (t3 .entry); t4 = now (t4 .entry); t5 = now (t5 .entry); t6 = now (t6 .entry); t7 = now (t7 .entry); t8 = now (t8 .entry); t9 = now (t9 .entry); t10 = now (t10 .entry); t15 = now (t15 .entry); t16 = now (t16 .entry); t17 = now (t17 .entry) }) (record { tokens = now (i1 .entry); rules = now (i7 .entry) }) (now (out .entry))) ⌝ }
+    ensures { λ r. ⌜ _≡_ {A = StoreResult} (record { answer = r; blocks = now (out .exit) }) (storeAll (now (src .entry)) kind c p g (record { t1 = now (t1 .entry); t2 = now (t2 .entry); t3 = now (t3 .entry); t4 = now (t4 .entry); t5 = now (t5 .entry); t6 = now (t6 .entry); t7 = now (t7 .entry); t8 = now (t8 .entry); t9 = now (t9 .entry); t10 = now (t10 .entry); t15 = now (t15 .entry); t16 = now (t16 .entry); t17 = now (t17 .entry) }) (record { tokens = now (i1 .entry); rules = now (i7 .entry) }) (now (out .entry))) ⌝ }
 {
     values::zero(out);
     if (kind < 1) | (4 < kind) {

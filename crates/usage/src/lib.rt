@@ -580,7 +580,7 @@ pub fn mark(
 ) -> Marking
     ensures { λ r. ⌜ MarkedBits (now (src .entry)) c g (record { t1 = now (t1 .entry); t2 = now (t2 .entry); t3 = now (t3 .entry); t4 = now (t4 .entry); t5 = now (t5 .entry); t6 = now (t6 .entry); t7 = now (t7 .entry); t8 = now (t8 .entry); t9 = now (t9 .entry); t10 = now (t10 .entry) }) (record { tokens = now (i1 .entry); rules = now (i7 .entry) }) r (now (work .entry)) (now (work .exit)) ⌝ }
 {
-    match validation::validate(src, c, g, t1, t2, t3, t4, t5, t6, t7, t8, t9, t10, i1, i7) {
+    match validator::validate(src, c, g, t1, t2, t3, t4, t5, t6, t7, t8, t9, t10, i1, i7) {
         Validity::Valid => {
             let start = g.start;
             if reach::mark_used(work, src, c, start, t1, t7, t8, t9, i1, i7) {

@@ -12,7 +12,7 @@ use Rattle.blocks.specs.Blocks.{contentOf}
 use Rattle.grammar.specs.Sound.{AllTables, Indexes}
 use Rattle.catalogue.specs.declared.Head.{Head}
 use Rattle.restoring.specs.declared.Restoring.the-variants.{AllRestored, RestoringUnsound}
-use Rattle.restoring.specs.Restoring.{Restored, Tested, filledTables, filledSource, clearedOut, filledIn}
+use Rattle.restoring.specs.Restoring.{Restored, Tested, filledTables, filledSource, clearedOut, filledFrom}
 use Rattle.restoring.proofs.Laws.{content-rows, stays, goes, cleared-out}
 use Rattle.restoring.proofs.fill.Statement.{statement}
 use Rattle.restoring.proofs.fill.Tie as tie
@@ -61,10 +61,10 @@ module _ (c : tie.After-test-filled) where
   test-is : Tested (take (head .length) source′) (head .counts) (head .posix) (head .singles) tables′ (length (indexes .tokens)) (length (indexes .rules)) (c .test-filled .result) indexes′
   test-is = c .test-filled .ensures
 
-  kept : c .test-filled .result ≡ true → record { answer = AllRestored; head = head; source = source′; tables = tables′; indexes = indexes′ } ≡ filledIn content head source tables indexes
+  kept : c .test-filled .result ≡ true → record { answer = AllRestored; head = head; source = source′; tables = tables′; indexes = indexes′ } ≡ filledFrom content head source tables indexes
   kept e = stays content head source tables indexes source′ tables′ (c .test-filled .result) indexes′ tables-are source-is test-is e
 
-  lost : c .test-filled .result ≡ false → (o : Restored) → o ≡ clearedOut RestoringUnsound source′ tables′ indexes′ → o ≡ filledIn content head source tables indexes
+  lost : c .test-filled .result ≡ false → (o : Restored) → o ≡ clearedOut RestoringUnsound source′ tables′ indexes′ → o ≡ filledFrom content head source tables indexes
   lost e o f = goes content head source tables indexes source′ tables′ (c .test-filled .result) indexes′ tables-are source-is test-is e o f
 
 -- where the test has answered, at either return
