@@ -19,7 +19,7 @@ use Rattle.catalogue.proofs.Room.{filled-iff}
 
 -- ---- lists below a bound
 
-append-below : (m : ℕ) (a b : List ℕ) → ((j : ℕ) → getD a j 0 < m) → ((j : ℕ) → getD b j 0 < m) → (j : ℕ) → getD (a ++ b) j 0 < m
+pub append-below : (m : ℕ) (a b : List ℕ) → ((j : ℕ) → getD a j 0 < m) → ((j : ℕ) → getD b j 0 < m) → (j : ℕ) → getD (a ++ b) j 0 < m
 append-below m [] b f g j = g j
 append-below m (x ∷ a) b f g zero = f 0
 append-below m (x ∷ a) b f g (suc j) = append-below m a b (λ i. f (suc i)) g j

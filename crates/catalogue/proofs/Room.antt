@@ -1,22 +1,23 @@
 -- What the tests of room and of padding tell, without a search. Assumes nothing.
 use Prim.Native.Nat.{ℕ, zero, suc, _+_, _*_, _-_, _≤_, _<_}
 use mathlib.Core.Path.{_≡_, refl}
-use mathlib.Core.List.{List}
+use mathlib.Core.List.{List, []}
 use mathlib.Core.Bool.{Bool, true, false}
 use mathlib.Core.Logic.{_↔_}
 use native.Mathlib.Omega.{arith}
 use native.Mathlib.Decide.{decLt, ℕ-discrete}
 use borrow.Author.Tests.{leb-true, leb-false}
 use lib.Dec.{leb}
-use lib.ListN.{length, getD, drop, replicate}
+use lib.ListN.{length, getD, drop, replicate, List·getD-map}
 use Rattle.tables.specs.Layout.{tableNumber}
 use Rattle.tables.proofs.Tells.{both-iff, eq-iff}
 use Rattle.tables.proofs.Laws.{number-low, number-high}
 use Rattle.grammar.specs.declared.Counts.{Counts}
 use Rattle.grammar.specs.declared.PosixCounts.{PosixCounts}
+use Rattle.grammar.specs.Sound.{AllTables, listOf, cellsOf}
 use Rattle.blocks.specs.Blocks.{blocksFor}
 use Rattle.blocks.proofs.Content.{zero-bytes-iff}
-use Rattle.catalogue.specs.Catalogue.{cellsAt, firstShort, ShortAt, filledTest}
+use Rattle.catalogue.specs.Catalogue.{cellsAt, firstShort, ShortAt, filledTest, lengthsOf}
 
 -- no table has number 0
 pub number-some : (k : ℕ) → tableNumber k ≡ 0 → ⊥
@@ -64,3 +65,7 @@ filled-iff b n =
       λ h. let x = f .0 h in (x .0, zero-bytes-iff b n (length b - n) (omega (arith, x .0)) .0 (x .1)),
       λ x. f .1 (x .0, zero-bytes-iff b n (length b - n) (omega (arith, x .0)) .1 (x .1)),
     )
+
+-- the lent lengths are the tables'
+pub lengths-at : (T : AllTables) (k : ℕ) → getD (lengthsOf T) k 0 ≡ length (cellsOf T k)
+lengths-at T k = List·getD-map length (listOf T) k []

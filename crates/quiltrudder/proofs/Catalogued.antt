@@ -25,6 +25,7 @@ use Rattle.singles.specs.Singles.{expectCells, singlesCells, countsCells, posix
 use Rattle.singles.proofs.Laws.{singles-length, cells-back}
 use Rattle.catalogue.specs.declared.Head.{Head}
 use Rattle.catalogue.specs.Catalogue.{Fit32, Bytes, headCells, cellsAt, soundReading}
+use Rattle.catalogue.proofs.Contents.{append-below}
 use Rattle.storing.specs.declared.Storing.{Storing}
 use Rattle.storing.specs.declared.Storing.the-variants.{StoredBlocks, UnknownKind, StoringUnsound, NoBlocks}
 use Rattle.storing.specs.Storing.{headWith, storingNumbers, storeAll}
@@ -53,8 +54,7 @@ fit-none zero = omega arith
 fit-none (suc j) = omega arith
 
 fit-append : (xs ys : List ℕ) → Fit32 xs → Fit32 ys → Fit32 (xs ++ ys)
-fit-append [] ys f g = g
-fit-append (x ∷ xs) ys f g = fit-cons x (xs ++ ys) (f 0) (fit-append xs ys (λ j. f (suc j)) g)
+fit-append = append-below 4294967296
 
 fit-three : (a b c : ℕ) → a < 4294967296 → b < 4294967296 → c < 4294967296 → Fit32 (a ∷ b ∷ c ∷ [])
 fit-three a b c h k l = fit-cons a (b ∷ c ∷ []) h (fit-cons b (c ∷ []) k (fit-cons c [] l fit-none))

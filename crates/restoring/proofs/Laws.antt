@@ -23,7 +23,7 @@ use Rattle.catalogue.specs.declared.Head.{Head}
 use Rattle.catalogue.specs.declared.Finding.{Finding}
 use Rattle.catalogue.specs.declared.Finding.the-variants.{Holds, NoWholeBlocks, FaultyNumber, FaultyCheck, Unfilled, WrongSize, NoRoom}
 use Rattle.catalogue.specs.Catalogue.{cellsAt, cellsBefore, rowsFrom, contentSize, headOf, headIn, headTest, filledTest, firstShort, shortTable, noRoom, lengthsOf, roomed, sizedHead, goodHead, heldIn, rightBlocks, wholeTest, wholeBlocks, examined, soundReading}
-use Rattle.catalogue.proofs.Room.{short-none, filled-iff}
+use Rattle.catalogue.proofs.Room.{short-none, filled-iff, lengths-at}
 use Rattle.reader.proofs.Laws.{zeroed-again}
 use Rattle.restoring.specs.declared.Restoring.{Restoring}
 use Rattle.restoring.specs.declared.Restoring.the-variants.{AllRestored, RestoringUnsound}
@@ -126,23 +126,6 @@ holds-fits s sized ls l e =
     let full = filled-iff (contentOf s) n .0 (f .0) .0 in
     let r = short-source (firstShort (h .counts) (h .posix) ls 0 13) (h .length) l (f .1) in
     record { some = omega (arith, some, whole); content = omega (arith, full, of-length s); tables = λ k d. short-none (h .counts) (h .posix) ls 0 13 .0 (r .0) k (omega arith) (omega arith); source = r .1 }
-
--- the lent lengths are the tables'
-lengths-at : (T : AllTables) (k : ℕ) → getD (lengthsOf T) k 0 ≡ length (cellsOf T k)
-lengths-at T zero = refl
-lengths-at T (suc zero) = refl
-lengths-at T (suc (suc zero)) = refl
-lengths-at T (suc (suc (suc zero))) = refl
-lengths-at T (suc (suc (suc (suc zero)))) = refl
-lengths-at T (suc (suc (suc (suc (suc zero))))) = refl
-lengths-at T (suc (suc (suc (suc (suc (suc zero)))))) = refl
-lengths-at T (suc (suc (suc (suc (suc (suc (suc zero))))))) = refl
-lengths-at T (suc (suc (suc (suc (suc (suc (suc (suc zero)))))))) = refl
-lengths-at T (suc (suc (suc (suc (suc (suc (suc (suc (suc zero))))))))) = refl
-lengths-at T (suc (suc (suc (suc (suc (suc (suc (suc (suc (suc zero)))))))))) = refl
-lengths-at T (suc (suc (suc (suc (suc (suc (suc (suc (suc (suc (suc zero))))))))))) = refl
-lengths-at T (suc (suc (suc (suc (suc (suc (suc (suc (suc (suc (suc (suc zero)))))))))))) = refl
-lengths-at T (suc (suc (suc (suc (suc (suc (suc (suc (suc (suc (suc (suc (suc k))))))))))))) = refl
 
 -- ---- what filling leaves
 

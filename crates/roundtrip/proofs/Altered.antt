@@ -21,10 +21,11 @@ use Rattle.catalogue.specs.declared.Head.{Head}
 use Rattle.catalogue.specs.declared.Finding.{Finding}
 use Rattle.catalogue.specs.declared.Finding.the-variants.{Holds, NoWholeBlocks, FaultyNumber, FaultyCheck, Unfilled, WrongSize, NoRoom}
 use Rattle.catalogue.specs.Catalogue.{Bytes, rowsFrom, contentSize, headIn, lengthsOf, wholeTest, examined, soundReading}
+use Rattle.catalogue.proofs.Room.{lengths-at}
 use Rattle.restoring.specs.declared.Restoring.the-variants.{AllRestored, BadNumber, BadCheck, RestoringUnsound}
 use Rattle.restoring.specs.Restoring.{noHead, clearIndexes, clearedOut, filledTables, filledSource, enteredIndexes, keptIf, filledFrom, restoredAs, restored}
 use Rattle.restoring.proofs.Laws.{Fits, holds-fits}
-use Rattle.roundtrip.proofs.Cases.{held-iff, loaded-held, restored-found, tables-ext, lengths-at, zero-at, fresh-length, fresh-source}
+use Rattle.roundtrip.proofs.Cases.{held-iff, loaded-held, restored-found, tables-ext, zero-at, fresh-length, fresh-source}
 
 -- ---- one altered byte
 

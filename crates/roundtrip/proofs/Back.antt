@@ -29,7 +29,7 @@ use Rattle.catalogue.specs.declared.Head.{Head}
 use Rattle.catalogue.specs.declared.Finding.the-variants.{Holds}
 use Rattle.catalogue.specs.Catalogue.{headCells, headOf, headIn, headTest, filledTest, cellsAt, contentSize, content, noRoom, lengthsOf, wholeTest, soundReading}
 use Rattle.catalogue.proofs.Heads.{head-length, head-back, head-iff}
-use Rattle.catalogue.proofs.Room.{short-none, filled-iff}
+use Rattle.catalogue.proofs.Room.{short-none, filled-iff, lengths-at}
 use Rattle.catalogue.proofs.Contents.{content-length, head-read, rows-read, source-read}
 use Rattle.storing.specs.declared.Storing.the-variants.{StoredBlocks}
 use Rattle.storing.specs.Storing.{headWith, storeAll}
@@ -38,7 +38,7 @@ use Rattle.storing.proofs.Theorems.{stored-iff, stored-holds}
 use Rattle.restoring.specs.declared.Restoring.the-variants.{AllRestored}
 use Rattle.restoring.specs.Restoring.{Restored, clearIndexes, filledTables, filledSource, enteredIndexes, keptIf, filledFrom, restored}
 use Rattle.roundtrip.specs.Roundtrip.{Plain, Back}
-use Rattle.roundtrip.proofs.Cases.{Held, held-iff, restored-found, tables-ext, lengths-at, fresh-cells, fresh-length, fresh-source}
+use Rattle.roundtrip.proofs.Cases.{Held, held-iff, restored-found, tables-ext, fresh-cells, fresh-length, fresh-source}
 use Rattle.roundtrip.proofs.Rows.{sound-table, rows-sound}
 
 -- ---- blocks without what is behind them

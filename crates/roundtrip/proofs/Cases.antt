@@ -120,9 +120,6 @@ module _ (S : List ℕ) (T : AllTables) (X : Indexes) where
 pub tables-ext : (T U : AllTables) → ((k : ℕ) → k < 13 → cellsOf T k ≡ cellsOf U k) → T ≡ U
 tables-ext T U f = ap ofList (ext-getD [] (listOf T) (listOf U) refl f)
 
-pub lengths-at : (T : AllTables) (k : ℕ) → getD (lengthsOf T) k 0 ≡ length (cellsOf T k)
-lengths-at T k = List·getD-map length (listOf T) k []
-
 pub zero-at : (T : AllTables) (k : ℕ) → cellsOf (zeroAll T) k ≡ zeroed (cellsOf T k)
 zero-at T k = List·getD-map zeroed (listOf T) k []
 

@@ -1,12 +1,12 @@
 -- Soundness depends on the rows below the counts: tables with the same rows and zeros behind them are sound with the indexes that entering their rows gives. Assumes nothing.
 use Prim.Native.Nat.{ℕ, zero, suc, _+_, _*_, _-_, _≤_, _<_}
 use mathlib.Core.Path.{_≡_, refl, sym, ap, _∙_}
-use mathlib.Core.List.{List, [], _∷_, _++_}
+use mathlib.Core.List.{List, _++_}
 use mathlib.Core.Bool.{Bool, true, false}
 use native.Mathlib.Omega.{arith}
 use native.Mathlib.Decide.{decLt}
 use lib.Dec.{eqb}
-use lib.ListN.{length, getD, take, drop, replicate, List·getD-append}
+use lib.ListN.{length, getD, take, drop, replicate}
 use lib.Seq.{length-take-le, getD-take, take-at, drop-at}
 use Rattle.tables.specs.declared.Found.{Found}
 use Rattle.tables.specs.declared.Found.the-variants.{RowAt}
@@ -20,6 +20,7 @@ use Rattle.symbols.specs.Symbols.{rowNumber, namedRow, rowFor, Knows}
 use Rattle.grammar.specs.declared.Counts.{Counts}
 use Rattle.grammar.specs.declared.PosixCounts.{PosixCounts}
 use Rattle.grammar.specs.declared.Singles.{Singles}
+use Rattle.grammar.proofs.Far.{ten-tab}
 use Rattle.grammar.specs.Sound.{AllTables, tenOf, tab, cellsOf, Indexes, SoundIndexes, lexiconOf, each, pairs, Table, soundView, Sound, PosixSound}
 use Rattle.catalogue.specs.Catalogue.{rowsAt, cellsAt}
 use Rattle.catalogue.proofs.Laws.{rows-ten, rows-three}
@@ -68,14 +69,11 @@ module _ (w n : ℕ) (t u : List ℕ) (ft : n * w ≤ length t) (fu : n * w ≤ 
 
 -- ---- all tables
 
-ten-tab : (T : AllTables) (k : ℕ) → k < 10 → cellsOf T k ≡ tab (tenOf T) k
-ten-tab T k h = List·getD-append (T .t1 ∷ T .t2 ∷ T .t3 ∷ T .t4 ∷ T .t5 ∷ T .t6 ∷ T .t7 ∷ T .t8 ∷ T .t9 ∷ T .t10 ∷ []) (T .t15 ∷ T .t16 ∷ T .t17 ∷ []) [] k h
-
 -- what soundness says of each of the thirteen
 pub sound-table : (src : List ℕ) (c : Counts) (p : PosixCounts) (g : Singles) (T : AllTables) (X : Indexes) → Sound src c g (tenOf T) X → PosixSound src c p T → (k : ℕ) → k < 13 → Table src (soundView c) k (rowsAt c p k) (cellsOf T k)
 sound-table src c p g T X S P k h =
     elim (decLt k 10) [
-      | yes l ↦ rw (ten-tab T k l, ← rows-ten c p k l) (record { fits = S .fits k l; low = S .low k l; clean = S .clean k l; each = λ r b. S .rows k r l b; pairs = λ q r a b. S .names k q r l a b })
+      | yes l ↦ rw (← ten-tab T k l, ← rows-ten c p k l) (record { fits = S .fits k l; low = S .low k l; clean = S .clean k l; each = λ r b. S .rows k r l b; pairs = λ q r a b. S .names k q r l a b })
       | no l ↦
           let e : posixFrom + (k - 10) ≡ k = omega arith in
           rw (← rows-three c p k (omega arith) h) (rw e at (P .tables (k - 10) (omega arith)))
@@ -97,7 +95,7 @@ module _ (src : List ℕ) (c : Counts) (p : PosixCounts) (g : Singles) (T : AllT
   now k h = rows-same (width k) (rowsAt c p k) (cellsOf T k) (cellsOf U k) (was k h .fits) (fits k h) (front k h) (clean k h) (was k h)
 
   now-ten : (k : ℕ) → k < 10 → Table src (soundView c) k (getD (c .n) k 0) (tab (tenOf U) k)
-  now-ten k h = rw (← ten-tab U k h, rows-ten c p k h) (now k (omega arith))
+  now-ten k h = rw (ten-tab U k h, rows-ten c p k h) (now k (omega arith))
 
   now-three : (k : ℕ) → k < 3 → Table src (soundView c) (posixFrom + k) (getD (p .n) k 0) (cellsOf U (posixFrom + k))
   now-three k h =

@@ -1,7 +1,7 @@
 -- What is put piece by piece is the whole content; what a sound reading says of its size; and what is left of `stored` behind each test. Assumes nothing.
 use Prim.Native.Nat.{ℕ, zero, suc, _+_, _*_, _-_, _≤_, _<_}
 use mathlib.Core.Path.{_≡_, refl, sym, ap, _∙_}
-use mathlib.Core.List.{List, [], _∷_, _++_}
+use mathlib.Core.List.{List, _++_}
 use mathlib.Core.Bool.{Bool, true, false, _&&_, _||_, false≢true}
 use mathlib.Core.Logic.{_↔_}
 use native.Mathlib.Omega.{arith}
@@ -9,7 +9,7 @@ use native.Mathlib.Nat.{mul-le-mul-right}
 use native.Mathlib.Decide.{decLt}
 use borrow.Author.Tests.{leb-true, leb-false, le-ltb, ltb-false}
 use lib.Dec.{leb, ltb}
-use lib.ListN.{length, take, length-append, List·getD-append}
+use lib.ListN.{length, take, length-append}
 use lib.Seq.{length-take-le, take-all}
 use Rattle.tables.specs.Layout.{width, posixFrom}
 use Rattle.tables.specs.Table.{zeroed}
@@ -17,7 +17,8 @@ use Rattle.tables.proofs.Tells.{both-iff, le-iff}
 use Rattle.grammar.specs.declared.Counts.{Counts}
 use Rattle.grammar.specs.declared.PosixCounts.{PosixCounts}
 use Rattle.grammar.specs.declared.Singles.{Singles}
-use Rattle.grammar.specs.Sound.{AllTables, Indexes, Sound, PosixSound, tab, tenOf, cellsOf}
+use Rattle.grammar.proofs.Far.{ten-tab}
+use Rattle.grammar.specs.Sound.{AllTables, Indexes, Sound, PosixSound, tenOf, cellsOf}
 use Rattle.sound.proofs.Iff.{sound-iff, posix-iff}
 use Rattle.blocks.specs.Blocks.{bytesOfAll, capacity, putContent, sealAll, blocksFor, blocksOf}
 use Rattle.blocks.proofs.Content.{put-append, bytes-append, bytes-length}
@@ -108,13 +109,10 @@ module _ (src : List ℕ) (c : Counts) (p : PosixCounts) (g : Singles) (T : AllT
   pub reading-short : length src ≤ 65536
   reading-short = both .0 .short
 
-  ten-tab : (k : ℕ) → k < 10 → cellsOf T k ≡ tab (tenOf T) k
-  ten-tab k h = List·getD-append (T .t1 ∷ T .t2 ∷ T .t3 ∷ T .t4 ∷ T .t5 ∷ T .t6 ∷ T .t7 ∷ T .t8 ∷ T .t9 ∷ T .t10 ∷ []) (T .t15 ∷ T .t16 ∷ T .t17 ∷ []) [] k h
-
   reading-each : (k : ℕ) → k < 13 → (cellsAt c p k ≤ length (cellsOf T k)) × (rowsAt c p k ≤ 4294967295)
   reading-each k h =
       elim (decLt k 10) [
-        | yes l ↦ rw (ten-tab k l, ← rows-ten c p k l) (both .0 .fits k l, both .0 .low k l)
+        | yes l ↦ rw (← ten-tab T k l, ← rows-ten c p k l) (both .0 .fits k l, both .0 .low k l)
         | no l ↦
             let e : posixFrom + (k - 10) ≡ k = omega arith in
             let t = both .1 .tables (k - 10) (omega arith) in
