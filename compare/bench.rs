@@ -1,7 +1,7 @@
 //! Times the crate against the library, in one process: parse, `complete_and_validate` and `unused_symbols` against load and report.
 //! bench KIND:FILE.. prints, for each file, the best of several runs of each in microseconds, of parse and `complete_and_validate` against load and of all of it, the ratio, and for a file that follows its half the growth of both; tables are
 //! lent with a row more than the reading needs and the smallest indexes that go with them, and are cleared by `load` itself, which counts. A second table has each operation by itself, and load once more with
-//! tables for any source of 65,536 bytes.
+//! tables for any source of 65,536 bytes. A third has load beside `load_stored` of the same reading's blocks, into the same tables, and storing it.
 
 mod header;
 mod span;
@@ -28,13 +28,17 @@ macro_rules! lent {
     };
 }
 
-// A load is lent kind 4's tables too, of no length: the sources are of kinds 1 to 3.
-macro_rules! loaded {
-    ($t:ident ($($head:expr),*) ($($tail:expr),*)) => {{
+// A load, storing and loading back are lent kind 4's tables too, of no length: the sources are of kinds 1 to 3.
+macro_rules! lent_all {
+    ($f:ident $t:ident ($($head:expr),*) ($($tail:expr),*)) => {{
         let none = [0u32; 1];
         let p = none.as_ptr();
-        lent!(quiltrudder_load $t ($($head),*) (p, 0, p, 0, p, 0, $($tail),*))
+        lent!($f $t ($($head),*) (p, 0, p, 0, p, 0, $($tail),*))
     }};
+}
+
+macro_rules! loaded {
+    ($t:ident ($($head:expr),*) ($($tail:expr),*)) => { lent_all!(quiltrudder_load $t ($($head),*) ($($tail),*)) };
 }
 
 type P = *const u32;
@@ -53,6 +57,10 @@ unsafe extern "C" {
         f: P, fn_: usize, g: P, gn: usize, h: P, hn: usize, i: P, in_: usize, j: P, jn: usize, k: P, kn: usize, l: P, ln: usize, work: *mut u32, wn: usize, answer: *mut u32);
     fn quiltrudder_prune(src: *const u8, len: usize, reading: *mut u32, a: P, an: usize, b: P, bn: usize, c: P, cn: usize, d: P, dn: usize, e: P, en: usize,
         f: P, fn_: usize, g: P, gn: usize, h: P, hn: usize, i: P, in_: usize, j: P, jn: usize, k: P, kn: usize, l: P, ln: usize, work: *mut u32, wn: usize, answer: *mut u32);
+    fn quiltrudder_store(src: *const u8, len: usize, kind: u32, reading: *const u32, a: P, an: usize, b: P, bn: usize, c: P, cn: usize, d: P, dn: usize, e: P, en: usize,
+        f: P, fn_: usize, g: P, gn: usize, h: P, hn: usize, i: P, in_: usize, j: P, jn: usize, k: P, kn: usize, l: P, ln: usize, t15: P, n15: usize, t16: P, n16: usize, t17: P, n17: usize, blocks: *mut u8, bytes: usize, answer: *mut u32);
+    fn quiltrudder_load_stored(blocks: *const u8, bytes: usize, src: *mut u8, len: usize, a: P, an: usize, b: P, bn: usize, c: P, cn: usize, d: P, dn: usize, e: P, en: usize,
+        f: P, fn_: usize, g: P, gn: usize, h: P, hn: usize, i: P, in_: usize, j: P, jn: usize, k: P, kn: usize, l: P, ln: usize, t15: P, n15: usize, t16: P, n16: usize, t17: P, n17: usize, answer: *mut u32);
 }
 
 fn load(kind: u32, src: &[u8], t: &mut Lent) -> u32 {
@@ -91,6 +99,22 @@ fn single(kind: u32, src: &[u8], t: &mut Lent, work: &mut [u32], out: &mut [u32]
         times[6] = best(|| loaded!(w (s, n, kind) (o.as_mut_ptr())));
     }
     times
+}
+
+// load, load_stored and store of a source, into the same tables and a source of as many bytes, in microseconds; and the blocks' bytes. None where what is loaded back is not the reading.
+fn catalogued(kind: u32, src: &[u8], t: &mut Lent) -> Option<([f64; 3], usize)> {
+    let (mut o, mut r, mut s) = ([0u32; 43], [0u32; 45], [0u32; 8]);
+    let (p, n, mut text) = (src.as_ptr(), src.len(), vec![0u8; src.len()]);
+    let mut times = [0.0; 3];
+    unsafe {
+        times[0] = best(|| loaded!(t (p, n, kind) (o.as_mut_ptr())));
+        let cells: usize = (0..10).map(|k| o[4 + k] as usize * WIDTH[k]).sum();
+        let mut blocks = vec![0u8; (156 + 4 * cells + n).div_ceil(504) * 512];
+        times[2] = best(|| lent_all!(quiltrudder_store t (p, n, kind, o.as_ptr()) (blocks.as_mut_ptr(), blocks.len(), s.as_mut_ptr())));
+        let read = t.clone();
+        times[1] = best(|| lent_all!(quiltrudder_load_stored t (blocks.as_ptr(), blocks.len(), text.as_mut_ptr(), text.len()) (r.as_mut_ptr())));
+        (s[0] == 0 && s[4] as usize * 512 == blocks.len() && r[0] == 0 && r[4..41] == o[4..41] && r[43..] == [kind, n as u32] && *t == read && text == src).then_some((times, blocks.len()))
+    }
 }
 
 fn which(kind: u32) -> YaccKind {
@@ -143,7 +167,7 @@ fn main() {
     println!("| Source | Bytes | parse and validate, µs | load, µs | load / crate | growth from half, crate | load | crate, µs | library, µs | library / crate | growth from half, crate | library |");
     println!("|---|---|---|---|---|---|---|---|---|---|---|---|");
     let mut half = (String::new(), [0.0; 4]);
-    let mut singles = Vec::new();
+    let (mut singles, mut stored) = (Vec::new(), Vec::new());
     for word in std::env::args().skip(1) {
         let (kind, file) = word.split_once(':').expect("KIND:FILE");
         let kind: u32 = kind.parse().expect("a kind");
@@ -186,11 +210,20 @@ fn main() {
         println!("| {name}{} | {} | {} | {} |", if agree { "" } else { " (ANSWERS DIFFER)" }, src.len(), pair(0), pair(2));
         half = (name.to_string(), times);
         singles.push((name.to_string(), single(kind, src.as_bytes(), &mut t, &mut work, &mut out)));
+        stored.push((name.to_string(), catalogued(kind, src.as_bytes(), &mut t)));
     }
     println!("\n| Source | load, µs | validate | faults | mark | report | prune | load into tables for any source |");
     println!("|---|---|---|---|---|---|---|---|");
     for (name, times) in singles {
         println!("| {name} | {} |", times.iter().map(|t| format!("{t:.0}")).collect::<Vec<_>>().join(" | "));
+    }
+    println!("\n| Source | Blocks' bytes | load, µs | load_stored | load_stored / load | store |");
+    println!("|---|---|---|---|---|---|");
+    for (name, told) in stored {
+        match told {
+            Some(([load, back, store], bytes)) => println!("| {name} | {bytes} | {load:.0} | {back:.0} | {:.2} | {store:.0} |", back / load),
+            None => println!("| {name} (NOT THE SAME WHEN LOADED BACK) | | | | | |"),
+        }
     }
     println!("\nTables are lent as the last call left them, with a row more than the reading needs, and the report with as many as there are rules and tokens; an operation clears what it writes itself, and that counts.");
 }

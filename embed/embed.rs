@@ -1,12 +1,12 @@
-//! embed KIND FILE: loads a specification and prints the rules and tokens that nothing uses; or the answer that refuses it, and every fault of a
-//! file that does not validate.
+//! embed KIND FILE [BLOCKS]: loads a specification and prints the rules and tokens that nothing uses; or the answer that refuses it, and every fault
+//! of a file that does not validate. A third argument is a file that the blocks of what was read go to.
 
 /// Quiltrudder for Rust. Every function of the library takes any bytes, numbers and lengths, so the wrapper tests nothing: it makes the slices, and
 /// the types see to it that what a function writes is lent to it alone.
 #[allow(dead_code)]
 mod quiltrudder {
     mod c {
-        // What `include/quiltrudder.h` declares: a slice is a pointer and a length.
+        // What `include/quiltrudder.h` declares: a slice is a pointer and a length. The first one is the source, or the blocks that are loaded.
         macro_rules! declare {
             ($($name:ident($($before:ident: $before_type:ty),*; $pointer:ty; $($after:ident: $after_type:ty),*);)*) => {
                 extern "C" {
@@ -49,6 +49,14 @@ mod quiltrudder {
             quiltrudder_next_unused(reading: *const [u32; 43]; *const u32; work: *const u32, work_length: usize, at: *mut [u32; 2], answer: *mut [u32; 8]);
             quiltrudder_name(reading: *const [u32; 43]; *const u32; table: u32, row: u32, answer: *mut [u32; 4]);
             quiltrudder_epp_value(reading: *const [u32; 43]; *const u32; row: u32, out: *mut u8, out_length: usize, answer: *mut [u32; 8]);
+            quiltrudder_store(
+                kind: u32, reading: *const [u32; 43]; *const u32;
+                t15: *const u32, t15_length: usize, t16: *const u32, t16_length: usize, t17: *const u32, t17_length: usize, blocks: *mut u8, blocks_length: usize, answer: *mut [u32; 8]
+            );
+            quiltrudder_load_stored(
+                text: *mut u8, text_length: usize; *mut u32;
+                t15: *mut u32, t15_length: usize, t16: *mut u32, t16_length: usize, t17: *mut u32, t17_length: usize, answer: *mut [u32; 45]
+            );
         }
     }
 
@@ -108,9 +116,11 @@ mod quiltrudder {
         Token(u32),
     }
 
-    /// A source and what was read of it: ten tables, and the indexes of tables 1 and 7; beside them tables 15 to 17.
+    /// A source, its kind and what was read of it: ten tables, and the indexes of tables 1 and 7; beside them tables 15 to 17.
+    #[derive(Debug)]
     pub struct Reading<'a> {
         src: &'a [u8],
+        kind: u32,
         cells: [u32; 43],
         lent: [Vec<u32>; 12],
         posix: [Vec<u32>; 3],
@@ -158,24 +168,86 @@ mod quiltrudder {
         }};
     }
 
+    /// Tables 1 to 10 with room for so many rows each, and indexes that are large enough for them.
+    fn lend(rows: [usize; 10]) -> [Vec<u32>; 12] {
+        let slots = |table: usize| (2 * rows[table - 1]).next_power_of_two();
+        std::array::from_fn(|k| vec![0; if k < 10 { rows[k] * WIDTHS[k] } else { slots([1, 7][k - 10]) }])
+    }
+
+    fn lend_posix(rows: [usize; 3]) -> [Vec<u32>; 3] {
+        std::array::from_fn(|k| vec![0; rows[k] * POSIX_WIDTHS[k]])
+    }
+
     /// Reads a source of kind 1, 2, 3 or 4 and validates what was read, with room for so many rows in each table, and indexes that are large enough.
     pub fn load(src: &[u8], kind: u32, rows: usize) -> Reading<'_> {
         let mut cells = [0; 43];
-        let slots = (2 * rows).next_power_of_two();
-        let lengths = WIDTHS.map(|width| rows * width).into_iter().chain([slots, slots]);
-        let mut lent: [Vec<u32>; 12] = lengths.map(|length| vec![0; length]).collect::<Vec<_>>().try_into().unwrap();
-        let mut posix = POSIX_WIDTHS.map(|width| vec![0u32; if kind == 4 { rows * width } else { 0 }]);
+        let mut lent = lend([rows; 10]);
+        let mut posix = lend_posix([if kind == 4 { rows } else { 0 }; 3]);
         let [t15, t16, t17] = &mut posix;
         call!(
             quiltrudder_load, src, (kind), &mut lent, as_mut_ptr,
             (t15.as_mut_ptr(), t15.len(), t16.as_mut_ptr(), t16.len(), t17.as_mut_ptr(), t17.len(), &mut cells)
         );
-        Reading { src, cells, lent, posix }
+        Reading { src, kind, cells, lent, posix }
+    }
+
+    /// Reads back what was stored in blocks; the source goes into `src`. Lent is what the head of the first block asks for, but no more than the
+    /// blocks can hold: a head that asks for more is refused.
+    pub fn load_stored<'a>(blocks: &[u8], src: &'a mut Vec<u8>) -> Result<Reading<'a>, Answer> {
+        let head = |cell: usize| blocks.get(4 + 4 * cell..8 + 4 * cell).map_or(0, |b| u32::from_le_bytes([b[0], b[1], b[2], b[3]]) as usize);
+        let mut cells = [0; 45];
+        let mut lent = lend(std::array::from_fn(|k| head(k).min(blocks.len() / 4 / WIDTHS[k])));
+        let mut posix = lend_posix(std::array::from_fn(|k| head(10 + k).min(blocks.len() / 4 / POSIX_WIDTHS[k])));
+        src.clear();
+        src.resize(head(13).min(blocks.len()), 0);
+        let [t15, t16, t17] = &mut posix;
+        call!(
+            quiltrudder_load_stored, blocks, (src.as_mut_ptr(), src.len()), &mut lent, as_mut_ptr,
+            (t15.as_mut_ptr(), t15.len(), t16.as_mut_ptr(), t16.len(), t17.as_mut_ptr(), t17.len(), &mut cells)
+        );
+        let (kind, cells) = (cells[43], std::array::from_fn(|k| cells[k]));
+        if cells[0] != 0 {
+            return Err(answer(cells));
+        }
+        Ok(Reading { src, kind, cells, lent, posix })
     }
 
     impl<'a> Reading<'a> {
+        /// That of the load; after `load_stored` it is 0, and `validate` says whether what was stored is valid.
         pub fn answer(&self) -> Answer {
             answer(self.cells)
+        }
+
+        pub fn kind(&self) -> u32 {
+            self.kind
+        }
+
+        pub fn source(&self) -> &'a [u8] {
+            self.src
+        }
+
+        /// Writes the reading and its source into blocks, of which there are as many as it takes.
+        pub fn store(&self) -> Result<Vec<u8>, Answer> {
+            let rows = self.used().iter().map(|rows| 4 * rows.len()).sum::<usize>();
+            let mut blocks = vec![0u8; (156 + rows + self.src.len()).div_ceil(504) * 512];
+            let mut cells = [0; 8];
+            let [t15, t16, t17] = &self.posix;
+            call!(
+                quiltrudder_store, self.src, (self.kind, &self.cells), &self.lent, as_ptr,
+                (t15.as_ptr(), t15.len(), t16.as_ptr(), t16.len(), t17.as_ptr(), t17.len(), blocks.as_mut_ptr(), blocks.len(), &mut cells)
+            );
+            if cells[0] != 0 {
+                return Err(answer(cells));
+            }
+            Ok(blocks)
+        }
+
+        /// The rows of all thirteen tables, without the room behind them.
+        fn used(&self) -> [&[u32]; 13] {
+            std::array::from_fn(|k| match k.checked_sub(10) {
+                None => &self.lent[k][..self.cells[4 + k] as usize * WIDTHS[k]],
+                Some(p) => &self.posix[p][..self.cells[38 + p] as usize * POSIX_WIDTHS[p]],
+            })
         }
 
         /// The bytes of a place that stands in a row.
@@ -306,6 +378,13 @@ mod quiltrudder {
         }
     }
 
+    /// Equal kind, source, counts, singles and rows, whatever room was lent: those that give equal blocks. The indexes follow from the rows.
+    impl PartialEq for Reading<'_> {
+        fn eq(&self, other: &Self) -> bool {
+            (self.kind, self.src, &self.cells[4..41], self.used()) == (other.kind, other.src, &other.cells[4..41], other.used())
+        }
+    }
+
     impl Iterator for Unused<'_, '_> {
         type Item = Row;
 
@@ -325,20 +404,19 @@ mod quiltrudder {
     }
 }
 
-use quiltrudder::{Answer, Row};
+use quiltrudder::{Answer, Reading, Row};
 
 fn print_answer(a: Answer) {
     println!("answer {} {} {}", a.number, a.from, a.to);
 }
 
-fn print_report(src: &[u8], kind: u32) {
-    let reading = quiltrudder::load(src, kind, 1024);
+fn print_report(reading: &Reading) {
     let answer = reading.answer();
     if answer.number != 0 {
         print_answer(answer);
         if (30..=35).contains(&answer.number) {
             for fault in reading.faults().unwrap_or_default() {
-                let spot = quiltrudder::locate(src, fault.from);
+                let spot = quiltrudder::locate(reading.source(), fault.from);
                 println!("fault {} {} {} {} {}", fault.number, fault.from, fault.to, spot.line, spot.column);
             }
         }
@@ -362,18 +440,24 @@ fn print_report(src: &[u8], kind: u32) {
 fn main() {
     let args: Vec<String> = std::env::args().collect();
     let given = match args.as_slice() {
-        [_, kind, file] => kind.parse().ok().zip(std::fs::read(file).ok()),
+        [_, kind, file] | [_, kind, file, _] => kind.parse().ok().zip(std::fs::read(file).ok()),
         _ => None,
     };
-    match given {
-        Some((kind, src)) => print_report(&src, kind),
-        None => eprintln!("usage: embed KIND FILE"),
+    let Some((kind, src)) = given else {
+        return eprintln!("usage: embed KIND FILE [BLOCKS]");
+    };
+    let reading = quiltrudder::load(&src, kind, 1024);
+    // all of the source was read, be it valid or not
+    if let (0 | 20..=35, Some(path)) = (reading.answer().number, args.get(3)) {
+        let blocks = reading.store().expect("a reading can be stored");
+        std::fs::write(path, blocks).expect("the blocks can be written");
     }
+    print_report(&reading);
 }
 
 #[cfg(test)]
 mod tests {
-    use super::quiltrudder::{load, locate, Body, Row, Spot, Tag, TokenNumber};
+    use super::quiltrudder::{load, load_stored, locate, Answer, Body, Row, Spot, Tag, TokenNumber};
 
     #[test]
     fn kind_4_has_tags_numbers_and_bodies() {
@@ -462,5 +546,91 @@ mod tests {
     fn a_table_without_room_is_named() {
         let full = load(b"%%s:'a';", 1, 0).answer();
         assert_eq!((full.number, full.table), (42, 7));
+    }
+
+    /// Valid and invalid ones, one with repeats, and each kind.
+    const READ: [(&[u8], u32); 7] = [
+        (b"%%s:;", 1),
+        (b"%token A B\n%left 'x' A\n%epp A \"a\"\n%expect 3\n%expect-unused q%%s:'x' s|%prec A;t:A;q:'z' {act};%%rest", 1),
+        (b"%start q%%s:x %prec P;", 1),
+        (b"%left 'a'\n%left 'b' 'a'\n%%s:'a';", 1),
+        (b"%parse-param p: u32\n%%s -> T:'a';u -> U:;", 2),
+        (b"%avoid_insert 'a'\n%implicit_tokens W X\n%%s:'a';", 3),
+        (b"%{a%}%union{b}%token<t>A 300'b'\n%type<u>s%%s:A'b';", 4),
+    ];
+
+    fn number_of(blocks: &[u8]) -> Option<(u32, u32)> {
+        load_stored(blocks, &mut Vec::new()).err().map(|refused: Answer| (refused.number, refused.table))
+    }
+
+    #[test]
+    fn stored_readings_come_back() {
+        for (src, kind) in READ {
+            let reading = load(src, kind, 16);
+            assert!(matches!(reading.answer().number, 0 | 20..=27 | 30..=35), "{:?}", reading.answer());
+            let blocks = reading.store().unwrap();
+            let mut text = b"rubbish that is longer than any source here, so that none of it may stay behind what is read back ".repeat(9);
+            let back = load_stored(&blocks, &mut text).unwrap();
+            assert_eq!((back.kind(), back.source(), back.answer().number), (kind, src, 0));
+            assert_eq!(back, reading);
+            assert_eq!((back.validate(), back.faults(), back.report()), (reading.validate(), reading.faults(), reading.report()));
+            assert_eq!((back.tags(), back.token_numbers(), back.bodies()), (reading.tags(), reading.token_numbers(), reading.bodies()));
+            assert_eq!(back.store().unwrap(), blocks);
+        }
+    }
+
+    #[test]
+    fn equal_readings_give_equal_blocks() {
+        for (src, kind) in READ {
+            assert_eq!(load(src, kind, 16).store(), load(&src.to_vec(), kind, 99).store());
+        }
+        let of = |src, kind| load(src, kind, 8).store().unwrap();
+        assert_ne!(of(b"%%s:;", 1), of(b"%%s:;", 3));
+        assert_ne!(of(b"%%s:;", 1), of(b"%%t:;", 1));
+        assert_ne!(load(b"%%s:;", 1, 8), load(b"%%s:;", 3, 8));
+    }
+
+    #[test]
+    fn what_is_pruned_is_stored_as_it_is() {
+        let mut reading = load(b"%token A%%s:'x';t:A;", 1, 8);
+        let whole = reading.store().unwrap();
+        reading.prune().unwrap();
+        let (blocks, mut text) = (reading.store().unwrap(), Vec::new());
+        assert_ne!(blocks, whole);
+        let back = load_stored(&blocks, &mut text).unwrap();
+        assert_eq!((back.rows(7), back.rows(1), back.name(1, 0)), (1, 1, &b"x"[..]));
+        assert_eq!(back, reading);
+    }
+
+    #[test]
+    fn an_altered_byte_is_refused() {
+        for (src, kind) in READ {
+            let mut blocks = load(src, kind, 16).store().unwrap();
+            for at in 0..blocks.len() {
+                for bits in [1, 0x80, 0xff] {
+                    blocks[at] ^= bits;
+                    assert_eq!(number_of(&blocks), Some((if at % 512 < 4 { 61 } else { 62 }, 0)));
+                    blocks[at] ^= bits;
+                }
+            }
+            assert_eq!(number_of(&blocks), None);
+        }
+    }
+
+    #[test]
+    fn blocks_that_are_cut_or_too_many_are_refused() {
+        for (src, kind) in READ {
+            let blocks = load(src, kind, 16).store().unwrap();
+            for length in 0..blocks.len() {
+                assert_eq!(number_of(&blocks[..length]), Some((if length == 0 || length % 512 != 0 { 60 } else { 63 }, 0)));
+            }
+            assert_eq!(number_of(&[&blocks[..], &blocks[..512]].concat()), Some((61, 0)));
+        }
+    }
+
+    #[test]
+    fn no_kind_no_blocks() {
+        let refused = load(b"%%s:;", 5, 8).store().unwrap_err();
+        assert_eq!((refused.number, refused.table, refused.spot), (43, 0, Spot { line: 1, column: 1 }));
     }
 }
