@@ -7,10 +7,12 @@
 
 #define PAINT 0xa5
 
-enum { LOAD, VALIDATE, FAULTS, REPORT, MARK, PRUNE, OPERATIONS };
-static const char *const names[OPERATIONS] = {"load", "validate", "faults", "report", "mark", "prune"};
+/* Pruning comes last: it changes the reading. Loading back leaves the same one. */
+enum { LOAD, VALIDATE, FAULTS, REPORT, MARK, STORE, LOAD_STORED, PRUNE, OPERATIONS };
+static const char *const names[OPERATIONS] = {"load", "validate", "faults", "report", "mark", "store", "load_stored", "prune"};
 static uint32_t answer[64], kind, *work, *out;
-static size_t work_length = 8192, out_length = 4 * 65538;
+static size_t work_length = 8192, out_length = 4 * 65538, blocks_length = 8 << 20;
+static uint8_t *blocks, back[65536];
 
 static void *run(void *which) {
     switch (*(int *)which) {
@@ -19,6 +21,8 @@ static void *run(void *which) {
     case FAULTS: quiltrudder_faults(src, len, o, TABLES, out, out_length, answer); break;
     case REPORT: quiltrudder_report(src, len, o, TABLES, work, work_length, out, out_length, answer); break;
     case MARK: quiltrudder_mark(src, len, o, TABLES, work, work_length, answer); break;
+    case STORE: quiltrudder_store(src, len, kind, o, ALL_TABLES, blocks, blocks_length, answer); break;
+    case LOAD_STORED: quiltrudder_load_stored(blocks, answer[QUILTRUDDER_COUNT_LOW] * QUILTRUDDER_BLOCK_BYTES, back, sizeof back, ALL_TABLES, answer); break;
     default: quiltrudder_prune(src, len, o, TABLES, work, work_length, answer);
     }
     return NULL;
@@ -43,6 +47,7 @@ int main(int argc, char **argv) {
     static uint8_t bytes[65536];
     work = calloc(work_length, sizeof *work);
     out = calloc(out_length, sizeof *out);
+    blocks = malloc(blocks_length);
     for (int k = 1; k <= 10; k++) t[k] = calloc(n[k] = 65538 * width[k], sizeof **t);
     for (int i = 2; i < argc; i++) {
         FILE *f = fopen(argv[i] + 2, "rb");

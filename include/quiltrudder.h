@@ -1,5 +1,5 @@
 /* Quiltrudder for C: loading a Yacc specification (it is read, and what was read is validated), validating tables from elsewhere, the list of all faults, the unused report, its marking by itself, the unused
- * rows one by one, pruning, the name of a row, the value of an `%epp` row, and line and column of a place. Each function's contract is proved; the comments here say what the contracts say.
+ * rows one by one, pruning, a reading in the catalogue's blocks and back, the name of a row, the value of an `%epp` row, and line and column of a place. Each function's contract is proved; the comments here say what the contracts say.
  *
  * A slice is a pointer and a length, the length counted in elements. A pointer is never null, also where the length is 0, and no memory that a
  * function writes overlaps any other that it is lent. That is all a caller owes: every function takes any bytes, numbers and lengths, and ends. It
@@ -184,7 +184,7 @@ extern "C" {
  * that is named has no room for the row at the place. It never answers 44. After a refusal but 20 to 27 and 30 to 35, tables 1 to 9 and 15 to 17, both indexes and the counts of those tables are zero and the singles
  * absent, and repeats met before stay listed.
  *
- * Kinds 1 to 3 add no row to tables 15 to 17: for them lend slices of no length. No function below looks at the three. */
+ * Kinds 1 to 3 add no row to tables 15 to 17: for them lend slices of no length. Of the functions below only quiltrudder_store and quiltrudder_load_stored are lent the three. */
 void quiltrudder_load(
     const uint8_t *src, size_t src_length,
     uint32_t kind,
