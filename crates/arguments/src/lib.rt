@@ -1,4 +1,5 @@
 // What the programs do with their arguments: words, kinds of grammar by name, and files, of which `-` is standard input.
+#![tactic(auto)]
 
 pub fn is_word(a: &[u8], word: &[u8]) -> bool {
     a.len() == word.len() && scan::starts(a, 0, word)

@@ -1,4 +1,6 @@
 // Work bits: one bit a row, 32 to a word, lowest bit first. Past the words there is no bit to test or to set.
+#![tactic(auto)]
+
 ghost use Rattle.std.specs.Prelude.{◌≡◌, eqb};
 ghost use Rattle.bits.specs.Bits.{bit, set_bit};
 

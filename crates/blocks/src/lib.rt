@@ -1,17 +1,19 @@
 // Blocks of 512 bytes: a number (4), content (504), a check (4). Content byte i has a place of its own; no cursor but its index is kept. Numbers begin at multiples of 4,
 // so that none lies in two blocks.
+#![tactic(auto)]
+
 ghost use Rattle.std.specs.Prelude.{◌≡◌, ◌++◌, ◌+◌, ◌*◌, ◌/◌, ◌%◌, ◌-◌, ◌≤◌, ◌<◌, length, take, drop};
 ghost use Rattle.std.proofs.Math.Seq.{slice};
 ghost use Rattle.tables.specs.Table.{put};
 ghost use Rattle.blocks.specs.Blocks.{bytes_of, bytes_of_all, word_in, words_in, content_at, capacity, content_of, put_content, zero_bytes, sums_of, ok_at, block_fault, first_fault, seal_block, seal_all};
 
-#[derive(Drop)]
+#[derive(Clone, Copy)]
 pub struct Sums {
     first: u32,
     second: u32,
 }
 
-#[derive(Drop)]
+#[derive(Clone, Copy)]
 pub enum BlockFault {
     NoFault,
     WrongNumber,

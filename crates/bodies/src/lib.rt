@@ -1,4 +1,6 @@
 // The texts that kind 4 takes over whole: `%{` to `%}`, and the body of `%union`. Each declaration is handed the state behind its keyword, and where that begins.
+#![tactic(auto)]
+
 ghost use Rattle.std.specs.Prelude.{◌≡◌};
 ghost use Rattle.grammar.specs.State.{Out1, Here, Passed, Onward};
 ghost use Rattle.bodies.specs.Bodies.{body_row, prologue_decl, union_body, union_decl};

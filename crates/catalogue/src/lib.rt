@@ -1,4 +1,6 @@
 // What the catalogue's blocks hold: a head of 39 numbers (counts, the source's length, singles, kind), the rows of the thirteen tables that a read fills, and the source; and whether blocks hold that.
+#![tactic(auto)]
+
 ghost use Rattle.std.specs.Prelude.{◌≡◌, ◌+◌, ◌*◌, ◌≤◌, ◌<◌, length};
 ghost use Rattle.blocks.specs.Blocks.{capacity, content_of};
 ghost use Rattle.grammar.specs.Sound.{AllTables};
@@ -22,7 +24,7 @@ const KIND_CELL: usize = 38;
 // The tables' number where the source has no room.
 const SOURCE_TABLE: u32 = 19;
 
-#[derive(Drop)]
+#[derive(Clone, Copy)]
 pub struct Head {
     pub kind: u32,
     pub counts: Counts,
@@ -32,13 +34,13 @@ pub struct Head {
 }
 
 // The lent lengths of the thirteen tables by index.
-#[derive(Drop)]
+#[derive(Clone, Copy)]
 pub struct Rooms {
     pub n: [usize; 13],
 }
 
 // What blocks come to before anything is filled.
-#[derive(Drop)]
+#[derive(Clone, Copy)]
 pub enum Finding {
     Holds,
     NoWholeBlocks,

@@ -1,4 +1,6 @@
 // What the program `speccheck` does: for each file that its arguments name it prints what is wrong, in the form that editors and test machines read, with the line that is meant.
+#![tactic(auto)]
+
 ghost use Rattle.std.specs.Prelude.{◌≡◌, ◌≤◌, length};
 ghost use Rattle.places.specs.Places.{line_start};
 ghost use Rattle.checking.specs.Lines.{line_of};
@@ -66,7 +68,7 @@ const UNUSED_TOKEN: u32 = 101;
 const FIRST_GIVEN: u32 = 102;
 
 // What is to be said of which place: a number of document 01's, or one of those above.
-#[derive(Drop)]
+#[derive(Clone, Copy)]
 pub struct Finding {
     pub code: u32,
     pub from: u32,
@@ -74,21 +76,21 @@ pub struct Finding {
 }
 
 // How it is said.
-#[derive(Drop)]
+#[derive(Clone, Copy)]
 pub struct Form {
     pub is_quiet: bool,
     pub is_json: bool,
 }
 
 // What there was to say of a file.
-#[derive(Drop)]
+#[derive(Clone, Copy)]
 pub struct Tally {
     pub errors: u64,
     pub warnings: u64,
 }
 
 // The part of a line that is shown, and the part of it that is meant.
-#[derive(Drop)]
+#[derive(Clone, Copy)]
 pub struct View {
     pub from: usize,
     pub to: usize,
@@ -99,7 +101,7 @@ pub struct View {
 }
 
 // What the arguments have asked for so far, and what has come of it.
-#[derive(Drop)]
+#[derive(Clone, Copy)]
 pub struct Asked {
     pub kind: u32,
     pub is_quiet: bool,

@@ -1,4 +1,6 @@
 // Rows that stay close up in their old order; the cells behind them are zero. Once over the width.
+#![tactic(auto)]
+
 ghost use Rattle.std.specs.Prelude.{◌≡◌, ◌+◌, ◌*◌, ◌^◌, ◌≤◌, ◌<◌, length};
 ghost use Rattle.closing.specs.Close.{Step, moved, step, zero_from, Shut, close_up};
 

@@ -1,4 +1,5 @@
 // What the program `specprune` does: it loads a specification of kind 1 from standard input, prunes it, and prints both answers, and the rules and tokens that are left.
+#![tactic(auto)]
 
 // Each of the `n` rules or tokens, with the place of its name.
 fn print_left(t1: &[u32], t7: &[u32], kind: u32, n: u32) {

@@ -1,4 +1,6 @@
 // The declarations section: one declaration after another, up to `%%`.
+#![tactic(auto)]
+
 ghost use Rattle.std.specs.Prelude.{◌≡◌};
 ghost use Rattle.grammar.specs.State.{Here, Passed, Moves, Tokens};
 ghost use Rattle.declarations.specs.Declarations.{Declared, Givens, Out, decl_step, decl_run, decl_all};

@@ -1,5 +1,7 @@
 // What the program `specdump` does: it reads a box of specifications from standard input and prints, for each, every cell that a reading has, as text that can be
 // compared line by line. A text is `x` and the hexadecimal of its bytes; `-` is absent.
+#![tactic(auto)]
+
 ghost use Rattle.io.specs.Counts.{IsPrefixLen as Leading};
 
 use grammar::{Counts, Expect, Param, Part, PosixCounts, Singles, Told};
@@ -48,14 +50,14 @@ type Bytes = [u8; 65536];
 type Source = [u8; 65537];
 
 // Where the input stands: the next byte of the buffer, and how many it holds.
-#[derive(Drop)]
+#[derive(Clone, Copy)]
 pub struct Feed {
     pub at: usize,
     pub have: usize,
 }
 
 // One byte of the input, if there is one.
-#[derive(Drop)]
+#[derive(Clone, Copy)]
 pub struct Got {
     pub is_there: bool,
     pub byte: u8,
@@ -63,7 +65,7 @@ pub struct Got {
 }
 
 // A number of four bytes, low first.
-#[derive(Drop)]
+#[derive(Clone, Copy)]
 pub struct Number {
     pub is_there: bool,
     pub value: u32,
@@ -71,13 +73,13 @@ pub struct Number {
 }
 
 // The rows lent for tables 1 to 10; 0 for all there are.
-#[derive(Drop)]
+#[derive(Clone, Copy)]
 pub struct Rooms {
     pub n: [u32; 10],
 }
 
 // An input, but for its bytes.
-#[derive(Drop)]
+#[derive(Clone, Copy)]
 pub struct Head {
     pub is_there: bool,
     pub kind: u32,
@@ -86,7 +88,7 @@ pub struct Head {
 }
 
 // How far the program is: the text that waits in the output buffer, the input, and whether there is more.
-#[derive(Drop)]
+#[derive(Clone, Copy)]
 pub struct Stand {
     pub at: usize,
     pub feed: Feed,

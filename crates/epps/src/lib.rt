@@ -1,4 +1,6 @@
 // `%epp`: a key and its text. The declaration is handed the state behind its keyword.
+#![tactic(auto)]
+
 ghost use Rattle.std.specs.Prelude.{◌≡◌};
 ghost use Rattle.tables.specs.Layout.{epps, width};
 ghost use Rattle.grammar.specs.State.{Out2, Here, Passed, Onward, Tracked, Follows};

@@ -1,5 +1,7 @@
 // A finder: a working index beside a table that grows, for the time of one call. A slot is free, or has a row number plus one. It spreads names better than
 // the lent indexes, whose hash is given, and several tables may share one: a row that it leads to is looked at in the table that is asked.
+#![tactic(auto)]
+
 ghost use Rattle.std.specs.Prelude.{◌≡◌, ℕ, ◌-◌, ◌<◌, Bool, ◌&&◌, ltb};
 ghost use Rattle.tables.specs.Layout.{tokens, width};
 ghost use Rattle.tables.specs.Table.{has_name, find_name, Inserted, enter_token};
@@ -9,7 +11,7 @@ ghost use Rattle.finder.specs.Finder.{stirred, number_of, seat_of, mark_of, Lead
 use tables::{Entered, Found};
 
 // What the slots tell of a name.
-#[derive(Drop)]
+#[derive(Clone, Copy)]
 pub enum Sought {
     // A row that has it.
     Seated(u32),

@@ -1,4 +1,6 @@
 // What every reading step shares: counts, singles, the state that goes through all steps, refusals by their cause, and the steps that add a row.
+#![tactic(auto)]
+
 ghost use Rattle.std.specs.Prelude.{◌≡◌, List, [], ◌∷◌, ◌+◌, length, get_or};
 ghost use Rattle.tables.specs.Table.{find_name};
 ghost use Rattle.tables.specs.declared.Found.TheVariants.{NoRow};
@@ -10,39 +12,39 @@ use spacing::Spaced;
 use tables::{Entered, Found};
 
 // The rows of tables 1 to 10.
-#[derive(Drop)]
+#[derive(Clone, Copy)]
 pub struct Counts {
     pub n: [u32; 10],
 }
 
 // The rows of tables 15 to 17, which kind 4 fills.
-#[derive(Drop)]
+#[derive(Clone, Copy)]
 pub struct PosixCounts {
     pub n: [u32; 3],
 }
 
 // A place that is given or not: the start, the generics, the programs, the action type of kind 1.
-#[derive(Drop)]
+#[derive(Clone, Copy)]
 pub enum Part {
     Absent,
     At(u32, u32),
 }
 
 // `%expect` and `%expect-rr`: the value, and its place.
-#[derive(Drop)]
+#[derive(Clone, Copy)]
 pub enum Expect {
     NotExpected,
     Expected(u64, u32, u32),
 }
 
 // `%parse-param`: the name's place and the type's.
-#[derive(Drop)]
+#[derive(Clone, Copy)]
 pub enum Param {
     NoParam,
     ParamAt(u32, u32, u32, u32),
 }
 
-#[derive(Drop)]
+#[derive(Clone, Copy)]
 pub struct Singles {
     pub start: Part,
     pub expect: Expect,
@@ -53,7 +55,7 @@ pub struct Singles {
 }
 
 // A reading under way: its kind, where it stands, the next precedence level, what was read so far, and kind 1's action type.
-#[derive(Drop)]
+#[derive(Clone, Copy)]
 pub struct State {
     pub kind: u32,
     pub at: usize,
@@ -65,7 +67,7 @@ pub struct State {
 }
 
 // Why a read is refused at an offset.
-#[derive(Drop)]
+#[derive(Clone, Copy)]
 pub enum Cause {
     IntegerEmpty,
     IntegerTooLarge,
@@ -98,7 +100,7 @@ pub enum Cause {
     NotUtf8,
 }
 
-#[derive(Drop)]
+#[derive(Clone, Copy)]
 pub enum Refusal {
     Fault(Cause, u32),
     // The first repeat, and its first place.
@@ -112,7 +114,7 @@ pub enum Refusal {
 }
 
 // A refusal in document 01's numbers.
-#[derive(Drop)]
+#[derive(Clone, Copy)]
 pub struct Told {
     pub number: u32,
     pub from: u32,
@@ -121,21 +123,21 @@ pub struct Told {
 }
 
 // What a step came to.
-#[derive(Drop)]
+#[derive(Clone, Copy)]
 pub enum Answer {
     Going,
     Done,
     Refused(Refusal),
 }
 
-#[derive(Drop)]
+#[derive(Clone, Copy)]
 pub struct Step {
     pub answer: Answer,
     pub state: State,
 }
 
 // What may be repeated only under a refusal.
-#[derive(Drop)]
+#[derive(Clone, Copy)]
 pub enum Repeat {
     RepeatedPrecedence,
     RepeatedAvoidInsert,
@@ -148,7 +150,7 @@ pub enum Repeat {
 }
 
 // Spacing: its end and its line ends, or why there is none.
-#[derive(Drop)]
+#[derive(Clone, Copy)]
 pub enum Gap {
     GapTo(usize, usize),
     GapRefused(Refusal),

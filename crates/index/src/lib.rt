@@ -1,5 +1,7 @@
 // An index beside the names of a table: slots, each 0 or a row number plus one. The home slot of a name is the remainder of its hash by the slots; a taken slot
 // means the next, round the end.
+#![tactic(auto)]
+
 ghost use Rattle.std.specs.Prelude.{◌≡◌, ℕ, ◌+◌, ◌*◌, ◌/◌, ◌%◌, ◌<◌, ◌≤◌, min, List, length, slice_index, slice_set};
 ghost use Rattle.tables.specs.Layout.{tokens, width};
 ghost use Rattle.tables.specs.Below.{below};

@@ -1,5 +1,7 @@
 // The items of a production, and the productions of a rule up to its `;`. A production is drafted as its items come, and joins table 8 at `|` or `;`; its
 // symbols join table 9 at once.
+#![tactic(auto)]
+
 ghost use Rattle.std.specs.Prelude.{◌≡◌, ◌≤◌, length};
 ghost use Rattle.grammar.specs.State.{Out1, Out2, Here, Passed, Moves, Onward, Tokens};
 ghost use Rattle.tables.specs.Layout.{tokens, symbols, width};
@@ -16,7 +18,7 @@ use texts::Action;
 use words::Token;
 
 // What stands at a place in a production.
-#[derive(Drop)]
+#[derive(Clone, Copy)]
 pub enum Sort {
     BarSort,
     EndSort,
@@ -28,14 +30,14 @@ pub enum Sort {
 }
 
 // The sort of an item, and where the mark that told it ends.
-#[derive(Drop)]
+#[derive(Clone, Copy)]
 pub struct Spotted {
     pub sort: Sort,
     pub end: usize,
 }
 
 // What an item came to, with the production under way.
-#[derive(Drop)]
+#[derive(Clone, Copy)]
 pub struct Drafted {
     pub answer: Answer,
     pub state: State,
@@ -43,14 +45,14 @@ pub struct Drafted {
 }
 
 // A symbol that was read: where the next item stands, how many tokens there are, and where its word ends; or it was left as it stood.
-#[derive(Drop)]
+#[derive(Clone, Copy)]
 pub enum Quick {
     Read(usize, u32, u32),
     Unread,
 }
 
 // Where a run of symbols ends, how many tokens and symbols there are then, and where the last symbol's word ends.
-#[derive(Drop)]
+#[derive(Clone, Copy)]
 pub struct Run {
     pub at: usize,
     pub tokens: u32,

@@ -1,8 +1,10 @@
 // Which declaration stands at a place.
+#![tactic(auto)]
+
 ghost use Rattle.std.specs.Prelude.{◌≡◌, ◌≤◌, length};
 ghost use Rattle.keywords.specs.Keywords.{seen_at, Sees};
 
-#[derive(Drop)]
+#[derive(Clone, Copy)]
 pub enum Keyword {
     Percents,
     TokenWord,
@@ -26,7 +28,7 @@ pub enum Keyword {
 }
 
 // A keyword, and where it ends.
-#[derive(Drop)]
+#[derive(Clone, Copy)]
 pub struct Seen {
     pub word: Keyword,
     pub end: usize,

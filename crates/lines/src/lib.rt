@@ -1,4 +1,6 @@
 // Lists that run to their line's end: precedences, `%avoid_insert` and `%implicit_tokens`. Each declaration is handed the state behind its keyword.
+#![tactic(auto)]
+
 ghost use Rattle.std.specs.Prelude.{◌<◌, ◌≡◌};
 ghost use Rattle.tables.specs.Layout.{precedences, avoided, width};
 ghost use Rattle.grammar.specs.State.{Out3, Out4, Here, Passed, Moves, Onward, Tokens, Tracked, Follows};

@@ -1,5 +1,7 @@
 // The productions of a rule, one behind the other, by two arrays: the first production of each rule, and behind each production the next one of its rule. An array may be too short: what it has no
 // cell for is sought. A cell has 16 bits, half of what a row's number has: the arrays lie on the stack of whoever links.
+#![tactic(auto)]
+
 ghost use Rattle.std.specs.Prelude.{◌≡◌, ◌+◌, ◌<◌, ◌≤◌, true, length, replicate, set};
 ghost use Rattle.links.specs.Links.{is_of_rule, next_of_rule, Heads, Nexts, Linked};
 

@@ -1,4 +1,6 @@
 // Lists that run to the next `%`: `%token`, `%expect-unused` and, in kind 4, `%type`. Each declaration is handed the state behind its keyword.
+#![tactic(auto)]
+
 ghost use Rattle.std.specs.Prelude.{◌≤◌, ◌≡◌, length};
 ghost use Rattle.grammar.specs.State.{Out1, Out3, Here, Passed, Moves, Onward, Tokens, Tracks};
 ghost use Rattle.marks.specs.Marks.{Leading};
@@ -10,7 +12,7 @@ use marks::Lead;
 use words::{Name, Token};
 
 // Which list it is.
-#[derive(Drop)]
+#[derive(Clone, Copy)]
 pub enum WordList {
     TokenList,
     UnusedList,
@@ -18,7 +20,7 @@ pub enum WordList {
 }
 
 // A name or a quoted token: its kind, its place and its end; or where it was sought.
-#[derive(Drop)]
+#[derive(Clone, Copy)]
 pub enum Spelling {
     Spelled(u32, usize, usize, usize),
     Unspelled(usize),

@@ -1,4 +1,6 @@
 // One call to load: a read and, where that is accepted, validation of what was read.
+#![tactic(auto)]
+
 ghost use Rattle.std.specs.Prelude.{◌≡◌};
 ghost use Rattle.reader.specs.declared.Verdict.TheVariants.{Accepted};
 ghost use Rattle.validation.specs.Faults.{first, faults};
@@ -9,7 +11,7 @@ use grammar::{Counts, PosixCounts, Refusal, Singles};
 use reader::Verdict;
 use validation::{Flaw, Validity};
 
-#[derive(Drop)]
+#[derive(Clone, Copy)]
 pub enum Judgement {
     // The end that was reached.
     Loaded(u32),
@@ -17,7 +19,7 @@ pub enum Judgement {
     NotValid(Flaw),
 }
 
-#[derive(Drop)]
+#[derive(Clone, Copy)]
 pub struct Loading {
     pub answer: Judgement,
     pub counts: Counts,

@@ -1,4 +1,6 @@
 // What the program `specship` does: it writes the shipping form of each file that its arguments name, or of standard input, and says of a file that is refused why.
+#![tactic(auto)]
+
 use grammar::Told;
 use places::Spot;
 use shipping::Shipment;
@@ -38,7 +40,7 @@ type Shipped = [u8; 65536];
 type Argument = [u8; 4096];
 
 // The kind of what comes next, whether a file was named, and whether to go on.
-#[derive(Drop)]
+#[derive(Clone, Copy)]
 pub struct Asked {
     pub kind: u32,
     pub has_file: bool,

@@ -1,4 +1,6 @@
 // What kind 4 puts around the words of a list: a tag in front of them, and a number behind each. In the other kinds there is neither.
+#![tactic(auto)]
+
 ghost use Rattle.std.specs.Prelude.{◌≡◌};
 ghost use Rattle.grammar.specs.State.{Out1, Here, Onward};
 ghost use Rattle.marks.specs.Marks.{Leading, lead_tag, tag_row, number_behind, behind_word};
@@ -7,7 +9,7 @@ use grammar::{Answer, Cause, Part, Refusal, State, Step};
 use words::{Int, Tag};
 
 // The tag of a list, given or not, or why there is none.
-#[derive(Drop)]
+#[derive(Clone, Copy)]
 pub struct Lead {
     pub answer: Answer,
     pub state: State,

@@ -1,4 +1,6 @@
 // The name of a row as the very part of the source that it occupies.
+#![tactic(auto)]
+
 ghost use Rattle.std.specs.Prelude.{◌≡◌};
 ghost use Rattle.grammar.specs.Sound.{Tables};
 ghost use Rattle.names.specs.Name.{part_of, row_place, name_place, name_of};

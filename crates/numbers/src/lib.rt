@@ -1,4 +1,6 @@
 // Each operation's answer as document 01's number, place and table number.
+#![tactic(auto)]
+
 ghost use Rattle.std.specs.Prelude.{◌≡◌, [], ◌∷◌, ◌++◌, take, get_or};
 ghost use Rattle.validation.specs.Faults.{flaw_numbers, validity_numbers};
 ghost use Rattle.validation.specs.Walk.{fault_listing_numbers};

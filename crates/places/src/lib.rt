@@ -1,9 +1,11 @@
 // Lines and columns of a source.
+#![tactic(auto)]
+
 ghost use Rattle.std.specs.Prelude.{◌≡◌, ◌≤◌, length};
 ghost use Rattle.places.specs.Places.{spot_of, spot_at};
 
 // A line and a byte column, both from 1.
-#[derive(Drop)]
+#[derive(Clone, Copy)]
 pub struct Spot {
     pub line: u32,
     pub column: u32,

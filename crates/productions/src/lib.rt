@@ -1,4 +1,6 @@
 // A production, with its `%prec` name and its action, as a row of table 8.
+#![tactic(auto)]
+
 ghost use Rattle.std.specs.Prelude.{◌≡◌};
 ghost use Rattle.productions.specs.Cells.{prec_cells, action_cells, production_cells, prec_of, action_of, cell_of, production_at, gives_prec, push_production};
 ghost use Rattle.grammar.specs.State.{Out1};
@@ -6,20 +8,20 @@ ghost use Rattle.grammar.specs.State.{Out1};
 use grammar::{State, Step};
 
 // The name of a production's `%prec`, by its place.
-#[derive(Drop)]
+#[derive(Clone, Copy)]
 pub enum Prec {
     NoPrec,
     PrecAt(u32, u32),
 }
 
 // A production's action: the place of its trimmed text, and the crate's span.
-#[derive(Drop)]
+#[derive(Clone, Copy)]
 pub enum Act {
     NoAction,
     ActionAt(u32, u32, u32, u32),
 }
 
-#[derive(Drop)]
+#[derive(Clone, Copy)]
 pub struct Production {
     pub rule: u32,
     pub from: u32,

@@ -1,4 +1,6 @@
 // Pruning: rows that nothing keeps are dropped, and what is left closes up.
+#![tactic(auto)]
+
 ghost use Rattle.std.specs.Prelude.{◌≡◌, ◌+◌, ◌*◌, ◌^◌, ◌<◌, ◌≤◌, length};
 ghost use Rattle.tables.specs.Layout.{tokens, rules, productions, symbols, symbols_from, symbols_to, width};
 ghost use Rattle.tables.specs.Rows.{Chained};
@@ -19,21 +21,21 @@ use tables::Found;
 use validation::Validity;
 
 // How many rows of tables 3 and 5 stay.
-#[derive(Drop)]
+#[derive(Clone, Copy)]
 pub struct Mentioning {
     pub avoided: u32,
     pub epps: u32,
 }
 
 // How many productions stay, and how many symbols they have.
-#[derive(Drop)]
+#[derive(Clone, Copy)]
 pub struct Linking {
     pub rows: u32,
     pub symbols: u32,
 }
 
 // The answer, and the counts that are left; after a refusal those that were.
-#[derive(Drop)]
+#[derive(Clone, Copy)]
 pub struct Outcome {
     pub answer: Pruning,
     pub counts: Counts,

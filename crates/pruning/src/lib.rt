@@ -1,8 +1,10 @@
 // Pruning: rows stay that the start, an excused rule or an excused token keeps. Definitions and theorems; the code is crate `pruner`.
+#![tactic(auto)]
+
 use validation::Flaw;
 
 // An enum holds no array, so the counts that are left are answered beside it.
-#[derive(Drop)]
+#[derive(Clone, Copy)]
 pub enum Pruning {
     AllPruned,
     PruningUnsound,

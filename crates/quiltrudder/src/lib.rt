@@ -1,5 +1,7 @@
 // Quiltrudder's operations: loading a Yacc specification (it is read, and what was read is validated), validating tables from elsewhere, the list of all faults, the unused report, its marking by itself,
 // the unused rows one by one, pruning, a reading in the catalogue's blocks and back, the shipping form, the name of a row and the value of an `%epp` row, each with line and column of its answer's place, and line and column of any place. None of them requires anything.
+#![tactic(auto)]
+
 use grammar::{Counts, PosixCounts, Singles, Told};
 use loading::Judgement;
 use places::Spot;
@@ -33,7 +35,7 @@ ghost use Rattle.quiltrudder.specs.Face.{halves, spot_cells, loading_cells, Load
 pub use walks::next_unused;
 
 // A load's answer, its counts and singles, and line and column of the answer's place.
-#[derive(Drop)]
+#[derive(Clone, Copy)]
 pub struct LoadingAt {
     pub answer: Judgement,
     pub counts: Counts,
@@ -43,52 +45,52 @@ pub struct LoadingAt {
 }
 
 // The other operations' answers, with line and column of their places.
-#[derive(Drop)]
+#[derive(Clone, Copy)]
 pub struct ValidityAt {
     pub answer: Validity,
     pub spot: Spot,
 }
 
-#[derive(Drop)]
+#[derive(Clone, Copy)]
 pub struct FaultListingAt {
     pub answer: FaultListing,
     pub spot: Spot,
 }
 
-#[derive(Drop)]
+#[derive(Clone, Copy)]
 pub struct ListingAt {
     pub answer: Listing,
     pub spot: Spot,
 }
 
-#[derive(Drop)]
+#[derive(Clone, Copy)]
 pub struct MarkingAt {
     pub answer: Marking,
     pub spot: Spot,
 }
 
 // Pruning answers the counts that are left, too; after a refusal those that were.
-#[derive(Drop)]
+#[derive(Clone, Copy)]
 pub struct PruningAt {
     pub answer: Pruning,
     pub counts: Counts,
     pub spot: Spot,
 }
 
-#[derive(Drop)]
+#[derive(Clone, Copy)]
 pub struct ValuationAt {
     pub answer: Valuation,
     pub spot: Spot,
 }
 
-#[derive(Drop)]
+#[derive(Clone, Copy)]
 pub struct StoringAt {
     pub answer: Storing,
     pub spot: Spot,
 }
 
 // Loading back answers what a load does, and the kind and the source's length, which a load was given.
-#[derive(Drop)]
+#[derive(Clone, Copy)]
 pub struct RestoringAt {
     pub answer: Restoring,
     pub kind: u32,
@@ -100,7 +102,7 @@ pub struct RestoringAt {
 }
 
 // Shipping answers what its read does, too.
-#[derive(Drop)]
+#[derive(Clone, Copy)]
 pub struct ShippingAt {
     pub answer: Shipment,
     pub counts: Counts,

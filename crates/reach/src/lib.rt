@@ -1,4 +1,6 @@
 // Marking: one bit for each row that a chain of productions from the start rule reaches.
+#![tactic(auto)]
+
 ghost use Rattle.std.specs.Prelude.{◌≡◌, ℕ, ◌+◌, ◌*◌, ◌^◌, ◌<◌, ◌≤◌, Bool, true, false, ◌||◌, length, get_or};
 ghost use Rattle.bits.specs.Bits.{bit};
 ghost use Rattle.tables.specs.Layout.{tokens, rules, productions, width};
@@ -11,7 +13,7 @@ use grammar::{Counts, Part};
 use tables::Found;
 
 // One sort of rows: its code, the width of its rows, their count, and the bit of row 0.
-#[derive(Drop)]
+#[derive(Clone, Copy)]
 pub struct Sort {
     pub kind: u32,
     pub wide: u32,

@@ -1,4 +1,6 @@
 // The ends of a read: what is left of the tables after a refusal, and what goes by the rows that stay. The definition of the whole read and its theorems stand here; `runs` has its code.
+#![tactic(auto)]
+
 ghost use Rattle.std.specs.Prelude.{◌≡◌, ◌≤◌, length, get_or};
 ghost use Rattle.tables.specs.Layout.{tokens, rules, symbols, width};
 ghost use Rattle.index.specs.Index.{entries};
@@ -10,14 +12,14 @@ ghost use Rattle.reader.specs.Read.{Outcome, stopped_at, ended_at, finished};
 use grammar::{Answer, Counts, PosixCounts, Refusal, Singles, State, Step};
 
 // What a read came to.
-#[derive(Drop)]
+#[derive(Clone, Copy)]
 pub enum Verdict {
     // The end reached.
     Accepted(u32),
     Rejected(Refusal),
 }
 
-#[derive(Drop)]
+#[derive(Clone, Copy)]
 pub struct Reading {
     pub answer: Verdict,
     pub counts: Counts,

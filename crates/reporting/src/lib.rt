@@ -1,4 +1,6 @@
 // What the program `specreport` does: it loads a specification of kind 1 from standard input and prints what load answers, and behind an accepted one the rules and tokens that nothing uses.
+#![tactic(auto)]
+
 use grammar::{Counts, Singles, Told};
 use loading::Judgement;
 use usage::Listing;

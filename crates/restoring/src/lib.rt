@@ -1,4 +1,6 @@
 // Reading the catalogue's blocks back: tables, indexes and source as they were written.
+#![tactic(auto)]
+
 ghost use Rattle.std.specs.Prelude.{◌≡◌, ◌++◌, ◌+◌, ◌*◌, ◌≤◌, ◌<◌, length, drop, take};
 ghost use Rattle.std.proofs.Math.Seq.{slice};
 ghost use Rattle.blocks.specs.Blocks.{words_in, capacity, content_of};
@@ -10,7 +12,7 @@ ghost use Rattle.restoring.specs.Restoring.{Restored, no_head, filled_table, fil
 use catalogue::{Finding, Head, Rooms};
 use grammar::{Counts, Expect, Param, Part, PosixCounts, Singles};
 
-#[derive(Drop)]
+#[derive(Clone, Copy)]
 pub enum Restoring {
     AllRestored,
     NotWhole,
@@ -23,7 +25,7 @@ pub enum Restoring {
 }
 
 // The answer, and what stood in front of the rows; nothing of that after a refusal.
-#[derive(Drop)]
+#[derive(Clone, Copy)]
 pub struct StoredReading {
     pub answer: Restoring,
     pub kind: u32,

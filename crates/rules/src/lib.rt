@@ -1,4 +1,6 @@
 // The rules section: rule after rule, each a head by the kind and its productions, and the programs behind a second `%%`.
+#![tactic(auto)]
+
 ghost use Rattle.std.specs.Prelude.{◌≡◌};
 ghost use Rattle.grammar.specs.State.{Out0, Here, Passed, Moves, Onward, Tokens, Rules};
 ghost use Rattle.items.specs.Items.{Itemed};
@@ -10,7 +12,7 @@ use texts::ColonText;
 use words::Name;
 
 // The type of a rule, or why there is none.
-#[derive(Drop)]
+#[derive(Clone, Copy)]
 pub struct Typed {
     pub answer: Answer,
     pub state: State,
@@ -18,7 +20,7 @@ pub struct Typed {
 }
 
 // The row of a rule, or why there is none.
-#[derive(Drop)]
+#[derive(Clone, Copy)]
 pub struct Headed {
     pub answer: Answer,
     pub state: State,

@@ -1,4 +1,6 @@
 // The whole read: the sections of a source on tables of zeros, run with finders that its length asks for, and the indexes behind them.
+#![tactic(auto)]
+
 ghost use Rattle.std.specs.Prelude.{◌≡◌};
 ghost use Rattle.sections.specs.Sections.{attempted};
 ghost use Rattle.reader.specs.Read.{Outcome, Result, finished_run, filled_out, read_all};

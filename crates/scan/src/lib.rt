@@ -1,17 +1,19 @@
 // What every scan of a source shares: one byte, classes of bytes and runs of them, words looked ahead for, ends of lines.
+#![tactic(auto)]
+
 ghost use Rattle.std.specs.Prelude.{◌≡◌, ◌≤◌, length};
 ghost use Rattle.scan.specs.Scan.{is_at, starts_at, is_letter, is_digit, is_eol, in_class, run_end_at, eight_at, Runs};
 ghost use Rattle.scan.specs.Lines.{lines_at};
 
 // A part of the source: its first byte, and the byte behind its last.
-#[derive(Drop)]
+#[derive(Clone, Copy)]
 pub struct Place {
     pub from: usize,
     pub to: usize,
 }
 
 // Bytes that may begin or continue a word or a text.
-#[derive(Drop)]
+#[derive(Clone, Copy)]
 pub enum Class {
     NameStart,
     NameByte,

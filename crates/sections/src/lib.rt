@@ -1,4 +1,6 @@
 // The sections of a source: kind, the indexes' sizes, length and UTF-8, then declarations, rules and programs.
+#![tactic(auto)]
+
 ghost use Rattle.std.specs.Prelude.{◌≡◌, ◌≤◌};
 ghost use Rattle.grammar.specs.State.{Here, Passed, Tokens, Rules, fresh, no_singles};
 ghost use Rattle.declarations.specs.Declarations.{Givens};
@@ -11,7 +13,7 @@ use grammar::{
 use whole::Checked;
 
 // Whether a source can be read at all.
-#[derive(Drop)]
+#[derive(Clone, Copy)]
 pub enum Admission {
     Fit,
     Unfit(Refusal),

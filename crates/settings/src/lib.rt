@@ -1,5 +1,7 @@
 // Declarations that give one thing: the start, the expected conflicts, the action type, the parse parameter, the generics. Each function is handed the state
 // behind its keyword.
+#![tactic(auto)]
+
 ghost use Rattle.std.specs.Prelude.{◌≡◌};
 ghost use Rattle.grammar.specs.State.{Out0, Out1, Here, Passed, Onward};
 ghost use Rattle.settings.specs.Singles.{with_start, with_expected, with_param, with_generics};

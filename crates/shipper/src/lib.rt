@@ -1,4 +1,6 @@
 // The shipping form of a source, written as it is made: a pass over the source's bytes that looks at no table. It is total: it stops where nothing stands that could be read, which does not come up in a source that was read.
+#![tactic(auto)]
+
 ghost use Rattle.std.specs.Prelude.{◌≡◌, true, [], ◌∷◌, ◌≤◌, length, set};
 ghost use Rattle.std.proofs.Math.Seq.{slice};
 ghost use Rattle.grammar.specs.State.{Here, Passed};
@@ -14,14 +16,14 @@ use texts::{Action, ColonText};
 use words::{Int, Name, Quote, Token};
 
 // Where the pass stands in the source, and how many bytes it has written.
-#[derive(Drop)]
+#[derive(Clone, Copy)]
 pub struct Mark {
     pub at: usize,
     pub n: u32,
 }
 
 // What is copied from the source, by how its end is found.
-#[derive(Drop)]
+#[derive(Clone, Copy)]
 pub enum Piece {
     NamePiece,
     TokenPiece,

@@ -1,4 +1,6 @@
 // Shipping: a source is read, and what was read is written again without comments, in one form.
+#![tactic(auto)]
+
 ghost use Rattle.std.specs.Prelude.{◌≡◌, ltb, length};
 ghost use Rattle.grammar.specs.State.{Here};
 ghost use Rattle.shipper.specs.Ship.{ship_all};
@@ -12,14 +14,14 @@ const LONGEST_TEXT: u32 = 65536;
 
 const TEXT_OUT: u32 = 13;
 
-#[derive(Drop)]
+#[derive(Clone, Copy)]
 pub enum Shipment {
     // How many bytes the text has.
     Sent(u32),
     Unsent(Refusal),
 }
 
-#[derive(Drop)]
+#[derive(Clone, Copy)]
 pub struct Shipping {
     pub answer: Shipment,
     pub counts: Counts,

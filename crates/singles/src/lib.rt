@@ -1,4 +1,6 @@
 // The singles of a reading as 24 cells, each led by 0 or 1, and back; and cells stored into other cells. The C names and the catalogue share them.
+#![tactic(auto)]
+
 ghost use Rattle.std.specs.Prelude.{◌≡◌, ◌≤◌, length};
 ghost use Rattle.tables.specs.Table.{put};
 ghost use Rattle.grammar.specs.Numbers.{param_numbers};

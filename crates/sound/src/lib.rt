@@ -1,5 +1,7 @@
 // Whether tables, counts, singles and indexes are sound: the test behind 44. Each table is read a constant number of times. That names differ is told by a finder,
 // whatever the indexes hold; a symbol's name is sought by the indexes of tables 1 and 7, which are tested first.
+#![tactic(auto)]
+
 ghost use Rattle.std.specs.Prelude.{◌≡◌, ◌<◌};
 ghost use Rattle.index.specs.Index.{Indexed, fresh_name};
 ghost use Rattle.tables.specs.Layout.{tokens, rules, symbols, width};

@@ -1,10 +1,12 @@
 // Spacing: blanks, line ends and comments between the words of a specification.
+#![tactic(auto)]
+
 ghost use Rattle.std.specs.Prelude.{◌≡◌, ◌≤◌, length};
 ghost use Rattle.spacing.specs.Spacing.{spaces_at, Spaces};
 
 use scan::Class;
 
-#[derive(Drop)]
+#[derive(Clone, Copy)]
 pub enum Spaced {
     // The first byte behind the spacing, and how many lines were passed.
     To(usize, usize),

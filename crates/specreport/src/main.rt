@@ -1,4 +1,6 @@
 // Prints the rules and tokens of a specification that nothing uses, or why it is refused.
+#![tactic(auto)]
+
 fn main() {
     reporting::report_input();
 }

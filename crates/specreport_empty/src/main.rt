@@ -1,4 +1,6 @@
 // `specreport` on an empty source.
+#![tactic(auto)]
+
 fn main() {
     reporting::report_input();
 }

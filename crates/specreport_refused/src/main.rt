@@ -1,4 +1,6 @@
 // `specreport` on a source that read refuses.
+#![tactic(auto)]
+
 fn main() {
     reporting::report_input();
 }

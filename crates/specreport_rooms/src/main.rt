@@ -1,4 +1,6 @@
 // `specreport` on a source with more tokens than its tables have rows.
+#![tactic(auto)]
+
 fn main() {
     reporting::report_input();
 }

@@ -1,4 +1,6 @@
 // Which rows pruning keeps: one bit for each row that the start, an excused rule or an excused token keeps.
+#![tactic(auto)]
+
 ghost use Rattle.tables.specs.Layout.{tokens, rules, width};
 ghost use Rattle.sound.specs.Test.{count_at};
 ghost use Rattle.index.specs.Index.{Indexed};

@@ -1,4 +1,6 @@
 // Writing a reading into the catalogue's blocks.
+#![tactic(auto)]
+
 ghost use Rattle.std.specs.Prelude.{◌≡◌, ◌+◌, ◌*◌, ◌≤◌, ◌<◌, length, take};
 ghost use Rattle.blocks.specs.Blocks.{bytes_of_all, capacity, put_content, seal_all, blocks_for};
 ghost use Rattle.catalogue.specs.Catalogue.{head_cells, cells_at, rows_from, content_size, row_cells, content};
@@ -8,7 +10,7 @@ ghost use Rattle.storing.specs.Storing.{StoreResult, store_all};
 use catalogue::Head;
 use grammar::{Counts, PosixCounts, Singles};
 
-#[derive(Drop)]
+#[derive(Clone, Copy)]
 pub enum Storing {
     StoredBlocks(u32),
     UnknownKind,

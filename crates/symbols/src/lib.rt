@@ -1,4 +1,6 @@
 // Symbols that know their row: kind, place, and the row of the rule or token, or 4294967295 where there is none.
+#![tactic(auto)]
+
 ghost use Rattle.std.specs.Prelude.{◌≡◌, ◌<◌, ◌≤◌, eqb};
 ghost use Rattle.tables.specs.Layout.{tokens, rules, width};
 ghost use Rattle.tables.specs.Table.{find_name};

@@ -1,5 +1,7 @@
 // Lent tables of 32-bit numbers: rows of one width, one behind the other from the first cell on. Every operation is total: past the end there is
 // nothing to read or to write.
+#![tactic(auto)]
+
 ghost use Rattle.std.specs.Prelude.{◌≡◌, get_or, ◌≤◌};
 ghost use Rattle.tables.specs.Layout.{row_place, table_number};
 ghost use Rattle.tables.specs.Table.{Added, add_row, zeroed, cell, set_cell, lies, same_part, find_name};
@@ -108,13 +110,13 @@ pub const BODY_PLACE: u32 = 1;
 // The row that a symbol has where there is no such rule or token.
 pub const NO_ROW: u32 = 4294967295;
 
-#[derive(Drop)]
+#[derive(Clone, Copy)]
 pub enum Found {
     RowAt(u32),
     NoRow,
 }
 
-#[derive(Drop)]
+#[derive(Clone, Copy)]
 pub enum Entered {
     // How many rows there are now.
     Rows(u32),

@@ -1,4 +1,6 @@
 // Texts: to the line end, to a single colon, to the mark `%}`, and actions between braces; to a colon and actions with their trimmed places.
+#![tactic(auto)]
+
 ghost use Rattle.std.specs.Prelude.{◌≡◌, ◌≤◌, ◌<◌, length};
 ghost use Rattle.texts.specs.Colon.{single_at, colon_text_at, Singled, ColonTexts};
 ghost use Rattle.texts.specs.Action.{braced_at, action_at, Braced, Acted};
@@ -7,7 +9,7 @@ ghost use Rattle.texts.specs.Line.{line_end_at, Lined};
 
 use scan::{Class, Place};
 
-#[derive(Drop)]
+#[derive(Clone, Copy)]
 pub enum Colon {
     // Where the single colon stands, and the lines that end before it.
     Single(usize, usize),
@@ -15,7 +17,7 @@ pub enum Colon {
     NoSingle(usize),
 }
 
-#[derive(Drop)]
+#[derive(Clone, Copy)]
 pub enum ColonText {
     // Where the single colon stands, the lines that end before it, and the trimmed place.
     Upto(usize, usize, Place),
@@ -23,14 +25,14 @@ pub enum ColonText {
     NoColon(usize),
 }
 
-#[derive(Drop)]
+#[derive(Clone, Copy)]
 pub enum Brace {
     // Where the closing brace or mark stands, and the lines that end before it.
     Closes(usize, usize),
     NeverCloses,
 }
 
-#[derive(Drop)]
+#[derive(Clone, Copy)]
 pub enum Action {
     // The end behind the closing brace, the lines that end inside, the trimmed place, and the crate's span.
     Body(usize, usize, Place, Place),

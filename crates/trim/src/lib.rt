@@ -1,4 +1,6 @@
 // The part of a region that is left when blanks are taken off at both ends.
+#![tactic(auto)]
+
 ghost use Rattle.std.specs.Prelude.{◌≡◌, ◌≤◌, ◌<◌, length};
 ghost use Rattle.trim.specs.Trim.{passed_at, Passes, plain_end, trimmed, Inside};
 
@@ -6,7 +8,7 @@ use scan::{Class, Place};
 use utf8::Decoded;
 
 // One code point, by its end: a blank, or one that is kept. A byte that begins no well-formed sequence is kept.
-#[derive(Drop)]
+#[derive(Clone, Copy)]
 pub enum Passed {
     White(usize),
     Kept(usize),

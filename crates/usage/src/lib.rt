@@ -1,4 +1,6 @@
 // The unused report: rules and tokens that no chain from the start rule reaches and no declaration excuses.
+#![tactic(auto)]
+
 ghost use Rattle.std.specs.Prelude.{◌≡◌, ℕ, ◌+◌, ◌*◌, ◌^◌, ◌<◌, ◌≤◌, true, length};
 ghost use Rattle.grammar.specs.Sound.{Tables};
 ghost use Rattle.tables.specs.Table.{cell};
@@ -17,7 +19,7 @@ use validation::{Flaw, Validity};
 // Declarations that few slots are enough for.
 const FEW_EXCUSES: usize = 512;
 
-#[derive(Drop)]
+#[derive(Clone, Copy)]
 pub enum Listing {
     // How many rows the report has.
     Unused(usize),
@@ -28,7 +30,7 @@ pub enum Listing {
     NoRoom,
 }
 
-#[derive(Drop)]
+#[derive(Clone, Copy)]
 pub enum Marking {
     AllMarked,
     MarksUnsound,

@@ -1,17 +1,19 @@
 // Code points of UTF-8 (RFC 3629), and which of them are blanks for trimming.
+#![tactic(auto)]
+
 ghost use Rattle.std.specs.Prelude.{◌≡◌};
 ghost use Rattle.utf8.specs.White.{is_white};
 ghost use Rattle.utf8.specs.Utf8.{lead_of, Fitting, decode_at, Decodes};
 
 // What a first byte says: a whole code point; or how many bytes follow, the bounds of the next one, and the first byte's own bits.
-#[derive(Drop)]
+#[derive(Clone, Copy)]
 pub enum Lead {
     One(u32),
     More(usize, u8, u8, u32),
     Never,
 }
 
-#[derive(Drop)]
+#[derive(Clone, Copy)]
 pub enum Decoded {
     // The code point, and the index behind it.
     Point(u32, usize),

@@ -1,4 +1,6 @@
 // Validation: the tests of document 01 by themselves, and the walks over the rows of one table. `validator` puts them in order.
+#![tactic(auto)]
+
 ghost use Rattle.std.specs.Prelude.{◌≡◌, ◌++◌, ◌+◌};
 ghost use Rattle.tables.specs.Layout.{tokens, precedences, implicit, epps, unused, rules, productions, width};
 ghost use Rattle.index.specs.Index.{Indexed};
@@ -12,7 +14,7 @@ use productions::Prec;
 use tables::Found;
 
 // What a reading lacks, by the place of the name.
-#[derive(Drop)]
+#[derive(Clone, Copy)]
 pub enum Flaw {
     NoStartRule,
     InvalidStartRule(u32, u32),
@@ -25,7 +27,7 @@ pub enum Flaw {
     UnknownEppKey(u32, u32),
 }
 
-#[derive(Drop)]
+#[derive(Clone, Copy)]
 pub enum Validity {
     Valid,
     UnsoundTables,
@@ -33,14 +35,14 @@ pub enum Validity {
 }
 
 // What one test comes to.
-#[derive(Drop)]
+#[derive(Clone, Copy)]
 pub enum Test {
     Met,
     Failed(Flaw),
 }
 
 // How far a walk over the tests came.
-#[derive(Drop)]
+#[derive(Clone, Copy)]
 pub enum Walk {
     // The row of table 14 behind the last that was written.
     NextRow(usize),
@@ -48,7 +50,7 @@ pub enum Walk {
     Unwritten(Flaw),
 }
 
-#[derive(Drop)]
+#[derive(Clone, Copy)]
 pub enum FaultListing {
     // How many faults there are.
     Faulted(usize),

@@ -1,4 +1,6 @@
 // Validation of a reading, and the list of all its faults: the walks over the tests of `validation`.
+#![tactic(auto)]
+
 ghost use Rattle.std.specs.Prelude.{◌≡◌, ◌++◌, ◌+◌, ◌≤◌};
 ghost use Rattle.tables.specs.Layout.{tokens, precedences, implicit, epps, unused, rules, productions, width};
 ghost use Rattle.sound.specs.Test.{count_at};

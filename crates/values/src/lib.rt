@@ -1,4 +1,6 @@
 // An `%epp` value written without its escapes.
+#![tactic(auto)]
+
 ghost use Rattle.std.specs.Prelude.{◌≡◌, ◌≤◌, length, set};
 ghost use Rattle.tables.specs.Table.{zeroed};
 ghost use Rattle.grammar.specs.Sound.{Tables};
@@ -8,13 +10,13 @@ use grammar::{Counts, Singles};
 use words::Quote;
 
 // The place of a value's text, between its quotes.
-#[derive(Drop)]
+#[derive(Clone, Copy)]
 pub enum Text {
     TextAt(usize, usize),
     NoText,
 }
 
-#[derive(Drop)]
+#[derive(Clone, Copy)]
 pub enum Valuation {
     // How many bytes the value has.
     Written(usize),

@@ -1,4 +1,6 @@
 // What the program `specwalk` does: it prints what `specreport` prints, but goes from one unused row to the next instead of listing them.
+#![tactic(auto)]
+
 ghost use Rattle.std.specs.Prelude.{◌≡◌};
 ghost use Rattle.grammar.specs.Sound.{Tables, Indexes};
 ghost use Rattle.walks.specs.Walk.{next_spot, Advanced};

@@ -1,4 +1,6 @@
 // The unused rules and tokens one by one: where a walk over them stands, and its next row.
+#![tactic(auto)]
+
 ghost use Rattle.std.specs.Prelude.{◌≡◌, true, false, ◌+◌, ◌<◌, ◌≤◌, ◌^◌};
 ghost use Rattle.grammar.specs.Sound.{Tables, Indexes};
 ghost use Rattle.reach.specs.Reach.{named, rule_sort, token_sort};
@@ -11,13 +13,13 @@ use reach::Sort;
 use tables::Found;
 
 // How many rule rows and how many token rows a walk has passed. A fresh one is all zero.
-#[derive(Drop)]
+#[derive(Clone, Copy)]
 pub struct Standing {
     pub rules: u32,
     pub tokens: u32,
 }
 
-#[derive(Drop)]
+#[derive(Clone, Copy)]
 pub enum Next {
     // Kind and row.
     NextUnused(u32, u32),
@@ -27,21 +29,21 @@ pub enum Next {
 }
 
 // What a call answers, and where the walk stands behind it.
-#[derive(Drop)]
+#[derive(Clone, Copy)]
 pub struct Moved {
     pub answer: Next,
     pub at: Standing,
 }
 
 // An answer with line and column of its place.
-#[derive(Drop)]
+#[derive(Clone, Copy)]
 pub struct NextAt {
     pub answer: Next,
     pub spot: Spot,
 }
 
 // The same, and where the walk stands behind it.
-#[derive(Drop)]
+#[derive(Clone, Copy)]
 pub struct Stepped {
     pub next: NextAt,
     pub at: Standing,

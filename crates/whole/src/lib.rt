@@ -1,11 +1,13 @@
 // A whole source by RFC 3629: is it UTF-8, and if not, where not.
+#![tactic(auto)]
+
 ghost use Rattle.std.specs.Prelude.{◌≡◌, length};
 ghost use Rattle.whole.specs.Whole.{check_at, Below};
 
 use scan::Class;
 use utf8::Decoded;
 
-#[derive(Drop)]
+#[derive(Clone, Copy)]
 pub enum Checked {
     Good,
     // The first byte that begins no well-formed sequence.

@@ -1,4 +1,6 @@
 // The words of a specification: names, tokens, tags, integers, strings.
+#![tactic(auto)]
+
 ghost use Rattle.std.specs.Prelude.{◌≡◌, ◌≤◌, length};
 ghost use Rattle.words.specs.Words.{word_at, name_at, token_at, quoted_at, is_quote, Worded, Named, Tokened};
 ghost use Rattle.words.specs.Tags.{tag_at, Tagged};
@@ -8,27 +10,27 @@ ghost use Rattle.words.specs.Strings.{string_at, Stringed};
 use scan::{Class, Place};
 
 // A byte of one class, then a run of another.
-#[derive(Drop)]
+#[derive(Clone, Copy)]
 pub enum Word {
     WordTo(usize),
     NoWord,
 }
 
-#[derive(Drop)]
+#[derive(Clone, Copy)]
 pub enum Name {
     // The name's end.
     NameTo(usize),
     NoName(usize),
 }
 
-#[derive(Drop)]
+#[derive(Clone, Copy)]
 pub enum Token {
     // The place without quotes, the end behind the closing quote if there is one, quoted or not.
     Found(Place, usize, bool),
     NoToken(usize),
 }
 
-#[derive(Drop)]
+#[derive(Clone, Copy)]
 pub enum Tag {
     // The place between the brackets, and the end behind `>`.
     TagTo(Place, usize),
@@ -38,7 +40,7 @@ pub enum Tag {
     NoTag(usize),
 }
 
-#[derive(Drop)]
+#[derive(Clone, Copy)]
 pub enum Int {
     // The value, and the end of its digits.
     Value(u64, usize),
@@ -46,7 +48,7 @@ pub enum Int {
     TooLarge(usize),
 }
 
-#[derive(Drop)]
+#[derive(Clone, Copy)]
 pub enum Quote {
     // The end behind the closing quote.
     Closed(usize),
