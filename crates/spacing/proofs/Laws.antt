@@ -30,6 +30,11 @@ module _ (x : ℕ) where
   unfolding is_blank
   end_no_blank o = ⊎_elim (λ e. rw e) (λ e. rw e) o
 
+-- another byte behind a `/` stops where the `/` stands
+slash_stops : (kind : ℕ) (ok : Bool) (b c : ℕ) (cs : List ℕ) (i n : ℕ) → eqb c 47 ≡ false → eqb c 42 ≡ false → spacing kind ok (slash b) (c ∷ cs) i n ≡ To b n
+unfolding spacing
+slash_stops kind ok b c cs i n f g = rw (spacing, f, g)
+
 module _ (kind : ℕ) (ok : Bool) (s : List ℕ) (i n : ℕ) (r : Spaced) where
   module _ (inv : spacing_at kind ok gap s i n ≡ r) where
     pub a_end : length s ≤ i → To i n ≡ r
@@ -61,7 +66,7 @@ module _ (kind : ℕ) (ok : Bool) (s : List ℕ) (i n : ℕ) (r : Spaced) where
 
         pub a_slash_other : i + 1 < length s → (get_or s (i + 1) 0 ≡ 47 → ⊥) → (get_or s (i + 1) 0 ≡ 42 → ⊥) → To i n ≡ r
         unfolding spacing spacing_at is_blank is_eol
-        a_slash_other k f g = rw (drop_key s i 47 h e, drop_at s (i + 1) k, ne_eqb _ _ f, ne_eqb _ _ g, spacing) at inv
+        a_slash_other k f g = sym (slash_stops kind ok i (get_or s (i + 1) 0) (drop (i + 1 + 1) s) (i + 1) n (ne_eqb _ _ f) (ne_eqb _ _ g)) ∙ rw (drop_key s i 47 h e, drop_at s (i + 1) k) at inv
 
         -- the second `/` is a byte of the comment's line too
         a_line : i + 1 < length s → get_or s (i + 1) 0 ≡ 47 → spacing_at kind ok line s (i + 1) n ≡ r

@@ -1,10 +1,9 @@
 -- What `is_white` comes to, from what the arms of a `match` know. Assumes nothing.
-use Prim.Native.Nat.{ℕ, ◌≤◌, ◌<◌}
-use mathlib.Core.Path.{◌≡◌, refl, sym}
+use Prim.Native.Nat.{ℕ, ◌≤◌}
+use mathlib.Core.Path.{◌≡◌, sym}
 use mathlib.Core.List.{List, [], ◌∷◌}
 use mathlib.Core.Logic.{inl, inr}
-use mathlib.Core.Bool.{Bool, true, false, or-true}
-use native.Mathlib.Omega.{arith}
+use mathlib.Core.Bool.{true, false, or-true}
 use borrow.Author.Tests.{ne_eqb}
 use types.Run.{OneOf}
 use Rattle.scan.proofs.Bytes.{within_no, within_yes}
