@@ -1,0 +1,21 @@
+-- `links::fill`: the cells so far are the value, the others as they were.
+use Prim.Native.Nat.{ℕ, ◌-◌}
+use mathlib.Core.Path.{◌∙◌, ap}
+use mathlib.Core.List.{List}
+use native.Mathlib.Omega.{arith}
+use lib.ListN.{set, length-set}
+use borrow.Author.Rules.{rules}
+use borrow.Author.Fill.{fill_none, fill_more}
+use Rattle.links.proofs.Laws.{all_filled}
+use Rattle.links.proofs.fill.Goals as goal
+
+pub loop-i-init : goal.loop-i-init
+loop-i-init c = (search rules, search rules, fill_none _ c.args.v)
+
+pub loop-i-preserved : goal.loop-i-preserved
+loop-i-preserved c =
+    let v = c.args.v in
+    (omega arith, simp length-set c.loop-i.invariant.1, ap (λ (x : List ℕ). set x c.loop-i.i v) c.loop-i.invariant.2 ∙ fill_more c.loop-i.i v _ (omega arith))
+
+pub returns : goal.returns
+returns c = c.loop-i.invariant.2 ∙ all_filled _ c.loop-i.i _ (omega arith) (omega arith)

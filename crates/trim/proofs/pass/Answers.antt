@@ -1,0 +1,13 @@
+-- `trim::pass`, in each case of the decoder's answer.
+use borrow.Author.Rules.{rules}
+use Rattle.trim.proofs.Laws.{pass_white, pass_kept, pass_bad, passes}
+use Rattle.trim.proofs.pass.Goals as goal
+
+pub returns-then-is_white : goal.returns-then-is_white
+returns-then-is_white c = search (pass_white, passes, rules)
+
+pub returns-else-is_white : goal.returns-else-is_white
+returns-else-is_white c = search (pass_kept, passes, rules)
+
+pub returns-in-Bad : goal.returns-in-Bad
+returns-in-Bad c = search (pass_bad, passes, rules)
