@@ -1,5 +1,5 @@
 -- An index that holds what entering the rows in order gives: a lookup is the linear search, one more row keeps it, and the test that reads the index tells it. Assumes nothing.
-use Rattle.std.proofs.Common.{◌≡◌, ℕ, zero, suc, ◌+◌, ◌-◌, ◌*◌, ◌%◌, ◌<◌, ◌≤◌, Bool, true, false, ◌&&◌, eqb, ltb, leb, ◌⊎◌, ◌↔◌, List, [], ◌∷◌, length, get_or, set, replicate, sym, refl, ap, ◌∙◌, inl, inr, ⊎_elim, mod-lt, add-one, arith, length-set, get_or-set_other, get_or-set_same, ext_get_or, ltb-false, ltb-true, le-ltb, lt-ltb, eq-eqb, ne_eqb, eqb-true, le-leb}
+use Rattle.std.proofs.Common.{subst, ◌≡◌, ℕ, zero, suc, ◌+◌, ◌-◌, ◌*◌, ◌%◌, ◌<◌, ◌≤◌, Bool, true, false, ◌&&◌, eqb, ltb, leb, ◌⊎◌, ◌↔◌, List, [], ◌∷◌, length, get_or, set, replicate, sym, refl, ap, ◌∙◌, inl, inr, ⊎_elim, mod-lt, add-one, arith, length-set, get_or-set_other, get_or-set_same, ext_get_or, ltb-false, ltb-true, le-ltb, lt-ltb, eq-eqb, ne_eqb, eqb-true, le-leb}
 use mathlib.Core.Bool.{false≢true}
 use native.Mathlib.Decide.{ℕ_discrete, dec_lt}
 use borrow.Author.Tests.{lt-leb, eqb-false}
@@ -328,4 +328,4 @@ module _ (src : List ℕ) (w k n : ℕ) (t ix : List ℕ) (I : Indexed src w k n
   unfolding entries
   indexed_add row wide fits l =
       let e : Indexed src w k n (put t (n * w) row) ix = indexed_same (put t (n * w) row) (λ r h. (cell_old w n row t wide fits r k h (omega arith), cell_old w n row t wide fits r (k + 1) h l)) in
-      rw (add-one n) (record { holds = rw (enter_length src w k (put t (n * w) row) n ix) (ap (enter_row src w k (put t (n * w) row) n) e.holds) })
+      rw (add-one n) (record { holds = subst (λ (m : ℕ). enter_row src w k (put t (n * w) row) n ix ≡ entries src w k (put t (n * w) row) m (suc n)) (sym (enter_length src w k (put t (n * w) row) n ix)) (ap (enter_row src w k (put t (n * w) row) n) e.holds) })

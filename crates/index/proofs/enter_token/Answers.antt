@@ -4,10 +4,7 @@ use Rattle.tables.specs.Table.{flag}
 use Rattle.tables.proofs.Laws.{added_counts, enter_marked, enter_there, enter_new, enter_full}
 use Rattle.index.proofs.Laws.{token_marked, token_new, token_full}
 use Rattle.index.proofs.enter_token.Goals as goal
-
--- the new row's mark
-mark_is : (c : goal.Joined-declared-2) → c.if-declared-2.mark ≡ flag c.args.declared
-mark_is c = ⊎_elim (λ x. x.1 ∙ rw x.0.taken) (λ x. x.1 ∙ rw x.0.left) c.if-declared-2.branch
+use Rattle.index.proofs.enter_token.Goals.{then-declared-2, else-declared-2}
 
 pub enter_row-requires : goal.enter_row-requires
 enter_row-requires c = omega (arith, added_counts _ _ _ _ _ c.add_row.ensures c.if-add_row.true)
@@ -31,14 +28,22 @@ returns-else-declared c =
 
 pub returns-then-add_row : goal.returns-then-add_row
 returns-then-add_row c =
+    let m : c.if-declared-2.mark ≡ flag c.args.declared = elim c.if-declared-2.branch [
+      | then-declared-2 w ↦ w.mark-is ∙ rw w.if-declared-2.true
+      | else-declared-2 w ↦ w.mark-is ∙ rw w.if-declared-2.false
+    ] in
     record {
-      is = enter_new _ _ _ _ _ _ _ c.find.ensures c.in-NoRow.is _ (mark_is b) _ _ c.add_row.ensures c.if-add_row.true;
+      is = enter_new _ _ _ _ _ _ _ c.find.ensures c.in-NoRow.is _ m _ _ c.add_row.ensures c.if-add_row.true;
       indexed = token_new _ _ _ _ c.requires _ _ _ _ _ c.add_row.ensures c.if-add_row.true _ c.enter_row.ensures;
     }
 
 pub returns-else-add_row : goal.returns-else-add_row
 returns-else-add_row c =
+    let m : c.if-declared-2.mark ≡ flag c.args.declared = elim c.if-declared-2.branch [
+      | then-declared-2 w ↦ w.mark-is ∙ rw w.if-declared-2.true
+      | else-declared-2 w ↦ w.mark-is ∙ rw w.if-declared-2.false
+    ] in
     record {
-      is = enter_full _ _ _ _ _ _ _ c.find.ensures c.in-NoRow.is _ (mark_is b) _ _ c.add_row.ensures c.if-add_row.false;
+      is = enter_full _ _ _ _ _ _ _ c.find.ensures c.in-NoRow.is _ m _ _ c.add_row.ensures c.if-add_row.false;
       indexed = token_full _ _ _ _ c.requires _ _ _ _ _ c.add_row.ensures c.if-add_row.false;
     }

@@ -10,4 +10,4 @@ pub store-requires-2 : goal.store-requires-2
 store-requires-2 c = omega (arith, c.requires.1, c.requires.2)
 
 pub returns : goal.returns
-returns c = linked_on _ _ _ _ _ _ _ c.requires.0 c.requires.1 c.«cell».ensures c.first_of-later.ensures _ _ c.store.ensures c.store-2.ensures
+returns c = linked_on _ _ _ _ _ _ _ c.requires.0 c.requires.1 c.cell-k.ensures c.first_of-later.ensures _ _ c.store.ensures c.store-2.ensures
