@@ -1,24 +1,22 @@
 -- Soundness so far under Each change that a step makes, one law for Each; and at the end of a reading it is soundness. Assumes nothing.
 use Prim.Native.Nat.{ℕ, zero, suc, ◌+◌, ◌*◌, ◌≤◌, ◌<◌}
 use mathlib.Core.Path.{◌≡◌, refl, sym, ap, ◌∙◌}
-use mathlib.Core.List.{List, [], ◌∷◌}
-use mathlib.Core.Bool.{Bool, true, false}
-use mathlib.Core.Logic.{◌⊎◌, inl, inr}
+use mathlib.Core.List.{List, []}
 use native.Mathlib.Omega.{arith}
 use native.Mathlib.Numerals.{add-one}
 use native.Mathlib.Decide.{ℕ_discrete}
-use lib.ListN.{length, get_or, set, replicate, length-set}
+use lib.ListN.{length, get_or, set}
 use lib.Seq.{get_or-set_same, get_or-set_other}
-use Rattle.tables.specs.Table.{put, zeroed}
-use Rattle.tables.specs.Rows.{Clean, row_at, Rows, end_before, Chained}
+use Rattle.tables.specs.Table.{put}
+use Rattle.tables.specs.Rows.{row_at, end_before, Chained}
 use Rattle.tables.specs.Layout.{productions, symbols, rules, symbols_from, symbols_to, posix_from, width}
 use Rattle.tables.proofs.Rows.{rows_zeroed, rows_add, rows_map, rows_as, chain_add}
 use Rattle.grammar.specs.declared.Part.{Part}
 use Rattle.grammar.specs.declared.Singles.{Singles}
 use Rattle.grammar.specs.declared.State.{State}
-use Rattle.grammar.specs.State.{Passed, count, with_at, with_level, with_count, with_singles, with_actiontype, fresh}
+use Rattle.grammar.specs.State.{count, with_at, with_level, with_count, with_singles, with_actiontype, fresh}
 use Rattle.symbols.specs.Symbols.{Knows}
-use Rattle.grammar.specs.Sound.{Indexes, SoundIndexes, AllTables, ten_of, lexicon_of, list_of, tab, cells_of, set_tab, zero_all, View, Each, Pairs, Table, Lies, Lie, sound_view, Sound, PosixSound, view, Far, TokenRow, PrecRow, ProductionRow}
+use Rattle.grammar.specs.Sound.{Indexes, SoundIndexes, AllTables, ten_of, lexicon_of, list_of, tab, cells_of, set_tab, zero_all, View, Each, Pairs, Table, Lies, Lie, sound_view, Sound, PosixSound, view, Far}
 use Rattle.grammar.proofs.Counting.{count_low, count_high, count_past, with_ten, with_three, count_same, count_other}
 
 -- table k alone is changed

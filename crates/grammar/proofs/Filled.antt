@@ -1,16 +1,16 @@
 -- Symbols' rows filled in keep what holds of a reading under way. Assumes nothing.
-use Prim.Native.Nat.{ℕ, zero, suc, ◌+◌, ◌*◌, ◌≤◌, ◌<◌}
-use mathlib.Core.Path.{◌≡◌, refl, sym}
+use Prim.Native.Nat.{ℕ, zero, suc, ◌+◌, ◌≤◌, ◌<◌}
+use mathlib.Core.Path.{◌≡◌}
 use mathlib.Core.List.{List}
 use native.Mathlib.Omega.{arith}
-use lib.ListN.{length, get_or, set}
+use lib.ListN.{get_or, set}
 use lib.Seq.{get_or-set_other}
 use Rattle.tables.specs.Layout.{symbols, kind_name, known_row, width}
 use Rattle.tables.proofs.Rows.{rows_set}
 use Rattle.symbols.specs.Symbols.{Lexicon, row_for, filled_rows}
 use Rattle.grammar.specs.declared.State.{State}
 use Rattle.grammar.specs.State.{count}
-use Rattle.grammar.specs.Sound.{AllTables, cells_of, set_tab, View, view, KindRow, Table, Far}
+use Rattle.grammar.specs.Sound.{AllTables, set_tab, View, view, KindRow, Table, Far}
 use Rattle.grammar.proofs.Far.{far_cells}
 
 -- a symbol's kind and place stand before its row number

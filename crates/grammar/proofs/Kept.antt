@@ -1,12 +1,12 @@
 -- The steps that add a row keep soundness so far, whatever their answer: a row more, a repeat listed, a token entered. Assumes nothing.
-use Prim.Native.Nat.{ℕ, zero, suc, ◌+◌, ◌*◌, ◌≤◌, ◌<◌}
+use Prim.Native.Nat.{ℕ, ◌+◌, ◌≤◌, ◌<◌}
 use mathlib.Core.Path.{◌≡◌, refl, sym, ap, subst, ◌∙◌}
 use mathlib.Core.List.{List, [], ◌∷◌}
 use mathlib.Core.Bool.{Bool, true, false}
 use native.Mathlib.Omega.{arith}
 use lib.ListN.{length, get_or, set}
-use Rattle.tables.specs.Table.{Added, Inserted, set_cell, marked, flag, has_name, same_part, cell, find_name}
-use Rattle.tables.specs.Rows.{row_at, Rows}
+use Rattle.tables.specs.Table.{Added, Inserted, marked, flag, has_name, cell}
+use Rattle.tables.specs.Rows.{row_at}
 use Rattle.tables.specs.Layout.{tokens, productions, repeats, declared, row_place, width}
 use Rattle.tables.proofs.Cases.{add_cases, find_cases, enter_cases}
 use Rattle.tables.specs.declared.Found.{Found}
@@ -24,8 +24,8 @@ use Rattle.grammar.specs.declared.Answer.{Answer}
 use Rattle.grammar.specs.declared.Answer.TheVariants.{Going, Done, Refused}
 use Rattle.grammar.specs.declared.Gap.{Gap}
 use Rattle.grammar.specs.declared.Gap.TheVariants.{GapTo, GapRefused}
-use Rattle.grammar.specs.State.{Out1, Out2, Out3, Passed, count, with_count, gap_of, gap_at, Gapped, pushed, push_row, list_repeat, entered, enter_step, first2, second2, once_found, once_step, past, past_gap, pass_on, onward, behind1, behind2}
-use Rattle.grammar.specs.Sound.{AllTables, cells_of, set_tab, Each, Pairs, view, Table, TokenRow, RepeatRow, Differ, Far}
+use Rattle.grammar.specs.State.{Out1, Out2, Out3, Passed, count, gap_of, gap_at, Gapped, pushed, push_row, list_repeat, entered, enter_step, first2, second2, once_found, once_step, past, past_gap, pass_on, onward, behind1, behind2}
+use Rattle.grammar.specs.Sound.{AllTables, cells_of, set_tab, Each, Pairs, view, Table, TokenRow, Differ, Far}
 use Rattle.grammar.proofs.Repeats.{repeat_least, repeat_most}
 use Rattle.grammar.proofs.Far.{set_tab_lem, tab_other, far_at, far_add, far_table}
 

@@ -19,7 +19,7 @@ use Rattle.grammar.specs.declared.State.{State}
 use Rattle.grammar.specs.declared.Repeat.{Repeat}
 use Rattle.grammar.specs.declared.Answer.{Answer}
 use Rattle.grammar.specs.Cells.{token_cells}
-use Rattle.grammar.specs.State.{Out0, Out1, Tracked, count, with_count, gap_at, pushed, push_row, list_repeat, entered, enter_step, once_found, once_step, past, past_gap, pass_on}
+use Rattle.grammar.specs.State.{Out0, Out1, Tracked, count, with_count, pushed, push_row, list_repeat, entered, enter_step, once_found, once_step, pass_on}
 use Rattle.grammar.proofs.Counting.{with_low, with_high}
 use Rattle.grammar.proofs.Touch.{pass_counts}
 

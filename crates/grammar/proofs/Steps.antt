@@ -7,8 +7,8 @@ use lib.Dec.{eqb}
 use native.Mathlib.Omega.{arith}
 use mir.Syntax.{w32}
 use mir.Val.{Fits}
-use lib.ListN.{length, length-set, get_or, get_or-eq_default}
-use lib.Seq.{set_out, get_or-set_same}
+use lib.ListN.{length, length-set, get_or}
+use lib.Seq.{get_or-set_same}
 use Rattle.finder.proofs.Laws.{held_new, held_full}
 use Rattle.index.specs.Index.{rows_now}
 use Rattle.finder.specs.Finder.{Held, LeadsTo, Grown}

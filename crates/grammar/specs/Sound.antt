@@ -1,12 +1,12 @@
 -- Document 01, "Tables are sound when", as a record of named parts; and the same of a reading under way.
-use Rattle.std.specs.Prelude.{ℕ, zero, suc, ◌+◌, ◌*◌, ◌≤◌, ◌<◌, ◌≡◌, List, [], ◌∷◌, Bool, true, false, ◌⊎◌, length, get_or, set, replicate}
+use Rattle.std.specs.Prelude.{ℕ, ◌+◌, ◌*◌, ◌≤◌, ◌<◌, ◌≡◌, List, [], ◌∷◌, false, ◌⊎◌, length, get_or, set}
 use Rattle.words.specs.declared.Quote.TheVariants.{Closed}
 use Rattle.words.specs.Strings.{string_at}
 use Rattle.tables.specs.Table.{same_part, zeroed}
 use Rattle.tables.specs.Rows.{Clean, row_at, Rows, Chained}
 use Rattle.index.specs.Index.{Indexed, Sized}
 use Rattle.symbols.specs.Symbols.{Lexicon, lexicon, Knows}
-use Rattle.tables.specs.Layout.{tokens, precedences, rules, productions, symbols, declared, level, association, key_name, value, typed, rule_row, place, symbols_from, symbols_to, prec, action, kind_name, posix_from, tag_place, body_place, width}
+use Rattle.tables.specs.Layout.{tokens, rules, productions, symbols, declared, level, association, key_name, value, typed, rule_row, place, symbols_from, symbols_to, prec, action, kind_name, posix_from, tag_place, body_place, width}
 use Rattle.grammar.specs.declared.Part.{Part}
 use Rattle.grammar.specs.declared.Part.TheVariants.{Absent, At}
 use Rattle.grammar.specs.declared.Expect.{Expect}

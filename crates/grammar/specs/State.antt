@@ -1,5 +1,5 @@
 -- The state that a reading step takes and gives, and the steps that add a row.
-use Rattle.std.specs.Prelude.{ℕ, ◌+◌, ◌-◌, ◌≤◌, ◌<◌, ◌≡◌, List, [], ◌∷◌, Bool, true, false, ◌&&◌, not, length, get_or, set, replicate, ltb, eqb}
+use Rattle.std.specs.Prelude.{ℕ, ◌+◌, ◌-◌, ◌≤◌, ◌<◌, ◌≡◌, List, Bool, true, false, ◌&&◌, not, length, get_or, set, replicate, ltb, eqb}
 use Rattle.scan.specs.Scan.{Edge}
 use Rattle.scan.specs.Loop.{Turn, more, stop}
 use Rattle.spacing.specs.declared.Spaced.{Spaced}
@@ -9,7 +9,7 @@ use Rattle.tables.specs.declared.Entered.{Entered}
 use Rattle.tables.specs.declared.Entered.TheVariants.{Rows, Full}
 use Rattle.tables.specs.declared.Found.{Found}
 use Rattle.tables.specs.declared.Found.TheVariants.{RowAt, NoRow}
-use Rattle.tables.specs.Table.{Added, add_row, Inserted, flag, enter_token, cell, find_name}
+use Rattle.tables.specs.Table.{add_row, flag, enter_token, cell, find_name}
 use Rattle.grammar.specs.declared.Counts.{Counts}
 use Rattle.grammar.specs.declared.PosixCounts.{PosixCounts}
 use Rattle.grammar.specs.declared.Singles.{Singles}

@@ -39,8 +39,8 @@ returns-in-RowAt c =
 
 pub returns-in-NoRow : goal.returns-in-NoRow
 returns-in-NoRow c =
-    let it = (
-      once_new _ _ _ _ _ _ _ _ _ _ _ _ _ c.count_of-n.ensures c.cell_in_row-from.ensures c.cell_in_row-to.ensures c.find.ensures _ c.in-NoRow.is c.push_entered.ensures.is,
-      c.push_entered.ensures.«tail1»,
-    ) in
-    record { is = it.0; kept = it.1.0; indexed = it.1.1 }
+    record {
+      is = once_new _ _ _ _ _ _ _ _ _ _ _ _ _ c.count_of-n.ensures c.cell_in_row-from.ensures c.cell_in_row-to.ensures c.find.ensures _ c.in-NoRow.is c.push_entered.ensures.is;
+      kept = c.push_entered.ensures.kept;
+      indexed = c.push_entered.ensures.indexed;
+    }

@@ -1,5 +1,4 @@
 -- `scan::far_end`: eight bytes of the run at a time, what is left of it is the rest of it.
-use Prim.Native.Nat.{◌-◌}
 use borrow.Author.Rules.{rules}
 use Rattle.scan.proofs.Runs.{eight_fits, eight_less, eight_on, run_far}
 use Rattle.scan.proofs.far_end.Goals as goal

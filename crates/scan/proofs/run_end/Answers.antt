@@ -1,5 +1,4 @@
 -- `scan::run_end_lem`: what is left of the run is the rest of it.
-use Prim.Native.Nat.{◌-◌}
 use borrow.Author.Rules.{rules}
 use Rattle.scan.proofs.Runs.{run_on, run_stop, run_end_lem, run_runs}
 use Rattle.scan.proofs.run_end.Goals as goal

@@ -1,5 +1,4 @@
 -- `scan::starts`: so far the word stands there.
-use Prim.Native.Nat.{◌-◌}
 use borrow.Author.Rules.{rules}
 use Rattle.scan.proofs.Bytes.{starts_first, starts_short, starts_differ, starts_on, starts_all}
 use Rattle.scan.proofs.starts.Goals as goal
