@@ -1,15 +1,13 @@
 -- Laws of the work bits.
 use Prim.Native.Nat.{ℕ, zero, suc, ◌+◌, ◌*◌, ◌/◌, ◌%◌, ◌-◌, ◌^◌, ◌<◌, ◌≤◌}
 use mathlib.Core.Path.{◌≡◌, refl, sym, ap, ◌∙◌}
-use mathlib.Core.List.{List, [], ◌∷◌}
-use mathlib.Core.Logic.{⊎_elim}
+use mathlib.Core.List.{List}
 use native.Mathlib.Omega.{arith}
-use native.Mathlib.Numerals.{add-one}
 use native.Mathlib.Decide.{dec_lt, ℕ_discrete}
-use native.Mathlib.Nat.{mod-lt, div_self, div-eq_of_lt, pow-suc, mul-mod_left, zero-div, one-mul, mod-eq_of_lt}
+use native.Mathlib.Nat.{div_self, div-eq_of_lt, pow-suc, mul-mod_left, zero-div, one-mul, mod-eq_of_lt}
 use lib.ListN.{length, get_or, set, length-set, replicate, get_or-replicate, length-replicate, get_or-eq_default}
 use lib.Seq.{get_or-set_same, get_or-set_other, ext_get_or, set_out}
-use lib.Bits.{bit_or, bit_and, or_shr, or_mod, or_zero_r, and_mask}
+use lib.Bits.{bit_or, or_shr, or_mod, or_zero_r}
 use lib.Pow.{pow_pos, pow-lt, pow-add, shl-shr, shr-shr}
 use Rattle.bits.specs.Bits.{bit, set_bit, ones_to, ones, BitSet}
 

@@ -1,5 +1,5 @@
 -- Document 01: "Reached rows are kept as one bit each, 32 to a word, [..] lowest bit first".
-use Rattle.std.specs.Prelude.{ℕ, zero, suc, ◌+◌, ◌*◌, ◌/◌, ◌%◌, ◌^◌, ◌<◌, ◌≡◌, List, length, get_or, set}
+use Rattle.std.specs.Prelude.{ℕ, zero, suc, ◌+◌, ◌*◌, ◌/◌, ◌%◌, ◌^◌, ◌≡◌, List, length, get_or, set}
 use Rattle.std.specs.Int.Bits.{bit_or}
 
 -- bit k of the words: bit k % 32 of word k / 32, a number below 2; 0 past the words

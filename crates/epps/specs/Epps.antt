@@ -1,6 +1,6 @@
 -- Document 01: "5 `%epp` (key place as spelled, key name, value with its quotes)"; it adds no token. "Line ends are not allowed directly behind a declaration
 -- keyword, an `%epp` key [..]".
-use Rattle.std.specs.Prelude.{ℕ, List, Bool, true, false}
+use Rattle.std.specs.Prelude.{ℕ, List, false}
 use Rattle.words.specs.declared.Token.{Token}
 use Rattle.words.specs.declared.Token.TheVariants.{Found, NoToken}
 use Rattle.words.specs.declared.Quote.{Quote}

@@ -1,12 +1,12 @@
 -- What the functions' proofs cite: a name's bytes one by one, a seat among the slots, slots met one by one, rows added. Assumes nothing.
-use Prim.Native.Nat.{ℕ, zero, suc, ◌+◌, ◌*◌, ◌/◌, ◌%◌, ◌-◌, ◌≤◌, ◌<◌, min}
+use Prim.Native.Nat.{ℕ, zero, suc, ◌+◌, ◌*◌, ◌/◌, ◌%◌, ◌-◌, ◌≤◌, ◌<◌}
 use mathlib.Core.Path.{◌≡◌, refl, sym, ap, ◌∙◌}
 use mathlib.Core.List.{List, [], ◌∷◌}
 use mathlib.Core.Bool.{Bool, true, false, not, ◌&&◌, false≢true}
-use mathlib.Core.Logic.{◌⊎◌, inl, inr, ⊎_elim}
+use mathlib.Core.Logic.{inl, inr, ⊎_elim}
 use native.Mathlib.Omega.{arith}
 use native.Mathlib.Numerals.{add-one}
-use native.Mathlib.Decide.{dec_lt, ℕ_discrete}
+use native.Mathlib.Decide.{ℕ_discrete}
 use native.Mathlib.Nat.{mod-lt, div-lt_iff_lt-mul, mul-lt-mul_of_pos_right, mul-zero, mul_comm, zero-lt-suc, min-eq_left, min-eq_right}
 use borrow.Author.Tests.{lt-ltb, le-ltb, ltb-true, not-true, not-false}
 use lib.ListN.{length, get_or, set, length-set}
@@ -21,7 +21,7 @@ use Rattle.tables.proofs.Rows.{row_cell, row_set, row_else, cell_new, cell_old}
 use Rattle.tables.specs.declared.Found.{Found}
 use Rattle.tables.specs.declared.Found.TheVariants.{RowAt, NoRow}
 use Rattle.index.specs.Index.{next_slot}
-use Rattle.finder.specs.Finder.{stirred, stir_from, number_of, seat_of, last_mark, mark_of, Leads, out, here, on, LeadsTo, LedOf, Led, Apart, Held, Met, Tells, Grown}
+use Rattle.finder.specs.Finder.{stirred, stir_from, number_of, seat_of, mark_of, Leads, out, here, on, LeadsTo, LedOf, Led, Apart, Held, Met, Tells, Grown}
 use Rattle.finder.specs.declared.Sought.{Sought}
 use Rattle.finder.specs.declared.Sought.TheVariants.{Seated, Unseated}
 

@@ -1,7 +1,7 @@
 -- A finder: a working index beside a table, for the time of one call. No document speaks of it and no answer depends on how it spreads the names: what is found is what the search finds.
 use Rattle.std.specs.Prelude.{ℕ, zero, suc, ◌+◌, ◌*◌, ◌/◌, ◌%◌, ◌<◌, min, ◌≡◌, List, [], ◌∷◌, Bool, true, false, ◌⊎◌, length, get_or}
 use Rattle.std.proofs.Math.Seq.{slice}
-use Rattle.tables.specs.Table.{cell, lies, has_name, find_name}
+use Rattle.tables.specs.Table.{cell, lies, has_name}
 use Rattle.tables.specs.declared.Found.{Found}
 use Rattle.tables.specs.declared.Found.TheVariants.{RowAt, NoRow}
 use Rattle.index.specs.Index.{next_slot}

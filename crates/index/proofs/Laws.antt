@@ -1,20 +1,20 @@
 -- What the functions' proofs cite: a sum that wraps, a name's bytes one by one, slots met one by one, a number halved. Assumes nothing.
-use Rattle.std.proofs.Common.{◌≡◌, ℕ, zero, suc, ◌+◌, ◌-◌, ◌*◌, ◌/◌, ◌%◌, ◌<◌, ◌≤◌, min, Bool, true, false, not, ◌&&◌, eqb, ltb, leb, List, [], ◌∷◌, length, get_or, drop, set, sym, refl, ap, ◌∙◌, ⊎_elim, add-one, arith, drop_of_length-le, le-ltb, lt-ltb, eq-eqb, ne_eqb, le-leb}
-use mathlib.Core.Bool.{false≢true, and-false}
-use native.Mathlib.Decide.{dec_lt, ℕ_discrete}
+use Rattle.std.proofs.Common.{◌≡◌, ℕ, suc, ◌+◌, ◌-◌, ◌*◌, ◌/◌, ◌%◌, ◌<◌, ◌≤◌, min, Bool, true, false, not, ◌&&◌, eqb, leb, List, [], ◌∷◌, length, get_or, drop, set, sym, refl, ap, ◌∙◌, ⊎_elim, add-one, arith, drop_of_length-le, eq-eqb, ne_eqb}
+use mathlib.Core.Bool.{false≢true}
+use native.Mathlib.Decide.{dec_lt}
 use native.Mathlib.Nat.{mod-add-mod, add-mod}
-use borrow.Author.Tests.{lt-leb, not-true, not-false}
+use borrow.Author.Tests.{not-true, not-false}
 use lib.Seq.{slice, slice-cons, slice_empty, set_out}
 use Rattle.scan.proofs.Bytes.{le_or_lt, drop_at, within_true}
 use Rattle.tables.specs.Below.{below}
-use Rattle.tables.specs.Table.{cell, set_cell, put, Added, added, add_row, lies, same_part, has_name, find_name, First}
+use Rattle.tables.specs.Table.{cell, set_cell, put, Added, add_row, lies, has_name, find_name, First}
 use Rattle.tables.proofs.Cases.{add_cases, same_part_iff, find_cases, find_iff, none_iff}
 use Rattle.tables.specs.declared.Found.{Found}
 use Rattle.tables.specs.declared.Found.TheVariants.{RowAt, NoRow}
 use Rattle.index.specs.Hash.{mixed, hash_from, hash_of}
 use Rattle.index.specs.Index.{home, next_slot, free_slot, enter_row, Indexed, probed, lookup, row_stands, filled, index_test, halved, is_power, unfound, fresh_name, size_test}
 use Rattle.index.proofs.Theorems.{indexed_set, indexed_add}
-use Rattle.index.proofs.Slots.{next_on, next_round, free_here, free_on, probe_free, probe_hit, probe_on, filled_zero, filled_one}
+use Rattle.index.proofs.Slots.{free_here, free_on, probe_free, probe_hit, probe_on, filled_zero, filled_one}
 
 -- 33 times the number plus the byte
 twice : (y x z : ℕ) → x ≡ y % 4294967296 → z ≡ (x + x) % 4294967296 → z ≡ (y + y) % 4294967296

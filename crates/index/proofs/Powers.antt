@@ -1,10 +1,9 @@
 -- The test of a power of two tells one, and that of a size a right one. Assumes nothing.
-use Rattle.std.proofs.Common.{◌≡◌, ℕ, zero, suc, ◌+◌, ◌*◌, ◌/◌, ◌%◌, ◌^◌, ◌<◌, ◌≤◌, min, Bool, true, false, eqb, ◌↔◌, sym, refl, ap, ◌∙◌, arith, eq-eqb, ne_eqb, eqb-true}
+use Rattle.std.proofs.Common.{◌≡◌, ℕ, zero, suc, ◌*◌, ◌/◌, ◌%◌, ◌^◌, ◌<◌, min, true, eqb, ◌↔◌, sym, refl, ◌∙◌, arith, eq-eqb, ne_eqb, eqb-true}
 use mathlib.Core.Bool.{false≢true}
 use mathlib.Core.Logic.Iff
-use native.Mathlib.Nat.{two-pow-succ, one-le-pow}
+use native.Mathlib.Nat.{two-pow-succ}
 use native.Mathlib.Decide.{ℕ_discrete}
-use borrow.Author.Tests.{eqb-false}
 use Rattle.tables.proofs.Tells.{both_iff, le_iff}
 use Rattle.index.specs.Index.{halved, is_power, Power, size_test, Sized}
 

@@ -1,13 +1,12 @@
 -- An index that holds what entering the rows in order gives: a lookup is the linear search, one more row keeps it, and the test that reads the index tells it. Assumes nothing.
-use Rattle.std.proofs.Common.{subst, ◌≡◌, ℕ, zero, suc, ◌+◌, ◌-◌, ◌*◌, ◌%◌, ◌<◌, ◌≤◌, Bool, true, false, ◌&&◌, eqb, ltb, leb, ◌⊎◌, ◌↔◌, List, [], ◌∷◌, length, get_or, set, replicate, sym, refl, ap, ◌∙◌, inl, inr, ⊎_elim, mod-lt, add-one, arith, length-set, get_or-set_other, get_or-set_same, ext_get_or, ltb-false, ltb-true, le-ltb, lt-ltb, eq-eqb, ne_eqb, eqb-true, le-leb}
+use Rattle.std.proofs.Common.{subst, ◌≡◌, ℕ, zero, suc, ◌+◌, ◌-◌, ◌*◌, ◌<◌, ◌≤◌, Bool, true, false, ◌&&◌, eqb, leb, ◌↔◌, List, [], ◌∷◌, length, get_or, set, replicate, sym, refl, ap, ◌∙◌, ⊎_elim, mod-lt, add-one, arith, length-set, get_or-set_other, get_or-set_same, ext_get_or, eq-eqb, eqb-true, le-leb}
 use mathlib.Core.Bool.{false≢true}
 use native.Mathlib.Decide.{ℕ_discrete, dec_lt}
-use borrow.Author.Tests.{lt-leb, eqb-false}
+use borrow.Author.Tests.{lt-leb}
 use lib.ListN.{length-replicate, get_or-replicate, get_or-eq_default}
-use lib.Seq.{slice, set_out}
 use Rattle.scan.proofs.Bytes.{le_or_lt, within_yes}
 use Rattle.tables.specs.Below.{below}
-use Rattle.tables.specs.Table.{cell, put, zeroed, lies, same_part, has_name, find_name}
+use Rattle.tables.specs.Table.{cell, put, zeroed, same_part, has_name, find_name}
 use Rattle.tables.specs.declared.Found.{Found}
 use Rattle.tables.specs.declared.Found.TheVariants.{RowAt, NoRow}
 use Rattle.tables.proofs.Cases.{same_part_iff, find_cases}
@@ -15,7 +14,7 @@ use Rattle.tables.proofs.Below.{below_each, each_below}
 use Rattle.tables.proofs.Rows.{row_below, cell_old}
 use Rattle.index.specs.Hash.{hash_from, hash_of}
 use Rattle.index.specs.Index.{home, next_slot, free_slot, enter_row, entries, Indexed, probed, lookup, stands, row_stands, filled, index_test, AllStand}
-use Rattle.index.proofs.Slots.{free_here, free_on, probe_free, probe_hit, probe_on, stands_here, stands_on, stands_free, stands_cases, free_found, free_is, filled_none, filled_more, filled_less, filled_nothing, Free, some_free}
+use Rattle.index.proofs.Slots.{free_here, free_on, probe_free, probe_hit, probe_on, stands_here, stands_on, stands_cases, free_found, free_is, filled_none, filled_more, filled_less, filled_nothing, Free, some_free}
 
 -- ---- a lookup
 

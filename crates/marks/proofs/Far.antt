@@ -1,6 +1,6 @@
 -- Tags and numbers keep soundness so far, whatever their answer. Assumes nothing.
-use Prim.Native.Nat.{ℕ, ◌+◌, ◌≤◌, ◌<◌}
-use mathlib.Core.Path.{◌≡◌, refl, sym, ap, ◌∙◌}
+use Prim.Native.Nat.{ℕ, ◌≤◌, ◌<◌}
+use mathlib.Core.Path.{refl}
 use mathlib.Core.List.{List}
 use mathlib.Core.Bool.{Bool, true, false}
 use native.Mathlib.Omega.{arith}
@@ -26,7 +26,7 @@ use Rattle.grammar.specs.declared.Refusal.TheVariants.{Fault}
 use Rattle.grammar.specs.State.{Out0, Out1, Passed, push_row, pass_on, tied1, behind1, refused}
 use Rattle.grammar.specs.Sound.{AllTables, Lies, Far}
 use Rattle.grammar.proofs.Kept.{Far1, Held, push_held, past_far, pass_far, behind1_far}
-use Rattle.marks.specs.Marks.{Leading, untagged, tagged_by, no_tag, tag_found, lead_tag, tag_given, tag_row, number_given, number_behind, number_after, behind_word}
+use Rattle.marks.specs.Marks.{Leading, untagged, no_tag, tag_found, lead_tag, tag_row, number_given, number_behind, number_after, behind_word}
 
 -- the tag of a list lies in the source
 pub record LeadFar (src : List ℕ) (done : ℕ) (T : AllTables) (l : Leading) : Type 0 where

@@ -1,20 +1,18 @@
 -- Tags and numbers: one law for each answer. Assumes nothing.
-use Prim.Native.Nat.{ℕ, ◌+◌, ◌≤◌, ◌<◌}
+use Prim.Native.Nat.{ℕ, ◌≤◌, ◌<◌}
 use mathlib.Core.Path.{◌≡◌, refl, sym, ap, ◌∙◌}
 use mathlib.Core.List.{List}
 use mathlib.Core.Bool.{Bool, true, false}
 use native.Mathlib.Omega.{arith}
 use lib.Dec.{eqb, ltb}
 use lib.ListN.{length}
-use mir.Syntax.{w32}
-use mir.Val.{Fits}
 use borrow.Author.Tests.{eq-eqb, ne_eqb, lt-ltb, le-ltb}
 use Rattle.scan.specs.declared.Place.{Place}
 use Rattle.words.specs.declared.Int.{Int}
 use Rattle.words.specs.declared.Int.TheVariants.{Value, NoDigits, TooLarge}
 use Rattle.words.specs.declared.Tag.{Tag}
 use Rattle.words.specs.declared.Tag.TheVariants.{TagTo, OpenTag, NoTag}
-use Rattle.words.specs.Numbers.{int_at, Counted}
+use Rattle.words.specs.Numbers.{int_at}
 use Rattle.words.specs.Tags.{tag_at, Tagged}
 use Rattle.tables.specs.Layout.{tags, token_numbers, posix_from}
 use Rattle.grammar.specs.declared.State.{State}
@@ -28,12 +26,11 @@ use Rattle.grammar.specs.declared.Answer.TheVariants.{Going, Done, Refused}
 use Rattle.grammar.specs.declared.Gap.{Gap}
 use Rattle.grammar.specs.declared.Gap.TheVariants.{GapTo, GapRefused}
 use Rattle.grammar.specs.Cells.{tag_cells, number_cells}
-use Rattle.grammar.specs.State.{Out0, Out1, Here, Onward, Gapped, with_at, gap_at, push_row, past, past_gap, pass_on, tied1, behind1, refused}
-use Rattle.grammar.proofs.Steps.{nearer}
+use Rattle.grammar.specs.State.{Out0, Out1, Onward, Gapped, with_at, gap_at, push_row, past, past_gap, pass_on, tied1, behind1, refused}
 use Rattle.grammar.proofs.Kept.{gapped}
 use Rattle.grammar.proofs.SameKind.{push_kind}
 use Rattle.grammar.proofs.Touch.{pass_going, push_ten, push_apart}
-use Rattle.marks.specs.Marks.{Leading, untagged, tagged_by, no_tag, tag_found, lead_tag, tag_given, tag_row, number_given, number_behind, number_after, behind_word}
+use Rattle.marks.specs.Marks.{Leading, untagged, tagged_by, no_tag, tag_found, lead_tag, tag_row, number_given, number_behind, number_after, behind_word}
 
 -- the tag of a list
 module _ (src : List ℕ) (s : State) (wanted line : Bool) where

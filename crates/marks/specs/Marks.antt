@@ -1,5 +1,5 @@
 -- Document 02, request Nine: "a `<tag>` and token numbers in `%token` and the precedence lines", and the tag of `%type`; kind 4 alone has them.
-use Rattle.std.specs.Prelude.{ℕ, ◌+◌, ◌≤◌, ◌≡◌, List, Bool, true, false, eqb, ltb}
+use Rattle.std.specs.Prelude.{ℕ, List, Bool, true, false, eqb, ltb}
 use Rattle.words.specs.declared.Int.{Int}
 use Rattle.words.specs.declared.Int.TheVariants.{Value, NoDigits, TooLarge}
 use Rattle.words.specs.declared.Tag.{Tag}

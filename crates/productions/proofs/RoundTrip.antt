@@ -4,7 +4,7 @@ use mathlib.Core.Path.{◌≡◌, refl}
 use mathlib.Core.List.{List}
 use native.Mathlib.Omega.{arith}
 use lib.ListN.{length, get_or}
-use Rattle.tables.specs.Table.{put, cell}
+use Rattle.tables.specs.Table.{put}
 use Rattle.tables.specs.Layout.{productions, width}
 use Rattle.tables.proofs.Rows.{cell_new}
 use Rattle.productions.specs.declared.Prec.{Prec}

@@ -89,7 +89,7 @@ table_iff src c k n t h =
     (both_iff (le_iff n 4294967295) (both_iff (le_iff (n * width k) (length t)) (both_iff (clean_iff (width k) n t)
     (both_iff (below_iff (row_test src (count_at c rules) k t) (λ (r : ℕ). Each src (sound_view c) k (row_at (width k) t r)) (λ r. each_iff src t r (sound_view c) (λ m. tt) (λ _ a b. tt) k h) n)
     (names_iff src k n t h)))))
-    (λ x. record { fits = x.1.0; low = x.0; clean = x.1.1.0; Each = x.1.1.1.0; Pairs = x.1.1.1.1 }, λ R. (R.low, (R.fits, (R.clean, (R.each, R.pairs)))))
+    (λ x. record { fits = x.1.0; low = x.0; clean = x.1.1.0; each = x.1.1.1.0; pairs = x.1.1.1.1 }, λ R. (R.low, (R.fits, (R.clean, (R.each, R.pairs)))))
 
 -- all ten
 pub tables_iff : (src : List ℕ) (c : Counts) (T : Tables) → (tables_test src c T ≡ true) ↔ ((k : ℕ) → k < 10 → Table src (sound_view c) k (count_at c k) (tab T k))
@@ -182,5 +182,5 @@ sound_iff src c g T X =
     (both_when (tables_test src c T) _ (tables_iff src c T)
     (λ R. both_iff (indexes_iff src c T X (R tokens (omega arith)).fits (R rules (omega arith)).fits (R tokens (omega arith)).low (R rules (omega arith)).low) (both_iff (known_iff src c T) (both_iff (ranges_iff T.t8 (count_at c productions) (count_at c symbols)) (singles_iff src g)))))) (
       λ x. record { short = x.0; fits = λ k h. (x.1.0 k h).fits; low = λ k h. (x.1.0 k h).low; clean = λ k h. (x.1.0 k h).clean; rows = λ k r h. (x.1.0 k h).each r; singles = x.1.1.1.1.1; ranges = x.1.1.1.1.0; known = x.1.1.1.0; names = λ k q r h. (x.1.0 k h).pairs q r; indexes = x.1.1.0 },
-      λ s. (s.short, (λ k h. record { fits = s.fits k h; low = s.low k h; clean = s.clean k h; Each = λ r. s.rows k r h; Pairs = λ q r. s.names k q r h }, (s.indexes, (s.known, (s.ranges, s.singles))))),
+      λ s. (s.short, (λ k h. record { fits = s.fits k h; low = s.low k h; clean = s.clean k h; each = λ r. s.rows k r h; pairs = λ q r. s.names k q r h }, (s.indexes, (s.known, (s.ranges, s.singles))))),
     )

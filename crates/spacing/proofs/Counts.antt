@@ -15,8 +15,6 @@ use Rattle.scan.proofs.Bytes.{on_test, told, starts_fits, starts_byte}
 use Rattle.scan.proofs.Lines.{here_pair}
 use Rattle.scan.proofs.Runs.{run_past, run_tail}
 use Rattle.spacing.specs.Spacing.{slash_closes, is_blank, Mode, gap, slash, line, comment, spacing, spacing_at, spaces_at, AtLeast}
-use Rattle.spacing.specs.declared.Spaced.{Spaced}
-use Rattle.spacing.specs.declared.Spaced.TheVariants.{To, LineEnd, OpenComment}
 use Rattle.spacing.proofs.Laws.{a_line_counted}
 
 module _ (kind : ℕ) (ok : Bool) where

@@ -1,12 +1,12 @@
 -- Where spacing ends and where it refuses: onward, inside the source, and at a code point's begin if it began at one. Assumes nothing.
 use Prim.Native.Nat.{ℕ, ◌+◌, ◌-◌, ◌≤◌, ◌<◌}
-use mathlib.Core.Path.{◌≡◌, refl, sym, ◌∙◌, ap}
+use mathlib.Core.Path.{◌≡◌, refl}
 use mathlib.Core.List.{List, [], ◌∷◌}
 use mathlib.Core.Bool.{Bool, true, false, not, ◌&&◌, ◌||◌}
-use mathlib.Core.Logic.{◌⊎◌, inl, inr}
+use mathlib.Core.Logic.{inl, inr}
 use native.Mathlib.Omega.{arith}
 use lib.Dec.{eqb}
-use lib.ListN.{length, get_or, drop}
+use lib.ListN.{length, drop}
 use borrow.Author.Tests.{eqb-true}
 use Rattle.scan.specs.Scan.{is_eol, Edge}
 use Rattle.scan.specs.Lines.{lines_here}
@@ -14,7 +14,6 @@ use Rattle.scan.proofs.Bytes.{on_test, drop_below, drop_next, drop_byte, drop_en
 use Rattle.scan.proofs.Lines.{here_few}
 use Rattle.spacing.specs.Spacing.{slash_closes, is_blank, Mode, gap, slash, line, comment, spacing, spacing_at, spaces_at, Spaces}
 use Rattle.spacing.specs.declared.Spaced.{Spaced}
-use Rattle.spacing.specs.declared.Spaced.TheVariants.{To, LineEnd, OpenComment}
 
 -- either of two numbers, both below 128
 either : (c a b : ℕ) → (eqb c a || eqb c b) ≡ true → a < 128 → b < 128 → c < 128

@@ -7,12 +7,10 @@ use mathlib.Core.Bool.{Bool, true, false, not, false≢true}
 use mathlib.Core.Logic.{⊎_elim}
 use native.Mathlib.Omega.{arith}
 use native.Mathlib.Numerals.{add-one}
-use native.Mathlib.Decide.{dec_lt}
 use native.Mathlib.Nat.{suc-mul, mul-le-mul, le-div_iff_mul-le, div-zero, min-le_left, min-le_right, le-min, add-zero, sub-zero}
-use borrow.Author.Tests.{eq-eqb, ne_eqb, lt-leb, le-leb, lt-ltb, le-ltb, ltb-true, not-true, not-false}
+use borrow.Author.Tests.{eq-eqb, ne_eqb, lt-ltb, le-ltb, ltb-true, not-true, not-false}
 use lib.ListN.{length, get_or, set, take, drop, replicate, length-set, drop_of_length-le, get_or-eq_default}
 use lib.Seq.{slice, slice-cons, slice_empty, length-slice, set_out}
-use lib.Dec.{leb}
 use Rattle.scan.specs.Table.{same}
 use Rattle.scan.proofs.Bytes.{le_or_lt, within_true}
 use Rattle.scan.proofs.Table.{same_iff}

@@ -1,5 +1,5 @@
 -- Document 01: the tables' rows, their widths and which cell is which, named once. Tables have an index from 0 on here: table k + 1 has index k, but for 15 to 17, which have 10 to 12.
-use Rattle.std.specs.Prelude.{ℕ, ◌+◌, true, false, List, [], ◌∷◌, ltb, get_or}
+use Rattle.std.specs.Prelude.{ℕ, ◌+◌, true, false, [], ◌∷◌, ltb, get_or}
 
 -- "1 tokens (place, declared by `%token` or not)"
 abbrev pub tokens : ℕ

@@ -1,6 +1,6 @@
 -- Texts: one law for each way through the three scans, as rules for `search`; and where the answers lie. Assumes nothing.
 use Prim.Native.Nat.{ℕ, ◌+◌, ◌-◌, ◌≤◌, ◌<◌}
-use mathlib.Core.Path.{◌≡◌, refl, sym, ◌∙◌, ap}
+use mathlib.Core.Path.{◌≡◌, refl, sym, ◌∙◌}
 use mathlib.Core.List.{List, [], ◌∷◌}
 use mathlib.Core.Bool.{Bool, true, false, not, false≢true, and-eq-true_iff}
 use mathlib.Core.Logic.{⊎_elim}

@@ -1,8 +1,8 @@
 -- Every region that is trimmed begins and ends at code point boundaries, so that its trimmed place is what trimming means without a scan. Assumes nothing.
 use Prim.Native.Nat.{ℕ, ◌+◌, ◌-◌, ◌≤◌, ◌<◌}
-use mathlib.Core.Path.{◌≡◌, refl, sym, ◌∙◌, ap}
+use mathlib.Core.Path.{◌≡◌}
 use mathlib.Core.List.{List}
-use mathlib.Core.Logic.{◌⊎◌, inl, inr}
+use mathlib.Core.Logic.{inl, inr}
 use mathlib.Core.Bool.{true}
 use native.Mathlib.Omega.{arith}
 use lib.ListN.{length, get_or, take}
@@ -16,13 +16,13 @@ use Rattle.trim.specs.Trim.{trimmed}
 use Rattle.trim.proofs.Theorem.{trims_between}
 use Rattle.texts.specs.Trimmed.{Trimmed}
 use Rattle.texts.specs.Colon.{single_at, colon_text, colon_text_at, Singled}
-use Rattle.texts.specs.Action.{braced_at, span_of, acted, action_at, Braced}
+use Rattle.texts.specs.Action.{braced_at, acted, action_at, Braced}
 use Rattle.texts.specs.declared.Colon.{Colon}
 use Rattle.texts.specs.declared.Colon.TheVariants.{Single, NoSingle}
-use Rattle.texts.specs.declared.ColonText.TheVariants.{Upto, NoColon}
+use Rattle.texts.specs.declared.ColonText.TheVariants.{Upto}
 use Rattle.texts.specs.declared.Brace.{Brace}
 use Rattle.texts.specs.declared.Brace.TheVariants.{Closes, NeverCloses}
-use Rattle.texts.specs.declared.Action.TheVariants.{Body, OpenAction}
+use Rattle.texts.specs.declared.Action.TheVariants.{Body}
 use Rattle.texts.proofs.Laws.{singles, braces}
 
 module _ (s : List ℕ) (t : Text s) where

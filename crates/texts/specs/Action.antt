@@ -1,5 +1,5 @@
 -- Document 01, "Words": "Actions balance braces and look at nothing else."; lines are counted by document 02, request Ten.
-use Rattle.std.specs.Prelude.{ℕ, ◌+◌, ◌-◌, ◌≤◌, ◌<◌, ◌≡◌, List, [], ◌∷◌, Bool, true, false, eqb, length, get_or, drop}
+use Rattle.std.specs.Prelude.{ℕ, ◌+◌, ◌-◌, ◌≤◌, ◌<◌, ◌≡◌, List, [], ◌∷◌, true, false, eqb, length, get_or, drop}
 use Rattle.scan.specs.declared.Place.{Place}
 use Rattle.scan.specs.Scan.{is_eol}
 use Rattle.scan.specs.Lines.{lines_here}

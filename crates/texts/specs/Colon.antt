@@ -1,6 +1,5 @@
 -- Document 01, "Words": "A text to a single colon skips each `::`."; lines are counted by document 02, request Ten.
-use Rattle.std.specs.Prelude.{ℕ, ◌+◌, ◌≤◌, ◌<◌, ◌≡◌, List, [], ◌∷◌, Bool, true, false, eqb, length, get_or, drop}
-use Rattle.scan.specs.declared.Place.{Place}
+use Rattle.std.specs.Prelude.{ℕ, ◌+◌, ◌≤◌, ◌<◌, ◌≡◌, List, [], ◌∷◌, true, false, eqb, length, get_or, drop}
 use Rattle.scan.specs.Scan.{is_eol}
 use Rattle.scan.specs.Lines.{lines_here}
 use Rattle.trim.specs.Trim.{trimmed}

@@ -1,16 +1,15 @@
 -- Names and tokens: one law for each answer, as rules for `search`; and where the answers lie. Assumes nothing.
 use Prim.Native.Nat.{ℕ, ◌+◌, ◌≤◌, ◌<◌}
-use mathlib.Core.Path.{◌≡◌, refl, sym, ◌∙◌, ap}
+use mathlib.Core.Path.{◌≡◌, refl, sym, ◌∙◌}
 use mathlib.Core.List.{List}
 use mathlib.Core.Bool.{Bool, true, false}
 use native.Mathlib.Omega.{arith}
 use lib.Dec.{leb, eqb}
 use lib.ListN.{length, get_or}
 use borrow.Author.Tests.{le-leb, lt-leb, leb-false, eq-eqb, ne_eqb}
-use Rattle.scan.specs.declared.Place.{Place}
 use Rattle.scan.specs.declared.Class.{Class}
 use Rattle.scan.specs.declared.Class.TheVariants.{NameStart, NameByte, TokenStart, TokenByte, Unquoted}
-use Rattle.scan.specs.Scan.{is_at, in_class, run_end_at, Runs}
+use Rattle.scan.specs.Scan.{is_at, in_class, run_end_at}
 use Rattle.scan.proofs.Bytes.{on_test, at_true}
 use Rattle.scan.proofs.Runs.{run_is}
 use Rattle.words.specs.Words.{word_at, named, name_at, is_quote, found, closed, quoted_at, bare, token_at, Worded, Named, Tokened}
@@ -19,7 +18,7 @@ use Rattle.words.specs.declared.Word.TheVariants.{WordTo, NoWord}
 use Rattle.words.specs.declared.Name.{Name}
 use Rattle.words.specs.declared.Name.TheVariants.{NameTo, NoName}
 use Rattle.words.specs.declared.Token.{Token}
-use Rattle.words.specs.declared.Token.TheVariants.{Found, NoToken}
+use Rattle.words.specs.declared.Token.TheVariants.{NoToken}
 
 module _ (first rest : Class) (s : List ℕ) (from : ℕ) where
   pub word_end : length s ≤ from → NoWord ≡ word_at first rest s from

@@ -1,5 +1,5 @@
 -- Small inputs of the words: for each word a table under one statement.
-use Rattle.std.specs.Prelude.{ℕ, ◌-◌, ◌*◌, ◌^◌, ◌+◌, ◌≡◌, refl, true, List, [], ◌∷◌}
+use Rattle.std.specs.Prelude.{ℕ, ◌≡◌, refl, true, List, [], ◌∷◌}
 use Rattle.scan.specs.Scan.{is_at, is_letter, is_digit, is_eol, in_class, run_end, run_end_at}
 use Rattle.scan.specs.Table.{Case, same, all}
 use Rattle.words.specs.Words.{word_at, named, name_at, is_quote, closed, quoted_at, bare, token_at, name_numbers, token_numbers}

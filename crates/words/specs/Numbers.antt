@@ -1,5 +1,5 @@
 -- Document 01, "Words": integers.
-use Rattle.std.specs.Prelude.{ℕ, zero, suc, ◌+◌, ◌-◌, ◌*◌, ◌^◌, ◌≤◌, ◌<◌, ◌≡◌, List, [], ◌∷◌, Bool, true, false, leb, ltb, length}
+use Rattle.std.specs.Prelude.{ℕ, ◌+◌, ◌-◌, ◌*◌, ◌^◌, ◌≤◌, ◌<◌, ◌≡◌, List, [], ◌∷◌, true, false, leb, ltb, length}
 use Rattle.std.proofs.Math.Seq.{slice}
 use Rattle.scan.specs.declared.Class.TheVariants.{Digit}
 use Rattle.scan.specs.Scan.{in_class, run_end_at, Runs}

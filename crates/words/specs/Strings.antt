@@ -1,5 +1,5 @@
 -- Document 01, "Words": strings.
-use Rattle.std.specs.Prelude.{ℕ, ◌+◌, ◌≤◌, ◌<◌, ◌≡◌, List, [], ◌∷◌, Bool, true, false, eqb, leb, length, get_or, drop}
+use Rattle.std.specs.Prelude.{ℕ, ◌+◌, ◌≤◌, ◌<◌, ◌≡◌, List, [], ◌∷◌, true, false, eqb, leb, length, get_or, drop}
 use Rattle.scan.specs.Scan.{is_eol}
 use Rattle.words.specs.Words.{is_quote}
 use Rattle.words.specs.declared.Quote.{Quote}

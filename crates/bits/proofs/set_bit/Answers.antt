@@ -1,8 +1,6 @@
 use native.Mathlib.Omega.{arith}
 use Rattle.bits.proofs.Bits.{set_is, set_past}
 use borrow.Author.Rules.{rules}
-use Rattle.bits.proofs.set_bit.Reads as reads
-use Rattle.bits.proofs.set_bit.Lts as lts
 use Rattle.bits.proofs.set_bit.Goals as goal
 
 pub overflow_cast-s : goal.overflow_cast-s

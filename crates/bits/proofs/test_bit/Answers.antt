@@ -5,8 +5,6 @@ use lib.ListN.{get_or}
 use Rattle.bits.specs.Bits.{bit}
 use Rattle.bits.proofs.Bits.{bit_past}
 use borrow.Author.Rules.{rules}
-use Rattle.bits.proofs.test_bit.Reads as reads
-use Rattle.bits.proofs.test_bit.Lts as lts
 use Rattle.bits.proofs.test_bit.Goals as goal
 
 pub overflow_cast-s : goal.overflow_cast-s

@@ -1,5 +1,5 @@
 -- `blocks::check_sums`: the sums of the words that are left, from the sums so far, are those of all, and stay below 32 bits.
-use Prim.Native.Nat.{◌<◌, ◌-◌, ◌+◌}
+use Prim.Native.Nat.{◌<◌, ◌+◌}
 use mathlib.Core.Path.{refl}
 use native.Mathlib.Omega.{arith}
 use lib.ListN.{get_or}

@@ -1,5 +1,5 @@
 -- `blocks::get_bytes`: the first `j` bytes are read, the others as they were.
-use Prim.Native.Nat.{◌-◌, ◌+◌}
+use Prim.Native.Nat.{◌+◌}
 use mathlib.Core.Path.{◌≡◌, refl}
 use native.Mathlib.Omega.{arith}
 use lib.ListN.{length, length-set}

@@ -1,5 +1,4 @@
 -- `blocks::get_numbers`: the first `j` cells are read, the others as they were.
-use Prim.Native.Nat.{◌-◌}
 use mathlib.Core.Path.{◌≡◌, refl}
 use native.Mathlib.Omega.{arith}
 use lib.ListN.{length, length-set}

@@ -1,5 +1,5 @@
 -- `blocks::put_bytes`: what is still to be put into what is there gives the whole.
-use Prim.Native.Nat.{◌-◌, ◌+◌}
+use Prim.Native.Nat.{◌+◌}
 use mathlib.Core.Path.{refl}
 use native.Mathlib.Omega.{arith}
 use lib.ListN.{length, length-set}

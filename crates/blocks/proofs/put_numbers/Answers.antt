@@ -1,5 +1,4 @@
 -- `blocks::put_numbers`: what is still to be put into what is there gives the whole.
-use Prim.Native.Nat.{◌-◌}
 use mathlib.Core.Path.{refl, ◌∙◌}
 use native.Mathlib.Omega.{arith}
 use lib.ListN.{length}

@@ -1,5 +1,4 @@
 -- `blocks::seal_all`: the first `k` blocks are closed.
-use Prim.Native.Nat.{◌-◌}
 use mathlib.Core.Path.{◌≡◌, refl, ◌∙◌, ap}
 use native.Mathlib.Omega.{arith}
 use lib.ListN.{length}

@@ -1,5 +1,4 @@
 -- `finder::enter_rows`: the slots lead to the rows so far.
-use Prim.Native.Nat.{◌-◌}
 use native.Mathlib.Omega.{arith}
 use Rattle.finder.proofs.Laws.{grown_none, grown_on, led_on, led_all}
 use Rattle.finder.proofs.enter_rows.Goals as goal

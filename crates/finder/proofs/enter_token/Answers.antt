@@ -1,6 +1,5 @@
 -- `finder::enter_token`: that of the tables' own, and the finder follows.
 use mathlib.Core.Path.{◌≡◌, sym, ◌∙◌}
-use mathlib.Core.Logic.{⊎_elim}
 use native.Mathlib.Omega.{arith}
 use Rattle.tables.specs.Table.{flag}
 use Rattle.tables.proofs.Laws.{added_counts, enter_marked, enter_there, enter_new, enter_full}

@@ -1,5 +1,4 @@
 -- `finder::number_of`: the bytes that are left give the whole's answer.
-use Prim.Native.Nat.{◌-◌}
 use native.Mathlib.Omega.{arith}
 use borrow.Author.Rules.{rules}
 use Rattle.finder.proofs.Laws.{number_none, number_start, number_on, number_end}

@@ -1,5 +1,5 @@
 -- `index::all_stand`: the rows so far stand, and what is known of the blocks holds.
-use Rattle.std.proofs.Common.{◌-◌, true, false, refl, arith, rules}
+use Rattle.std.proofs.Common.{true, false, refl, arith, rules}
 use Rattle.tables.proofs.Below.{below_none, below_on, below_not, below_all}
 use Rattle.index.proofs.Skips.{skips_next, stands_found, stands_not, stands_nowhere}
 use Rattle.index.proofs.all_stand.Goals as goal

@@ -1,5 +1,5 @@
 -- `index::count_filled`: those counted and those left are all.
-use Rattle.std.proofs.Common.{◌-◌, ⊎_elim, arith}
+use Rattle.std.proofs.Common.{arith}
 use Rattle.index.proofs.Laws.{count_start, count_taken, count_free, count_end}
 use Rattle.index.proofs.count_filled.Goals as goal
 use Rattle.index.proofs.count_filled.Goals.{then-ix-i-ne0, else-ix-i-ne0}

@@ -1,5 +1,5 @@
 -- `index::enter_all`: the index so far is that of the rows so far, and what is known of its blocks holds.
-use Rattle.std.proofs.Common.{◌≡◌, ◌-◌, refl, arith, rules}
+use Rattle.std.proofs.Common.{◌≡◌, refl, arith, rules}
 use Rattle.index.proofs.Skips.{skips_entered, entries_next, entries_nowhere, entries_start}
 use Rattle.index.proofs.enter_all.Goals as goal
 

@@ -1,5 +1,5 @@
 -- `index::enter_token`: that of the tables' own, and the index follows.
-use Rattle.std.proofs.Common.{◌≡◌, ◌∙◌, ⊎_elim, arith}
+use Rattle.std.proofs.Common.{◌≡◌, ◌∙◌, arith}
 use Rattle.tables.specs.Table.{flag}
 use Rattle.tables.proofs.Laws.{added_counts, enter_marked, enter_there, enter_new, enter_full}
 use Rattle.index.proofs.Laws.{token_marked, token_new, token_full}

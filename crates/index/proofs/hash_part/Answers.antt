@@ -1,5 +1,5 @@
 -- `index::hash_part`: the bytes that are left give the whole's answer.
-use Rattle.std.proofs.Common.{◌-◌, arith, rules}
+use Rattle.std.proofs.Common.{arith, rules}
 use Rattle.index.proofs.Laws.{hash_none, hash_start, hash_on, hash_end}
 use Rattle.index.proofs.hash_part.Goals as goal
 

@@ -1,5 +1,5 @@
 -- `index::open_within`: earlier rows have the slots so far.
-use Rattle.std.proofs.Common.{◌-◌, arith}
+use Rattle.std.proofs.Common.{arith}
 use Rattle.index.proofs.Skips.{taken_none, taken_more, not_free, not_later}
 use Rattle.index.proofs.open_within.Goals as goal
 

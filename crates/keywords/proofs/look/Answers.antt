@@ -2,9 +2,8 @@
 use mathlib.Core.Path.{◌≡◌, refl, ◌∙◌}
 use Prim.Native.Nat.{ℕ}
 use mathlib.Core.List.{List}
-use native.Mathlib.Omega.{arith}
 use lib.ListN.{drop}
-use Rattle.keywords.specs.Keywords.{Entry, keywords, first_of, seen_at}
+use Rattle.keywords.specs.Keywords.{keywords, first_of, seen_at}
 use Rattle.keywords.proofs.Laws.{first_hit, first_miss, first_none, seen_placed}
 use Rattle.keywords.proofs.look.Goals as goal
 

@@ -1,5 +1,4 @@
 -- `links::link`: at first no production is linked, then one more with each turn, and all of them at row 0.
-use Prim.Native.Nat.{◌-◌}
 use mathlib.Core.Path.{refl}
 use native.Mathlib.Omega.{arith}
 use lib.ListN.{length}

@@ -1,5 +1,4 @@
 -- `links::next_of_rule`: what is found in the rows that are left is found from the first on.
-use Prim.Native.Nat.{◌-◌}
 use mathlib.Core.Path.{refl}
 use Rattle.tables.proofs.Laws.{first_hit, first_on, first_end}
 use Rattle.links.proofs.Laws.{is_of_rule_lem, is_of_other, next_is}

@@ -1,5 +1,4 @@
 -- `places::spot_in`: lines and the line's begin are those up to the index.
-use Prim.Native.Nat.{◌-◌}
 use mathlib.Core.Path.{refl}
 use native.Mathlib.Omega.{arith}
 use borrow.Author.Rules.{rules}

@@ -1,5 +1,4 @@
 -- `spacing::parse_ws`: what is left of the spacing gives the whole's answer, in a comment too.
-use Prim.Native.Nat.{◌-◌}
 use borrow.Author.Rules.{rules}
 use Rattle.scan.proofs.Bytes.{at_next}
 use Rattle.spacing.proofs.Laws.{a_blank, a_comment, a_end, c_end, a_eol, a_line_last, a_line_counted, a_other, a_refused, a_slash_end, a_slash_other, c_eol_close, c_eol_next, c_eol_on, c_run, c_refused, c_star_close, c_star_on}

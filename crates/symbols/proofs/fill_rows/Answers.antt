@@ -1,5 +1,4 @@
 -- `symbols::fill_rows`: the symbols so far are filled in.
-use Prim.Native.Nat.{◌-◌}
 use mathlib.Core.Path.{refl, ◌∙◌}
 use native.Mathlib.Omega.{arith}
 use Rattle.symbols.specs.Symbols.{lexicon}

@@ -1,5 +1,4 @@
 -- `tables::find`: what is found in the rows that are left is found in all.
-use Prim.Native.Nat.{◌-◌}
 use mathlib.Core.Bool.{true, false}
 use native.Mathlib.Omega.{arith}
 use Rattle.tables.proofs.Laws.{find_start, has_name_lem, first_hit, first_on, first_end}

@@ -1,5 +1,4 @@
 -- `tables::same_part`: what is left of both places gives the whole's answer.
-use Prim.Native.Nat.{◌-◌}
 use native.Mathlib.Omega.{arith}
 use borrow.Author.Rules.{rules}
 use Rattle.tables.proofs.Laws.{part_first, part_second, part_both, part_longer, same_on, same_differ, same_end}

@@ -1,5 +1,4 @@
 -- `texts::closing_brace`: what is left gives the whole's answer, with the braces open so far.
-use Prim.Native.Nat.{◌-◌}
 use borrow.Author.Rules.{rules}
 use Rattle.texts.proofs.Laws.{b_end, b_open, b_last, b_close, b_eol, b_run, brace_placed}
 use Rattle.texts.proofs.closing_brace.Goals as goal

@@ -1,5 +1,4 @@
 -- `texts::closing_mark`: what is left gives the whole's answer.
-use Prim.Native.Nat.{◌-◌}
 use borrow.Author.Rules.{rules}
 use Rattle.texts.proofs.Laws.{m_end, m_eol, m_found, m_percent, m_run, mark_placed}
 use Rattle.texts.proofs.closing_mark.Goals as goal

@@ -1,5 +1,4 @@
 -- `texts::single_colon`: what is left of the text gives the whole's answer.
-use Prim.Native.Nat.{◌-◌}
 use borrow.Author.Rules.{rules}
 use Rattle.texts.proofs.Laws.{c_end, c_eol, c_on, c_twice, c_single, twice_below, single_placed}
 use Rattle.texts.proofs.single_colon.Goals as goal

@@ -1,5 +1,4 @@
 -- `trim::trim`: what is left of the loop is what is left of the definition's.
-use Prim.Native.Nat.{◌-◌}
 use borrow.Author.Rules.{rules}
 use Rattle.trim.proofs.Laws.{trim_first, trim_done, run_start, run_kept, turn_white, turn_start, turn_kept, white_less, white_over, kept_less, kept_past, kept_over}
 use Rattle.trim.proofs.Inside.{inside}

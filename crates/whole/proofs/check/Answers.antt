@@ -1,5 +1,4 @@
 -- `whole::check`: the check of what is left is the check of the whole.
-use Prim.Native.Nat.{◌-◌}
 use borrow.Author.Rules.{rules}
 use Rattle.whole.proofs.Laws.{check_end, check_run, run_less, check_on, check_bad, check_less}
 use Rattle.whole.proofs.check.Goals as goal

@@ -1,5 +1,4 @@
 -- `words::parse_int`: the value so far is that of the digits so far.
-use Prim.Native.Nat.{◌-◌}
 use native.Mathlib.Omega.{arith}
 use borrow.Author.Rules.{rules}
 use Rattle.words.proofs.Numbers.{value_none, int_none, int_value, int_digit, int_next, int_tens, int_ones, int_placed}

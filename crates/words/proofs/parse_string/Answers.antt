@@ -1,5 +1,4 @@
 -- `words::parse_string`: what is left of the string gives the whole's answer.
-use Prim.Native.Nat.{◌-◌}
 use borrow.Author.Rules.{rules}
 use Rattle.words.proofs.Strings.{string_end_lem, string_no, string_opens, s_end, s_closed, s_line, s_on, s_last, s_bad, s_escaped, string_placed}
 use Rattle.words.proofs.parse_string.Goals as goal

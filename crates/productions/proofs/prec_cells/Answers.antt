@@ -1,0 +1,7 @@
+-- `productions::prec_cells`: each arm is its line of the definition.
+use mathlib.Core.Path.{sym, ap}
+use Rattle.productions.specs.Cells.{prec_cells}
+use Rattle.productions.proofs.prec_cells.Goals as goal
+
+pub returns-in-PrecAt : goal.returns-in-PrecAt
+returns-in-PrecAt c = sym (ap prec_cells c.in-PrecAt.is)

@@ -1,0 +1,7 @@
+-- `singles::param_cells`: each arm is its line of the definition.
+use mathlib.Core.Path.{sym, ap}
+use Rattle.grammar.specs.Numbers.{param_numbers}
+use Rattle.singles.proofs.param_cells.Goals as goal
+
+pub returns-in-ParamAt : goal.returns-in-ParamAt
+returns-in-ParamAt c = sym (ap param_numbers c.in-ParamAt.is)
