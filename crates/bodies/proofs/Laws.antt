@@ -1,10 +1,10 @@
 -- Bodies: one law for each answer. Assumes nothing.
 use Prim.Native.Nat.{ℕ, ◌+◌, ◌≤◌, ◌<◌}
-use mathlib.Core.Path.{◌≡◌, refl, sym, ap, ◌∙◌}
+use mathlib.Core.Path.{◌≡◌, sym, ap, ◌∙◌}
 use mathlib.Core.List.{List}
 use mathlib.Core.Bool.{Bool, true, false}
 use native.Mathlib.Omega.{arith}
-use lib.ListN.{length, get_or}
+use lib.ListN.{length}
 use Rattle.scan.specs.Scan.{is_at}
 use Rattle.texts.specs.declared.Brace.{Brace}
 use Rattle.texts.specs.declared.Brace.TheVariants.{Closes, NeverCloses}
@@ -19,9 +19,9 @@ use Rattle.grammar.specs.declared.Answer.TheVariants.{Refused}
 use Rattle.grammar.specs.declared.Gap.{Gap}
 use Rattle.grammar.specs.declared.Gap.TheVariants.{GapTo, GapRefused}
 use Rattle.grammar.specs.Cells.{body_cells}
-use Rattle.grammar.specs.State.{Out1, Passed, gap_at, push_row, behind1}
+use Rattle.grammar.specs.State.{Out1, gap_at, push_row, behind1}
 use Rattle.grammar.proofs.Touch.{pass_counts, push_ten}
-use Rattle.bodies.specs.Bodies.{body_row, prologue_closed, prologue_decl, union_closed, union_opened, union_body, union_from, union_decl}
+use Rattle.bodies.specs.Bodies.{body_row, prologue_closed, prologue_decl, union_closed, union_body, union_from, union_decl}
 
 -- No body changes a count of the ten.
 pub row_counts : (src : List ℕ) (s : State) (sort from to end : ℕ) (t : List ℕ) → (body_row src s sort from to end t).state.counts ≡ s.counts

@@ -1,7 +1,7 @@
 -- What a body is in the source: where the declaration goes on, its text stands there and table 17 has exactly its row more. Assumes nothing.
-use Prim.Native.Nat.{ℕ, ◌+◌, ◌-◌, ◌≤◌, ◌<◌}
-use mathlib.Core.Path.{◌≡◌, refl, sym, ap, ◌∙◌}
-use mathlib.Core.List.{List, [], ◌∷◌, ◌++◌}
+use Prim.Native.Nat.{ℕ, ◌+◌, ◌-◌, ◌<◌}
+use mathlib.Core.Path.{◌≡◌, refl, ap}
+use mathlib.Core.List.{List}
 use mathlib.Core.Bool.{Bool, true, false}
 use native.Mathlib.Omega.{arith}
 use lib.ListN.{length, get_or}
@@ -15,14 +15,13 @@ use Rattle.texts.specs.Balance.{IsAction}
 use Rattle.texts.specs.Mark.{marked_at}
 use Rattle.texts.proofs.Balance.{action_is}
 use Rattle.texts.proofs.Marks.{mark_first}
-use Rattle.tables.specs.Layout.{bodies, width}
-use Rattle.tables.specs.Rows.{rows_of}
+use Rattle.tables.specs.Layout.{bodies}
 use Rattle.grammar.specs.declared.State.{State}
 use Rattle.grammar.specs.declared.Answer.TheVariants.{Going}
 use Rattle.grammar.specs.declared.Gap.{Gap}
 use Rattle.grammar.specs.declared.Gap.TheVariants.{GapTo, GapRefused}
 use Rattle.grammar.specs.Cells.{body_cells}
-use Rattle.grammar.specs.State.{Out1, count, gap_at, push_row}
+use Rattle.grammar.specs.State.{Out1, gap_at, push_row}
 use Rattle.grammar.proofs.Counting.{same_high}
 use Rattle.grammar.proofs.Touch.{refused_going, push_more, pass_count, pass_going}
 use Rattle.bodies.specs.Bodies.{body_row, prologue_closed, prologue_decl, union_closed, union_opened, union_body, union_from, union_decl, OneBody, PrologueRead, UnionRead}

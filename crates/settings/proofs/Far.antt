@@ -1,6 +1,6 @@
 -- Each of these declarations keeps soundness so far, whatever its answer. Assumes nothing.
-use Prim.Native.Nat.{ℕ, ◌+◌, ◌≤◌, ◌<◌}
-use mathlib.Core.Path.{◌≡◌, refl, sym}
+use Prim.Native.Nat.{ℕ, ◌+◌, ◌≤◌}
+use mathlib.Core.Path.{refl}
 use mathlib.Core.List.{List}
 use mathlib.Core.Bool.{Bool, true, false}
 use native.Mathlib.Omega.{arith}
@@ -27,16 +27,15 @@ use Rattle.grammar.specs.declared.Part.TheVariants.{Absent, At}
 use Rattle.grammar.specs.declared.Expect.{Expect}
 use Rattle.grammar.specs.declared.Expect.TheVariants.{NotExpected, Expected}
 use Rattle.grammar.specs.declared.Param.TheVariants.{ParamAt}
-use Rattle.grammar.specs.declared.Singles.{Singles}
 use Rattle.grammar.specs.declared.State.{State}
 use Rattle.grammar.specs.declared.Gap.{Gap}
 use Rattle.grammar.specs.declared.Gap.TheVariants.{GapTo, GapRefused}
-use Rattle.grammar.specs.State.{Out1, Passed, with_singles, gap_at, Gapped}
-use Rattle.grammar.specs.Sound.{AllTables, set_tab, Lies, LiesExpected, Lie, Far}
+use Rattle.grammar.specs.State.{Passed, gap_at, Gapped}
+use Rattle.grammar.specs.Sound.{AllTables, Lies, LiesExpected, Lie, Far}
 use Rattle.grammar.proofs.Far.{far_singles, far_actiontype}
 use Rattle.grammar.proofs.Kept.{gapped, Far1, Held, repeat_held, past_far, behind1_far}
 use Rattle.settings.specs.Singles.{with_start, with_expected, expected_of, with_param, with_generics}
-use Rattle.settings.specs.Settings.{start_given, start_named, start_name, start_from, start_decl, repeated_expect, expect_seen, expect_given, expect_int, expect_from, expect_decl, actiontype_given, actiontype_named, actiontype_from, actiontype_decl, param_given, param_typed, param_text, param_from, param_decl, generics_from, generics_decl}
+use Rattle.settings.specs.Settings.{start_given, start_named, start_name, start_from, start_decl, expect_seen, expect_given, expect_int, expect_from, expect_decl, actiontype_given, actiontype_named, actiontype_from, actiontype_decl, param_given, param_typed, param_text, param_from, param_decl, generics_from, generics_decl}
 
 -- the text to the line end
 pub line_end_lem : (src : List ℕ) (i : ℕ) → i ≤ length src → (i ≤ line_end_at src i) × (line_end_at src i ≤ length src)

@@ -2,7 +2,7 @@
 use Prim.Native.Nat.{ℕ, ◌+◌}
 use mathlib.Core.Path.{◌≡◌}
 use mathlib.Core.List.{List}
-use mathlib.Core.Bool.{Bool, true, false}
+use mathlib.Core.Bool.{Bool, false}
 use Rattle.texts.specs.Colon.{colon_text_at}
 use Rattle.texts.specs.Line.{line_end_at}
 use Rattle.texts.specs.declared.ColonText.{ColonText}

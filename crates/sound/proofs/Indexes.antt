@@ -1,5 +1,5 @@
 -- The test of an index says yes exactly where its size is right and it holds the names. Assumes nothing.
-use Prim.Native.Nat.{ℕ, suc, ◌*◌, ◌/◌, ◌≤◌, ◌<◌, min}
+use Prim.Native.Nat.{ℕ, suc, ◌*◌, ◌/◌, ◌≤◌, ◌<◌}
 use mathlib.Core.Path.{◌≡◌, refl, sym, ◌∙◌}
 use mathlib.Core.List.{List, [], ◌∷◌}
 use mathlib.Core.Bool.{Bool, true, false, ◌&&◌, not, false≢true}
@@ -9,8 +9,8 @@ use native.Mathlib.Omega.{arith}
 use native.Mathlib.Nat.{le-div_iff_mul-le}
 use native.Mathlib.Decide.{ℕ_discrete}
 use borrow.Author.Tests.{eqb-true, not-true, not-false}
-use lib.Dec.{leb, eqb}
-use lib.ListN.{length, get_or}
+use lib.Dec.{eqb}
+use lib.ListN.{length}
 use Rattle.index.specs.Index.{Indexed, filled, row_stands, index_test, size_test, Sized}
 use Rattle.tables.specs.Below.{below}
 use Rattle.index.proofs.Slots.{filled_zero, filled_one}
@@ -20,7 +20,7 @@ use Rattle.tables.specs.Layout.{tokens, rules, width}
 use Rattle.grammar.specs.declared.Counts.{Counts}
 use Rattle.grammar.specs.Sound.{Tables, Indexes, SoundIndexes}
 use Rattle.sound.specs.Test.{count_at, index_right, indexes_test}
-use Rattle.tables.proofs.Tells.{both_iff, le_iff}
+use Rattle.tables.proofs.Tells.{both_iff}
 
 -- one index: its size, then what it holds
 module _ (src : List ℕ) (w n : ℕ) (t ix : List ℕ) (p : Bool) (e : p ≡ size_test (length ix) (length t) w) where

@@ -1,5 +1,5 @@
 -- Document 01, "Tables are sound when", as a test that computes. That it says yes exactly where they are is a theorem (`sound_iff`).
-use Rattle.std.specs.Prelude.{ℕ, zero, suc, ◌+◌, ◌*◌, ◌≡◌, List, [], ◌∷◌, Bool, true, false, ◌||◌, ◌&&◌, leb, ltb, eqb, length, get_or, drop}
+use Rattle.std.specs.Prelude.{ℕ, zero, suc, ◌+◌, ◌*◌, List, [], ◌∷◌, Bool, true, false, ◌||◌, ◌&&◌, leb, ltb, eqb, length, get_or, drop}
 use Rattle.tables.specs.Below.{below}
 use Rattle.tables.specs.Table.{cell, lies}
 use Rattle.index.specs.Index.{index_test, size_test, fresh_name}

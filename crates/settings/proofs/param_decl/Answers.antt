@@ -1,48 +1,29 @@
 -- `settings::param_decl`: spacing, the name to the colon, then the type.
-use Prim.Native.Nat.{◌+◌}
 use mathlib.Core.Path.{refl}
 use native.Mathlib.Omega.{arith}
-use Rattle.grammar.specs.State.{Passed}
 use Rattle.grammar.proofs.Steps.{gap_passed, passed_on, passed_here, passed_fits, onward_passed, still}
 use Rattle.settings.proofs.Laws.{colon_passed, colon_from, colon_to, colon_none, param_refused, param_open, param_text_lem}
 use Rattle.settings.proofs.param_decl.Goals as goal
-
--- behind that stand the trimmed text and the colon
-module _ (l : tie.After-known-told2) where
-  abbrev first : tie.Start
-  first = start l.before.before.before.before
-
-  colon : Passed first.args.src.now first.args.s.at (l.before.j.given.0.0 + 1)
-  colon =
-      let p = l.before.before.before in
-      passed_on _ _ _ _ (begins p.before) (colon_passed _ _ _ _ _ _ p.parse-to-single-colon.ensures.1 l.before.j.given.1)
-
-  from : Passed first.args.src.now first.args.s.at l.before.j.given.0.1.1.0.from
-  from =
-      let p = l.before.before.before in
-      passed_on _ _ _ _ (begins p.before) (colon_from _ _ _ _ _ _ p.parse-to-single-colon.ensures.1 l.before.j.given.1)
-
-  to : Passed first.args.src.now first.args.s.at l.before.j.given.0.1.1.0.to
-  to =
-      let p = l.before.before.before in
-      passed_on _ _ _ _ from (colon_to _ _ _ _ _ _ p.parse-to-single-colon.ensures.1 l.before.j.given.1)
 
 pub parse_to_single_colon-requires : goal.parse_to_single_colon-requires
 parse_to_single_colon-requires c = ((gap_passed _ _ _ _ _ c.pass_gap.ensures.moved c.in-GapTo.is)).inside
 
 pub overflow_cast-p : goal.overflow_cast-p
-overflow_cast-p c = passed_fits _ _ _ (first «place:After-known_told2»).pre (from «place:After-known_told2»)
+overflow_cast-p c =
+    passed_fits _ _ _ c.requires ((passed_on _ _ _ _ ((gap_passed _ _ _ _ _ c.pass_gap.ensures.moved c.in-GapTo.is)) (colon_from _ _ _ _ _ _ c.parse_to_single_colon.ensures.colon_texts c.in-Upto.is)))
 
 pub overflow_cast-p-in-Upto : goal.overflow_cast-p-in-Upto
-overflow_cast-p-in-Upto c = passed_fits _ _ _ (first «place:After-known_told2»).pre (to «place:After-known_told2»)
+overflow_cast-p-in-Upto c =
+    passed_fits _ _ _ c.requires ((passed_on _ _ _ _ ((passed_on _ _ _ _ ((gap_passed _ _ _ _ _ c.pass_gap.ensures.moved c.in-GapTo.is)) (colon_from _ _ _ _ _ _ c.parse_to_single_colon.ensures.colon_texts c.in-Upto.is))) (colon_to _ _ _ _ _ _ c.parse_to_single_colon.ensures.colon_texts c.in-Upto.is)))
 
 pub overflow_add-j : goal.overflow_add-j
 overflow_add-j c =
-    let h = (colon l).inside in
-    omega (arith, (first l).requires.short)
+    let h = ((passed_on _ _ _ _ ((gap_passed _ _ _ _ _ c.pass_gap.ensures.moved c.in-GapTo.is)) (colon_passed _ _ _ _ _ _ c.parse_to_single_colon.ensures.colon_texts c.in-Upto.is))).inside in
+    omega (arith, c.requires.short)
 
 pub param_typed-requires : goal.param_typed-requires
-param_typed-requires c = passed_here _ _ _ (first «place:After-known_told2»).pre (colon «place:After-known_told2»)
+param_typed-requires c =
+    passed_here _ _ _ c.requires ((passed_on _ _ _ _ ((gap_passed _ _ _ _ _ c.pass_gap.ensures.moved c.in-GapTo.is)) (colon_passed _ _ _ _ _ _ c.parse_to_single_colon.ensures.colon_texts c.in-Upto.is)))
 
 pub overflow_cast-result : goal.overflow_cast-result
 overflow_cast-result c =
@@ -53,7 +34,7 @@ pub returns-in-Upto : goal.returns-in-Upto
 returns-in-Upto c =
     record {
       is = param_text_lem _ _ _ c.pass_gap.ensures.is _ _ c.in-GapTo.is _ c.parse_to_single_colon.ensures.value _ _ _ _ c.in-Upto.is c.param_typed.ensures.is;
-      moved = onward_passed _ _ _ _ _ _ c.param_typed.ensures.moved refl (colon l);
+      moved = onward_passed _ _ _ _ _ _ c.param_typed.ensures.moved refl ((passed_on _ _ _ _ ((gap_passed _ _ _ _ _ c.pass_gap.ensures.moved c.in-GapTo.is)) (colon_passed _ _ _ _ _ _ c.parse_to_single_colon.ensures.colon_texts c.in-Upto.is)));
     }
 
 pub returns-in-NoColon : goal.returns-in-NoColon

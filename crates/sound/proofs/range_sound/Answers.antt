@@ -8,6 +8,6 @@ pub returns : goal.returns
 returns c =
     range_is _ _ c.if-r-ne0.before _ _ c.cell-first.ensures c.cell.ensures
     (elim c.if-r-ne0.branch [
-      | then-r-ne0 w ↦ before_later _ _ _ w.if-r-ne0.true (w.before-is ∙ w.cell.ensures)
+      | then-r-ne0 w ↦ before_later _ _ _ w.if-r-ne0.true (w.before-is ∙ w.cell-before.ensures)
       | else-r-ne0 w ↦ before_first _ _ _ w.if-r-ne0.false w.before-is
     ])

@@ -1,5 +1,4 @@
 -- `sound::ranges_sound`: the rows so far follow one another, up to the last one's end.
-use Prim.Native.Nat.{◌-◌}
 use mathlib.Core.Path.{refl}
 use native.Mathlib.Omega.{arith}
 use Rattle.tables.proofs.Below.{below_none, below_on, below_not}

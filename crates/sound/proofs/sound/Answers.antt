@@ -1,7 +1,6 @@
 -- `sound::sound`: its tests in their order.
 use mathlib.Core.Path.{sym, ◌∙◌}
 use borrow.Author.Tests.{not-false}
-use borrow.Author.Rules.{rules}
 use Rattle.sound.proofs.Indexes.{indexes_told}
 use Rattle.sound.proofs.Known.{tables_single}
 use Rattle.sound.proofs.Laws.{sound_long, sound_table, sound_index, sound_known, sound_rest}

@@ -1,0 +1,34 @@
+-- `lists::list_body`: the tag, then the words.
+use native.Mathlib.Omega.{arith}
+use Rattle.lists.proofs.Laws.{body_goes, body_done, body_refused}
+use Rattle.lists.proofs.list_body.Goals as goal
+
+pub percent_list-requires : goal.percent_list-requires
+percent_list-requires c =
+    (record { within = c.lead_list-l.ensures.moved.inside c.requires.0.within; short = c.requires.0.short }, rw c.lead_list-l.ensures.counted c.requires.1)
+
+pub returns-in-Going : goal.returns-in-Going
+returns-in-Going c =
+    let a = c.lead_list-l.ensures.moved.forth (omega arith) in
+    let b = c.percent_list.ensures.moved.onward in
+    record {
+      is = body_goes _ _ _ _ _ _ _ _ _ c.lead_list-l.ensures.is _ c.in-Going.is c.percent_list.ensures.is;
+      moved = record { onward = omega arith; inside = c.percent_list.ensures.moved.inside };
+      indexed = c.percent_list.ensures.indexed;
+    }
+
+pub returns-in-Done : goal.returns-in-Done
+returns-in-Done c =
+    record {
+      is = body_done _ _ _ _ _ _ _ _ _ c.lead_list-l.ensures.is c.in-Done.is;
+      moved = record { onward = c.lead_list-l.ensures.moved.forth (omega arith); inside = c.lead_list-l.ensures.moved.inside c.requires.0.within };
+      indexed = rw c.lead_list-l.ensures.counted c.requires.1;
+    }
+
+pub returns-in-Refused : goal.returns-in-Refused
+returns-in-Refused c =
+    record {
+      is = body_refused _ _ _ _ _ _ _ _ _ c.lead_list-l.ensures.is _ c.in-Refused.is;
+      moved = record { onward = c.lead_list-l.ensures.moved.forth (omega arith); inside = c.lead_list-l.ensures.moved.inside c.requires.0.within };
+      indexed = rw c.lead_list-l.ensures.counted c.requires.1;
+    }
