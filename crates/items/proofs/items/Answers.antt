@@ -33,16 +33,16 @@ overflow_cast-result c =
     omega (arith, b.inside, c.requires.0.short)
 
 pub shape_of-t1-then-src-at : goal.shape_of-t1-then-src-at
-shape_of-t1-then-src-at c = c.symbol_run-run.auto.1.1.1.1.1.1.0 ∙ c.loop-draft.invariant.0
+shape_of-t1-then-src-at c = c.symbol_run-run.auto.t1 ∙ c.loop-draft.invariant.0
 
 pub shape_of-t8-then-src-at : goal.shape_of-t8-then-src-at
 shape_of-t8-then-src-at c = c.loop-draft.invariant.1
 
 pub shape_of-t9-then-src-at : goal.shape_of-t9-then-src-at
-shape_of-t9-then-src-at c = c.symbol_run-run.auto.1.1.1.1.1.1.1.0 ∙ c.loop-draft.invariant.2
+shape_of-t9-then-src-at c = c.symbol_run-run.auto.t9 ∙ c.loop-draft.invariant.2
 
 pub shape_of-i1-then-src-at : goal.shape_of-i1-then-src-at
-shape_of-i1-then-src-at c = c.symbol_run-run.auto.1.1.1.1.1.1.1.1.0 ∙ c.loop-draft.invariant.3
+shape_of-i1-then-src-at c = c.symbol_run-run.auto.i1 ∙ c.loop-draft.invariant.3
 
 pub returns-then-src-at : goal.returns-then-src-at
 unfolding item_list
@@ -74,10 +74,10 @@ loop-draft-preserved c =
     let m = c.item-r.ensures.moved.beyond e in
     let n = c.item-r.ensures.moved.inside in
     let g = b.onward in (
-      c.item-r.auto.1.1.1.0 ∙ c.symbol_run-run.auto.1.1.1.1.1.1.0 ∙ c.loop-draft.invariant.0,
-      c.item-r.auto.1.1.1.1.0 ∙ c.loop-draft.invariant.1,
-      c.item-r.auto.1.1.1.1.1.0 ∙ c.symbol_run-run.auto.1.1.1.1.1.1.1.0 ∙ c.loop-draft.invariant.2,
-      c.item-r.auto.1.1.1.1.1.1.0 ∙ c.symbol_run-run.auto.1.1.1.1.1.1.1.1.0 ∙ c.loop-draft.invariant.3,
+      c.item-r.auto.t1 ∙ c.symbol_run-run.auto.t1 ∙ c.loop-draft.invariant.0,
+      c.item-r.auto.t8 ∙ c.loop-draft.invariant.1,
+      c.item-r.auto.t9 ∙ c.symbol_run-run.auto.t9 ∙ c.loop-draft.invariant.2,
+      c.item-r.auto.i1 ∙ c.symbol_run-run.auto.i1 ∙ c.loop-draft.invariant.3,
       record {
         tokens = c.item-r.ensures.indexed;
         onward = omega (arith, m, g);
@@ -87,16 +87,16 @@ loop-draft-preserved c =
     )
 
 pub shape_of-t1-in-Done : goal.shape_of-t1-in-Done
-shape_of-t1-in-Done c = c.item-r.auto.1.1.1.0 ∙ c.symbol_run-run.auto.1.1.1.1.1.1.0 ∙ c.loop-draft.invariant.0
+shape_of-t1-in-Done c = c.item-r.auto.t1 ∙ c.symbol_run-run.auto.t1 ∙ c.loop-draft.invariant.0
 
 pub shape_of-t8-in-Done : goal.shape_of-t8-in-Done
-shape_of-t8-in-Done c = c.item-r.auto.1.1.1.1.0 ∙ c.loop-draft.invariant.1
+shape_of-t8-in-Done c = c.item-r.auto.t8 ∙ c.loop-draft.invariant.1
 
 pub shape_of-t9-in-Done : goal.shape_of-t9-in-Done
-shape_of-t9-in-Done c = c.item-r.auto.1.1.1.1.1.0 ∙ c.symbol_run-run.auto.1.1.1.1.1.1.1.0 ∙ c.loop-draft.invariant.2
+shape_of-t9-in-Done c = c.item-r.auto.t9 ∙ c.symbol_run-run.auto.t9 ∙ c.loop-draft.invariant.2
 
 pub shape_of-i1-in-Done : goal.shape_of-i1-in-Done
-shape_of-i1-in-Done c = c.item-r.auto.1.1.1.1.1.1.0 ∙ c.symbol_run-run.auto.1.1.1.1.1.1.1.1.0 ∙ c.loop-draft.invariant.3
+shape_of-i1-in-Done c = c.item-r.auto.i1 ∙ c.symbol_run-run.auto.i1 ∙ c.loop-draft.invariant.3
 
 pub returns-in-Done : goal.returns-in-Done
 unfolding item_list
@@ -111,16 +111,16 @@ returns-in-Done c =
     }
 
 pub shape_of-t1-in-Refused : goal.shape_of-t1-in-Refused
-shape_of-t1-in-Refused c = c.item-r.auto.1.1.1.0 ∙ c.symbol_run-run.auto.1.1.1.1.1.1.0 ∙ c.loop-draft.invariant.0
+shape_of-t1-in-Refused c = c.item-r.auto.t1 ∙ c.symbol_run-run.auto.t1 ∙ c.loop-draft.invariant.0
 
 pub shape_of-t8-in-Refused : goal.shape_of-t8-in-Refused
-shape_of-t8-in-Refused c = c.item-r.auto.1.1.1.1.0 ∙ c.loop-draft.invariant.1
+shape_of-t8-in-Refused c = c.item-r.auto.t8 ∙ c.loop-draft.invariant.1
 
 pub shape_of-t9-in-Refused : goal.shape_of-t9-in-Refused
-shape_of-t9-in-Refused c = c.item-r.auto.1.1.1.1.1.0 ∙ c.symbol_run-run.auto.1.1.1.1.1.1.1.0 ∙ c.loop-draft.invariant.2
+shape_of-t9-in-Refused c = c.item-r.auto.t9 ∙ c.symbol_run-run.auto.t9 ∙ c.loop-draft.invariant.2
 
 pub shape_of-i1-in-Refused : goal.shape_of-i1-in-Refused
-shape_of-i1-in-Refused c = c.item-r.auto.1.1.1.1.1.1.0 ∙ c.symbol_run-run.auto.1.1.1.1.1.1.1.1.0 ∙ c.loop-draft.invariant.3
+shape_of-i1-in-Refused c = c.item-r.auto.i1 ∙ c.symbol_run-run.auto.i1 ∙ c.loop-draft.invariant.3
 
 pub returns-in-Refused : goal.returns-in-Refused
 unfolding item_list

@@ -1,5 +1,4 @@
 -- `items::may_follow`.
-use mathlib.Core.Path.{refl}
 use Rattle.items.proofs.Marks.{may_follow_is}
 use Rattle.items.proofs.may_follow.Goals as goal
 
@@ -10,7 +9,7 @@ pub is_at-requires : goal.is_at-requires
 is_at-requires c = tt
 
 pub starts-requires : goal.starts-requires
-starts-requires c = refl
+starts-requires c = tt
 
 pub returns : goal.returns
 returns c = may_follow_is _ _ _ _ _ c.may_end.ensures c.is_at.ensures c.starts.ensures

@@ -23,9 +23,9 @@ pub loop-j-preserved : goal.loop-j-preserved
 loop-j-preserved c =
     let e = c.in-Read.is in
     let x = read_is _ _ _ _ _ _ _ _ _ _ c.quick_symbol.ensures.is _ _ _ e in (
-      c.quick_symbol.auto.1.1.1.1.1.0 ∙ c.loop-j.invariant.0,
-      c.quick_symbol.auto.1.1.1.1.1.1.0 ∙ c.loop-j.invariant.1,
-      c.quick_symbol.auto.1.1.1.1.1.1.1.0 ∙ c.loop-j.invariant.2,
+      c.quick_symbol.auto.t1 ∙ c.loop-j.invariant.0,
+      c.quick_symbol.auto.t9 ∙ c.loop-j.invariant.1,
+      c.quick_symbol.auto.i1 ∙ c.loop-j.invariant.2,
       omega (arith, x.further, c.loop-j.invariant.3),
       x.inside,
       read_held _ _ _ _ _ _ _ _ e c.quick_symbol.ensures.indexed,
@@ -33,13 +33,13 @@ loop-j-preserved c =
     )
 
 pub shape_of-t1-in-Unread : goal.shape_of-t1-in-Unread
-shape_of-t1-in-Unread c = c.quick_symbol.auto.1.1.1.1.1.0 ∙ c.loop-j.invariant.0
+shape_of-t1-in-Unread c = c.quick_symbol.auto.t1 ∙ c.loop-j.invariant.0
 
 pub shape_of-t9-in-Unread : goal.shape_of-t9-in-Unread
-shape_of-t9-in-Unread c = c.quick_symbol.auto.1.1.1.1.1.1.0 ∙ c.loop-j.invariant.1
+shape_of-t9-in-Unread c = c.quick_symbol.auto.t9 ∙ c.loop-j.invariant.1
 
 pub shape_of-i1-in-Unread : goal.shape_of-i1-in-Unread
-shape_of-i1-in-Unread c = c.quick_symbol.auto.1.1.1.1.1.1.1.0 ∙ c.loop-j.invariant.2
+shape_of-i1-in-Unread c = c.quick_symbol.auto.i1 ∙ c.loop-j.invariant.2
 
 pub returns-in-Unread : goal.returns-in-Unread
 returns-in-Unread c =
