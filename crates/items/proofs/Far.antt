@@ -1,5 +1,5 @@
 -- Each item of a production, and the items of a rule, keep soundness so far, whatever their answer. Assumes nothing.
-use Prim.Native.Nat.{ℕ, zero, suc, ◌+◌, ◌-◌, ◌≤◌, ◌<◌}
+use Prim.Native.Nat.{ℕ, suc, ◌+◌, ◌-◌, ◌≤◌, ◌<◌}
 use mathlib.Core.Path.{◌≡◌, refl, sym, ◌∙◌}
 use mathlib.Core.List.{List}
 use mathlib.Core.Bool.{Bool, true, false, ◌&&◌}
@@ -8,7 +8,6 @@ use native.Mathlib.Omega.{arith}
 use lib.Dec.{leb, eqb}
 use lib.ListN.{length, get_or}
 use lib.Seq.{get_or-set_other}
-use Rattle.scan.specs.Loop.{Turn, more, stop, turns}
 use Rattle.scan.proofs.Bytes.{on_test}
 use Rattle.scan.proofs.Loop.{Either, turns_keep, turns_end}
 use Rattle.words.specs.declared.Token.{Token}

@@ -21,7 +21,7 @@ use Rattle.grammar.specs.declared.Answer.TheVariants.{Going, Done, Refused}
 use Rattle.grammar.specs.declared.Gap.{Gap}
 use Rattle.grammar.specs.declared.Gap.TheVariants.{GapTo, GapRefused}
 use Rattle.grammar.specs.Cells.{symbol_cells}
-use Rattle.grammar.specs.State.{Out0, Out1, Out2, count, with_at, gap_at, push_row, enter_step, pass_on, first2, second2}
+use Rattle.grammar.specs.State.{Out0, Out1, Out2, count, with_at, gap_at, push_row, enter_step, pass_on, second2}
 use Rattle.productions.specs.declared.Prec.TheVariants.{NoPrec, PrecAt}
 use Rattle.productions.specs.declared.Act.TheVariants.{NoAction, ActionAt}
 use Rattle.productions.specs.declared.Production.{Production}

@@ -1,11 +1,10 @@
 -- Lists that run to the next `%` keep soundness so far, whatever their answer. Assumes nothing.
-use Prim.Native.Nat.{ℕ, suc, ◌+◌, ◌≤◌, ◌<◌}
-use mathlib.Core.Path.{◌≡◌, refl, sym}
+use Prim.Native.Nat.{ℕ, suc}
+use mathlib.Core.Path.{◌≡◌, refl}
 use mathlib.Core.List.{List}
 use mathlib.Core.Bool.{Bool, true, false}
 use native.Mathlib.Omega.{arith}
 use lib.ListN.{length}
-use Rattle.scan.specs.Loop.{Turn, more, stop, turns}
 use Rattle.scan.proofs.Loop.{Either, turns_keep}
 use Rattle.words.specs.declared.Name.{Name}
 use Rattle.words.specs.declared.Name.TheVariants.{NameTo, NoName}
@@ -21,10 +20,10 @@ use Rattle.grammar.specs.declared.Answer.TheVariants.{Going, Done, Refused}
 use Rattle.grammar.specs.declared.Gap.{Gap}
 use Rattle.grammar.specs.declared.Gap.TheVariants.{GapTo, GapRefused}
 use Rattle.grammar.specs.Cells.{kind_cells}
-use Rattle.grammar.specs.State.{Out1, Out3, Passed, with_at, gap_at, Gapped, onward, behind1, enter_step}
+use Rattle.grammar.specs.State.{Out3, Passed, with_at, gap_at, Gapped, enter_step}
 use Rattle.grammar.specs.Sound.{AllTables, cells_of, set_tab, Lies, Far}
 use Rattle.grammar.proofs.Far.{far_at}
-use Rattle.grammar.proofs.Kept.{gapped, Far1, Far3, Held, push_held, enter_held, behind1_far, onward_keep}
+use Rattle.grammar.proofs.Kept.{gapped, Far1, Far3, push_held, enter_held, behind1_far, onward_keep}
 use Rattle.marks.specs.Marks.{Leading, tag_row}
 use Rattle.marks.proofs.Far.{LeadFar, lead_far, tag_held, behind_word_far}
 use Rattle.lists.specs.declared.Spelling.{Spelling}

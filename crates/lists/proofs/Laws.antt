@@ -1,10 +1,9 @@
 -- Lists to the next `%`: one law for each answer. Assumes nothing.
-use Prim.Native.Nat.{ℕ, ◌+◌, ◌≤◌, ◌<◌}
+use Prim.Native.Nat.{ℕ, ◌≤◌, ◌<◌}
 use mathlib.Core.Path.{◌≡◌, refl, sym, ap, ◌∙◌}
 use mathlib.Core.List.{List}
 use mathlib.Core.Bool.{Bool, true, false}
 use native.Mathlib.Omega.{arith}
-use lib.Dec.{leb, eqb}
 use lib.ListN.{length, get_or}
 use borrow.Author.Tests.{eq-eqb, ne_eqb, le-leb, lt-leb}
 use Rattle.scan.specs.Loop.{more, stop}
@@ -24,10 +23,10 @@ use Rattle.grammar.specs.declared.Refusal.{Refusal}
 use Rattle.grammar.specs.declared.Refusal.TheVariants.{Fault}
 use Rattle.grammar.specs.declared.Gap.{Gap}
 use Rattle.grammar.specs.declared.Gap.TheVariants.{GapTo, GapRefused}
-use Rattle.grammar.specs.State.{Out0, Out1, Out3, with_at, gap_at, enter_step, behind1}
+use Rattle.grammar.specs.State.{Out1, Out3, with_at, gap_at, enter_step, behind1}
 use Rattle.grammar.proofs.Touch.{pass_counts}
 use Rattle.marks.specs.Marks.{Leading, lead_tag, tag_given, tag_row, behind_word}
-use Rattle.marks.proofs.Laws.{tag_counts, lead_counts}
+use Rattle.marks.proofs.Laws.{tag_counts}
 use Rattle.lists.specs.declared.Spelling.{Spelling}
 use Rattle.lists.specs.declared.Spelling.TheVariants.{Spelled, Unspelled}
 use Rattle.lists.specs.declared.WordList.{WordList}

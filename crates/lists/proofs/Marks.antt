@@ -21,7 +21,7 @@ use Rattle.grammar.specs.declared.Answer.TheVariants.{Going}
 use Rattle.grammar.specs.Cells.{token_cells}
 use Rattle.grammar.specs.State.{count, with_count, entered, enter_step, Out1}
 use Rattle.grammar.proofs.Touch.{refused_going}
-use Rattle.lists.specs.Written.{Declared, Kept, Placed, Named, word}
+use Rattle.lists.specs.Written.{Declared, Kept, Placed, Named}
 
 -- table 1 under a list of tokens: with counts c and cells t before it, and d and x behind it
 pub record Marks (c : Counts) (t : List ℕ) (d : Counts) (x : List ℕ) : Type 0 where

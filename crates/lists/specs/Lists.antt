@@ -1,6 +1,6 @@
 -- Document 01, "Declarations": "`%token` and `%expect-unused` lists run to the next `%`."; and document 02, request Nine: "`%type` with words spelled as in `%expect-unused`".
-use Rattle.std.specs.Prelude.{ℕ, suc, ◌+◌, List, Bool, true, false, leb, eqb, length, get_or}
-use Rattle.scan.specs.Loop.{Turn, more, stop, turns}
+use Rattle.std.specs.Prelude.{ℕ, suc, List, Bool, true, false, leb, eqb, length, get_or}
+use Rattle.scan.specs.Loop.{Turn, stop, turns}
 use Rattle.words.specs.declared.Name.{Name}
 use Rattle.words.specs.declared.Name.TheVariants.{NameTo, NoName}
 use Rattle.words.specs.declared.Token.{Token}

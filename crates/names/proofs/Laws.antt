@@ -1,6 +1,6 @@
 -- A row's name: one law for each answer. Assumes nothing.
 use Prim.Native.Nat.{ℕ, ◌-◌, ◌≤◌, ◌<◌}
-use mathlib.Core.Path.{◌≡◌, refl, sym, ◌∙◌}
+use mathlib.Core.Path.{◌≡◌, sym, ◌∙◌}
 use mathlib.Core.List.{List, []}
 use mathlib.Core.Bool.{Bool, true, false}
 use native.Mathlib.Omega.{arith}
@@ -13,7 +13,7 @@ use Rattle.grammar.specs.declared.Counts.{Counts}
 use Rattle.grammar.specs.declared.Singles.{Singles}
 use Rattle.grammar.specs.Sound.{Tables, Indexes}
 use Rattle.sound.specs.Test.{count_at, sound_test}
-use Rattle.names.specs.Name.{nowhere, part_of, row_place, name_place, part_at, name_of}
+use Rattle.names.specs.Name.{nowhere, part_of, row_place, name_place, name_of}
 
 -- a part of the source
 module _ (src : List ℕ) (a b : ℕ) where

@@ -1,6 +1,6 @@
 -- Document 01: "The name of a row is handed back as the very part of the source it occupies, and not as a copy. This is for tables 1 and 7; another table number, a row
 -- number not below its count or unsound tables give an empty part."
-use Rattle.std.specs.Prelude.{ℕ, ◌-◌, List, [], Bool, true, false, eqb, ltb, take, drop}
+use Rattle.std.specs.Prelude.{ℕ, ◌-◌, List, [], true, false, eqb, ltb, take, drop}
 use Rattle.scan.specs.declared.Place.{Place}
 use Rattle.tables.specs.Table.{cell, lies}
 use Rattle.tables.specs.Layout.{tokens, rules, width}

@@ -3,14 +3,8 @@ use Rattle.grammar.proofs.Steps.{gap_passed, passed_fits, still}
 use Rattle.items.proofs.Marks.{empty_stands, empty_not, empty_gap_lem}
 use Rattle.items.proofs.empty_item.Goals as goal
 
-pub count_of-requires : goal.count_of-requires
-count_of-requires c = tt
-
-pub may_follow-requires : goal.may_follow-requires
-may_follow-requires c = tt
-
 pub overflow_cast-made : goal.overflow_cast-made
-overflow_cast-made c = let p = («place:Start»).requires in passed_fits _ _ _ p (still _ _ p)
+overflow_cast-made c = passed_fits _ _ _ c.requires (still _ _ c.requires)
 
 pub returns-then-no_symbol-may_follow : goal.returns-then-no_symbol-may_follow
 returns-then-no_symbol-may_follow c =
@@ -25,7 +19,7 @@ returns-else-no_symbol-may_follow c =
     let e = c.in-GapTo.is in
     record {
       is = empty_not _ _ _ _ _ c.pass_gap.ensures.is _ _ e _ c.count_of.ensures _ c.may_follow.ensures c.if-no_symbol-may_follow.false;
-      moved = still _ _ («place:Start»).requires;
+      moved = still _ _ c.requires;
     }
 
 pub returns-in-GapRefused : goal.returns-in-GapRefused

@@ -1,5 +1,4 @@
 -- `items::quick_symbol`: the first byte tells the sort.
-use mathlib.Core.Logic.{⊎_elim}
 use native.Mathlib.Omega.{arith}
 use Rattle.items.proofs.Runs.{sort_quoted, sort_bare}
 use Rattle.items.proofs.quick_symbol.Goals as goal
@@ -9,4 +8,4 @@ quick_quoted-requires c = (c.requires.0, c.requires.1, sort_quoted _ _ c.if-src-
 
 pub quick_bare-requires : goal.quick_bare-requires
 quick_bare-requires c =
-    (c.requires.0, c.requires.1, sort_bare _ _ c.if-src-at.false c.in_default-1.rest.0.1 c.in_default-1.rest.1 (λ a b. ⊎_elim (λ w. omega (arith, a, b, w.taken)) (λ w. omega (arith, a, b, w.1.left)) c.in_default.branch))
+    (c.requires.0, c.requires.1, sort_bare _ _ c.if-src-at.false (λ e. omega arith) (λ e. omega arith) (λ a b. omega arith))

@@ -1,5 +1,4 @@
 -- `items::symbol_run`: each symbol that is read is a turn.
-use Prim.Native.Nat.{◌-◌}
 use mathlib.Core.Path.{refl, ◌∙◌}
 use native.Mathlib.Omega.{arith}
 use Rattle.items.proofs.Runs.{run_start, run_more, run_stop, read_is, unread_is, read_held, unread_held}

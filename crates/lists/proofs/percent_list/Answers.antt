@@ -1,5 +1,4 @@
 -- `lists::percent_list`: what is left of the run of turns stays the same.
-use Prim.Native.Nat.{◌-◌}
 use mathlib.Core.Path.{refl, sym, ◌∙◌}
 use native.Mathlib.Omega.{arith}
 use Rattle.scan.proofs.Loop.{left_start, left_more, left_stop}
