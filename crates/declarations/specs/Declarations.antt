@@ -1,6 +1,6 @@
 -- Document 01, "Declarations", and the crate's `parse_declarations`: one declaration after another, in the order of its keywords.
 use Rattle.std.specs.Prelude.{ℕ, suc, List, Bool, true, false, leb, length}
-use Rattle.scan.specs.Loop.{Turn, more, stop, turns}
+use Rattle.scan.specs.Loop.{Turn, stop, turns}
 use Rattle.keywords.specs.declared.Keyword.{Keyword}
 use Rattle.keywords.specs.declared.Keyword.TheVariants.{Percents, TokenWord, ActiontypeWord, StartWord, EppWord, ExpectRrWord, ExpectUnusedWord, ExpectWord, AvoidInsertWord, ParseParamWord, ParseGenericsWord, ImplicitTokensWord, LeftWord, RightWord, NonassocWord, PrologueWord, UnionWord, TypeWord, NoKeyword}
 use Rattle.keywords.specs.declared.Seen.{Seen}
@@ -9,7 +9,6 @@ use Rattle.tables.specs.Layout.{precedences, avoided, implicit, epps, width}
 use Rattle.grammar.specs.declared.Counts.{Counts}
 use Rattle.grammar.specs.declared.State.{State}
 use Rattle.grammar.specs.declared.Cause.TheVariants.{UnknownDeclaration, PrematureEnd}
-use Rattle.grammar.specs.declared.Refusal.{Refusal}
 use Rattle.grammar.specs.declared.Refusal.TheVariants.{Fault}
 use Rattle.grammar.specs.declared.Answer.{Answer}
 use Rattle.grammar.specs.declared.Answer.TheVariants.{Going, Done, Refused}

@@ -118,12 +118,21 @@ module _ (q to : ℕ) where
       Is : Quote → Type 0
       Is r = r ≡ Closed to → Behind q (c ∷ cs) i to
 
+  -- a backslash, and what may stand behind it
+  run_backslash : (cs : List ℕ) (i : ℕ) → eqb 92 q ≡ false → string q bare (92 ∷ cs) i ≡ string q (escape i) cs (i + 1)
+  unfolding string is_eol
+  run_backslash cs i n = rw (string, n)
+
+  run_behind : (c : ℕ) (cs : List ℕ) (b i : ℕ) → is_quote c ≡ true → string q (escape b) (c ∷ cs) i ≡ string q bare cs (i + 1)
+  unfolding string
+  run_behind c cs b i e = rw (string, e)
+
   -- and the other way
   run : {t v : List ℕ} (rest : List ℕ) (i : ℕ) → is_quote q ≡ true → Spells q t v → to ≡ i + length t + 1 → string q bare (t ++ q ∷ rest) i ≡ Closed to
   unfolding string is_eol
   run rest i o empty k = rw (string, eq-eqb q q refl) (ap Closed (omega arith))
   run rest i o (byte {c} f e g s) k = rw (string, ne_eqb c q f, e, ne_eqb c 92 g) (run rest (i + 1) o s (omega arith))
-  run rest i o (escaped {c} e s) k = rw (string, ne_eqb 92 q (λ z. quote_no_escape q o (sym z)), e) (run rest (i + 1 + 1) o s (omega arith))
+  run rest i o (escaped {c} {t} e s) k = run_backslash (c ∷ t ++ q ∷ rest) i (ne_eqb 92 q (λ z. quote_no_escape q o (sym z))) ∙ run_behind c (t ++ q ∷ rest) i (i + 1) e ∙ run rest (i + 1 + 1) o s (omega arith)
 
 module _ (src : List ℕ) (from to : ℕ) where
   -- A string is read exactly where one stands, and spells its text without the backslashes.

@@ -1,0 +1,21 @@
+-- `reach::mark_name`: the row that is found is the only one of the name.
+use native.Mathlib.Omega.{arith}
+use Rattle.reach.specs.Reach.{named}
+use Rattle.reach.proofs.Laws.{name_calls, mark_found, mark_unfound}
+use Rattle.reach.proofs.mark_name.Goals as goal
+
+-- the row's bit lies in the words
+pub mark-requires : goal.mark-requires
+mark-requires c =
+    let a = c.args in
+    omega (arith, c.requires.0.inside, (name_calls a.src.now (named a.names.now a.z) a.a a.b _ c.find.ensures _ c.in-RowAt.is).inside)
+
+pub returns-in-RowAt : goal.returns-in-RowAt
+returns-in-RowAt c =
+    let a = c.args in
+    mark_found a.src.now (named a.names.now a.z) a.a a.b _ c.find.ensures _ _ _ _ c.requires.1 c.in-RowAt.is c.mark.ensures
+
+pub returns-in-NoRow : goal.returns-in-NoRow
+returns-in-NoRow c =
+    let a = c.args in
+    mark_unfound a.src.now (named a.names.now a.z) a.a a.b _ c.find.ensures _ c.in-NoRow.is

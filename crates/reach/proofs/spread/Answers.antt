@@ -1,0 +1,33 @@
+-- `reach::spread`: a round along chains, then passes, each with fewer bits left, until one marks nothing.
+use Prim.Native.Nat.{◌-◌}
+use mathlib.Core.Path.{refl, sym, ◌∙◌}
+use mathlib.Core.Logic.{⊎_elim}
+use native.Mathlib.Omega.{arith}
+use Rattle.bits.proofs.Bits.{bit_zeros}
+use Rattle.reach.proofs.Laws.{fits_on}
+use Rattle.reach.proofs.Sweeps.{rushed_none, rushed_then, rushed_swept, rushed_done, fewer}
+use Rattle.reach.proofs.spread.Goals as goal
+
+pub loop-c-init : goal.loop-c-init
+loop-c-init c = (rushed_none _ _ _, λ a b e n. absurd (omega (arith, bit_zeros 512 a)), refl)
+
+pub slice_bounds-round-end : goal.slice_bounds-round-end
+slice_bounds-round-end c = sym c.loop-c.invariant.2
+
+pub round-requires : goal.round-requires
+round-requires c =
+    (fits_on _ c.args.w.now _ (c.loop-c.invariant.0.size ∙ ((⊎_elim (λ s. rw s.5 s.2.ensures) (λ s. rw s.5 s.2.ensures) c.if-rows_of.branch)).size) c.requires.0, c.requires.1, c.loop-c.invariant.1)
+
+pub loop-c-smaller : goal.loop-c-smaller
+loop-c-smaller c = fewer c.loop-c.w c.round.new.0 c.round.result c.round.ensures.0.size c.loop-c-test.true c.round.ensures.0.grew
+
+pub loop-c-preserved : goal.loop-c-preserved
+loop-c-preserved c = (rushed_swept c.loop-c.invariant.0 c.round.ensures.0, c.round.ensures.1, c.round.auto.done ∙ c.loop-c.invariant.2)
+
+pub shape_of-w : goal.shape_of-w
+shape_of-w c =
+    c.round.ensures.0.size ∙ c.loop-c.invariant.0.size ∙ ((⊎_elim (λ s. rw s.5 s.2.ensures) (λ s. rw s.5 s.2.ensures) c.if-rows_of.branch)).size
+
+pub returns : goal.returns
+returns c =
+    rushed_done c.loop-c-test.false (rushed_then ((⊎_elim (λ s. rw s.5 s.2.ensures) (λ s. rw s.5 s.2.ensures) c.if-rows_of.branch)) c.loop-c.invariant.0) c.round.ensures.0

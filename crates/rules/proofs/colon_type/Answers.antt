@@ -1,0 +1,30 @@
+-- `rules::colon_type`.
+use native.Mathlib.Omega.{arith}
+use Rattle.grammar.proofs.Steps.{passed_on, passed_fits, still}
+use Rattle.settings.proofs.Laws.{colon_from, colon_to, colon_none}
+use Rattle.rules.proofs.Laws.{colon_at, colon_upto, colon_open}
+use Rattle.rules.proofs.colon_type.Goals as goal
+
+pub overflow_cast-result : goal.overflow_cast-result
+overflow_cast-result c = passed_fits _ _ _ c.requires ((colon_from _ _ _ _ _ _ c.parse_to_single_colon.ensures.colon_texts c.in-Upto.is))
+
+pub overflow_cast-result-in-Upto : goal.overflow_cast-result-in-Upto
+overflow_cast-result-in-Upto c =
+    passed_fits _ _ _ c.requires (passed_on _ _ _ _ ((colon_from _ _ _ _ _ _ c.parse_to_single_colon.ensures.colon_texts c.in-Upto.is)) (colon_to _ _ _ _ _ _ c.parse_to_single_colon.ensures.colon_texts c.in-Upto.is))
+
+pub overflow_cast-result-in-NoColon : goal.overflow_cast-result-in-NoColon
+overflow_cast-result-in-NoColon c = let h = colon_none _ _ _ _ c.parse_to_single_colon.ensures.colon_texts c.in-NoColon.is in omega (arith, c.requires.short)
+
+pub returns-in-Upto : goal.returns-in-Upto
+returns-in-Upto c =
+    record {
+      is = colon_upto _ _ _ c.parse_to_single_colon.ensures.value _ _ _ c.in-Upto.is;
+      moved = colon_at _ _ _ _ _ _ c.parse_to_single_colon.ensures.colon_texts c.in-Upto.is;
+    }
+
+pub returns-in-NoColon : goal.returns-in-NoColon
+returns-in-NoColon c =
+    record {
+      is = colon_open _ _ _ c.parse_to_single_colon.ensures.value _ c.in-NoColon.is;
+      moved = still _ _ c.requires;
+    }
