@@ -1,7 +1,7 @@
 -- Document 01, "Rules", and the crate's `parse_rule`, `parse_rules` and `parse_programs`.
-use Rattle.std.specs.Prelude.{ℕ, suc, ◌+◌, List, [], ◌∷◌, Bool, true, false, ◌||◌, leb, eqb, length}
+use Rattle.std.specs.Prelude.{ℕ, suc, ◌+◌, List, [], ◌∷◌, Bool, true, false, leb, eqb, length}
 use Rattle.scan.specs.Scan.{starts_at}
-use Rattle.scan.specs.Loop.{Turn, more, stop, turns}
+use Rattle.scan.specs.Loop.{Turn, stop, turns}
 use Rattle.words.specs.declared.Name.{Name}
 use Rattle.words.specs.declared.Name.TheVariants.{NameTo, NoName}
 use Rattle.words.specs.Words.{name_at}
@@ -18,7 +18,6 @@ use Rattle.grammar.specs.declared.Singles.{Singles}
 use Rattle.grammar.specs.declared.State.{State}
 use Rattle.grammar.specs.declared.Cause.{Cause}
 use Rattle.grammar.specs.declared.Cause.TheVariants.{IllegalName, MissingColon, MissingRightArrow, ReachedEnd, UnknownDeclaration}
-use Rattle.grammar.specs.declared.Refusal.{Refusal}
 use Rattle.grammar.specs.declared.Refusal.TheVariants.{Fault}
 use Rattle.grammar.specs.declared.Answer.{Answer}
 use Rattle.grammar.specs.declared.Answer.TheVariants.{Going, Done, Refused}

@@ -1,6 +1,5 @@
 -- `rules::rule_head`.
 use native.Mathlib.Omega.{arith}
-use borrow.Author.Rules.{rules}
 use Rattle.grammar.proofs.Steps.{passed_here, refused_put}
 use Rattle.settings.proofs.Laws.{name_passed, name_none}
 use Rattle.rules.proofs.Laws.{head_named, head_none, named_moves}

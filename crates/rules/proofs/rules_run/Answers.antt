@@ -1,5 +1,4 @@
 -- `rules::rules_run`: the loop's turns are those of its definition.
-use Prim.Native.Nat.{◌-◌}
 use mathlib.Core.Path.{refl, sym, ◌∙◌}
 use native.Mathlib.Omega.{arith}
 use Rattle.scan.proofs.Loop.{left_start, left_more, left_stop}

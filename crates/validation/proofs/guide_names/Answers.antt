@@ -1,6 +1,5 @@
 -- `validation::guide_names`: what led to the rows of one table still does where those of another are entered too.
 use mathlib.Core.Path.{sym}
-use borrow.Author.Rules.{rules}
 use Rattle.tables.specs.Layout.{tokens, implicit, rules, width}
 use Rattle.finder.proofs.Laws.{grown_on, led_since, led_all}
 use Rattle.validation.proofs.guide_names.Goals as goal

@@ -14,9 +14,9 @@ shape_of-t14-in-NextRow c = walked_length _ _ _ _ _ c.note_symbols.ensures ∙ w
 
 pub returns-in-NextRow : goal.returns-in-NextRow
 returns-in-NextRow c =
-    part_on _ _ _ ((let it : failing c.prec_fault-v.result ++ symbols_faults c.args.t9.now c.load_production-p.result.first c.load_production-p.result.last ≡ production_faults c.args.src.now c.args.t1.now c.args.tokens c.args.t2.now c.args.precedences c.args.t7.now c.args.rules c.args.t8.now c.args.t9.now c.args.r = let n : c.args.tokens ≤ 4294967295 = let f = c.«fits».tokens in
+    part_on _ _ _ ((let it : failing c.prec_fault-v.result ++ symbols_faults c.args.t9.now c.load_production-p.result.first c.load_production-p.result.last ≡ production_faults c.args.src.now c.args.t1.now c.args.tokens c.args.t2.now c.args.precedences c.args.t7.now c.args.rules c.args.t8.now c.args.t9.now c.args.r = let n : c.args.tokens ≤ 4294967295 = let f = c.ranges.tokens in
     omega arith in
-    let l : c.args.rules ≤ 4294967295 = let f = c.«fits».rules in
+    let l : c.args.rules ≤ 4294967295 = let f = c.ranges.rules in
     omega arith in
     production_is _ _ _ _ _ _ _ _ _ _ c.requires.0 n l _ _ c.load_production-p.ensures c.prec_fault-v.ensures in it)) _ _ _ _ c.note.ensures _ c.in-NextRow.is _ _ c.note_symbols.ensures
 
@@ -25,8 +25,8 @@ shape_of-t14-in-Unwritten c = walked_length _ _ _ _ _ c.note.ensures
 
 pub returns-in-Unwritten : goal.returns-in-Unwritten
 returns-in-Unwritten c =
-    part_over _ _ _ ((let it : failing c.prec_fault-v.result ++ symbols_faults c.args.t9.now c.load_production-p.result.first c.load_production-p.result.last ≡ production_faults c.args.src.now c.args.t1.now c.args.tokens c.args.t2.now c.args.precedences c.args.t7.now c.args.rules c.args.t8.now c.args.t9.now c.args.r = let n : c.args.tokens ≤ 4294967295 = let f = c.«fits».tokens in
+    part_over _ _ _ ((let it : failing c.prec_fault-v.result ++ symbols_faults c.args.t9.now c.load_production-p.result.first c.load_production-p.result.last ≡ production_faults c.args.src.now c.args.t1.now c.args.tokens c.args.t2.now c.args.precedences c.args.t7.now c.args.rules c.args.t8.now c.args.t9.now c.args.r = let n : c.args.tokens ≤ 4294967295 = let f = c.ranges.tokens in
     omega arith in
-    let l : c.args.rules ≤ 4294967295 = let f = c.«fits».rules in
+    let l : c.args.rules ≤ 4294967295 = let f = c.ranges.rules in
     omega arith in
     production_is _ _ _ _ _ _ _ _ _ _ c.requires.0 n l _ _ c.load_production-p.ensures c.prec_fault-v.ensures in it)) _ _ _ _ c.note.ensures _ c.in-Unwritten.is

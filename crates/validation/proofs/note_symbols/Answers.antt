@@ -1,5 +1,4 @@
 -- `validation::note_symbols`: the faults of the symbols so far are noted.
-use Prim.Native.Nat.{◌-◌}
 use mathlib.Core.Path.{◌∙◌}
 use native.Mathlib.Omega.{arith}
 use Rattle.validation.specs.Walk.{symbol_faults, symbols_faults}

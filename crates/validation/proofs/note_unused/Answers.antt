@@ -1,5 +1,4 @@
 -- `validation::note_unused`: the faults of the rows so far are noted.
-use Prim.Native.Nat.{◌-◌}
 use mathlib.Core.Path.{◌∙◌}
 use native.Mathlib.Omega.{arith}
 use Rattle.validation.specs.Faults.{kind_faults, kinds_faults}
