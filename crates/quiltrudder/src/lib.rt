@@ -565,8 +565,7 @@ fn name_cells(
 }
 
 // Reads a source of kind 1, 2, 3 or 4 into the lent tables and, where that is accepted, validates what was read.
-#[unsafe(no_mangle)]
-pub extern "C" fn quiltrudder_load(
+pub fn quiltrudder_load(
     src: &[u8],
     kind: u32,
     t1: &mut [u32],
@@ -600,8 +599,7 @@ pub extern "C" fn quiltrudder_load(
 }
 
 // Whether a reading is valid, or the first that it lacks. `reading` is the array that `quiltrudder_load` wrote.
-#[unsafe(no_mangle)]
-pub extern "C" fn quiltrudder_validate(
+pub fn quiltrudder_validate(
     src: &[u8],
     reading: &[u32; 43],
     t1: &[u32],
@@ -630,8 +628,7 @@ pub extern "C" fn quiltrudder_validate(
 }
 
 // Every fault that a reading has, as rows of `t14`.
-#[unsafe(no_mangle)]
-pub extern "C" fn quiltrudder_faults(
+pub fn quiltrudder_faults(
     src: &[u8],
     reading: &[u32; 43],
     t1: &[u32],
@@ -662,8 +659,7 @@ pub extern "C" fn quiltrudder_faults(
 }
 
 // The unused rules and tokens of a valid reading, into `out`.
-#[unsafe(no_mangle)]
-pub extern "C" fn quiltrudder_report(
+pub fn quiltrudder_report(
     src: &[u8],
     reading: &[u32; 43],
     t1: &[u32],
@@ -695,8 +691,7 @@ pub extern "C" fn quiltrudder_report(
 }
 
 // The report's work bits of a valid reading, without the list.
-#[unsafe(no_mangle)]
-pub extern "C" fn quiltrudder_mark(
+pub fn quiltrudder_mark(
     src: &[u8],
     reading: &[u32; 43],
     t1: &[u32],
@@ -728,8 +723,7 @@ pub extern "C" fn quiltrudder_mark(
 }
 
 // The next unused row by the bits; the record's two numbers, rule rows and token rows passed, are moved on in place.
-#[unsafe(no_mangle)]
-pub extern "C" fn quiltrudder_next_unused(
+pub fn quiltrudder_next_unused(
     src: &[u8],
     reading: &[u32; 43],
     t1: &[u32],
@@ -791,8 +785,7 @@ fn reading_after(m: &[u32; 43], p: Pruning, d: Counts) -> [u32; 43]
 }
 
 // Drops what nothing keeps; the reading's counts are rewritten.
-#[unsafe(no_mangle)]
-pub extern "C" fn quiltrudder_prune(
+pub fn quiltrudder_prune(
     src: &[u8],
     reading: &mut [u32; 43],
     t1: &mut [u32],
@@ -826,8 +819,7 @@ pub extern "C" fn quiltrudder_prune(
 }
 
 // The place of the name of a row of table 1 or 7, with its line and column.
-#[unsafe(no_mangle)]
-pub extern "C" fn quiltrudder_name(
+pub fn quiltrudder_name(
     src: &[u8],
     reading: &[u32; 43],
     t1: &[u32],
@@ -856,8 +848,7 @@ pub extern "C" fn quiltrudder_name(
 }
 
 // The value of a row of table 5 without its quotes and escapes, into `out`.
-#[unsafe(no_mangle)]
-pub extern "C" fn quiltrudder_epp_value(
+pub fn quiltrudder_epp_value(
     src: &[u8],
     reading: &[u32; 43],
     t1: &[u32],
@@ -889,8 +880,7 @@ pub extern "C" fn quiltrudder_epp_value(
 }
 
 // Line and column of a place in a source.
-#[unsafe(no_mangle)]
-pub extern "C" fn quiltrudder_locate(src: &[u8], at: u32, answer: &mut [u32; 2])
+pub fn quiltrudder_locate(src: &[u8], at: u32, answer: &mut [u32; 2])
     ensures { answer.new ≡ spot_cells (spot_at src.now at) }
 {
     let s = locate(src, at);
@@ -898,8 +888,7 @@ pub extern "C" fn quiltrudder_locate(src: &[u8], at: u32, answer: &mut [u32; 2])
 }
 
 // Writes a reading into blocks; its answer is number, place, table, how many blocks there are (low and high half), line and column.
-#[unsafe(no_mangle)]
-pub extern "C" fn quiltrudder_store(
+pub fn quiltrudder_store(
     src: &[u8],
     kind: u32,
     reading: &[u32; 43],
@@ -982,8 +971,7 @@ fn shipping_cells(r: ShippingAt) -> [u32; 45]
 }
 
 // Reads a reading back from blocks.
-#[unsafe(no_mangle)]
-pub extern "C" fn quiltrudder_load_stored(
+pub fn quiltrudder_load_stored(
     blocks: &[u8],
     src: &mut [u8],
     t1: &mut [u32],
@@ -1012,8 +1000,7 @@ pub extern "C" fn quiltrudder_load_stored(
 }
 
 // Reads a source of kind 1, 2 or 3 and writes its shipping form into `out`.
-#[unsafe(no_mangle)]
-pub extern "C" fn quiltrudder_ship(
+pub fn quiltrudder_ship(
     src: &[u8],
     kind: u32,
     t1: &mut [u32],

@@ -1,5 +1,5 @@
 -- Document 01, "Validation, then use": which rows a chain of productions reaches. Nothing here speaks of a search.
-use Rattle.std.specs.Prelude.{ℕ, ◌+◌, ◌*◌, ◌/◌, ◌<◌, ◌≤◌, ◌^◌, ◌≡◌, Bool, true, false, List, ◌⊎◌, length, get_or, replicate}
+use Rattle.std.specs.Prelude.{ℕ, ◌+◌, ◌*◌, ◌/◌, ◌<◌, ◌≤◌, ◌^◌, ◌≡◌, Bool, true, false, List, ◌⊎◌, length, get_or}
 use Rattle.tables.specs.Table.{cell, has_name, zeroed}
 use Rattle.tables.specs.Layout.{tokens, rules, productions, symbols, rule_row, symbols_from, symbols_to, prec, kind_name, known_row, width}
 use Rattle.grammar.specs.declared.Counts.{Counts}

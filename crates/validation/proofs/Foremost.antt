@@ -19,7 +19,7 @@ use Rattle.validation.specs.declared.Flaw.{Flaw}
 use Rattle.validation.specs.declared.Test.{Test}
 use Rattle.validation.specs.declared.Test.TheVariants.{Met, Failed}
 use Rattle.validation.specs.declared.Validity.{Validity}
-use Rattle.validation.specs.declared.Validity.TheVariants.{Valid, Invalid}
+use Rattle.validation.specs.declared.Validity.TheVariants.{Invalid}
 use Rattle.validation.proofs.Laws.{first_none, faults_are}
 
 append_none : (xs : List Flaw) → xs ++ [] ≡ xs

@@ -1,9 +1,9 @@
 -- The place of every fault of sound tables lies in the source. Assumes nothing.
 use Prim.Native.Nat.{ℕ, zero, suc, ◌+◌, ◌-◌, ◌≤◌, ◌<◌}
-use mathlib.Core.Path.{◌≡◌, refl, sym, ◌∙◌}
+use mathlib.Core.Path.{◌≡◌, refl}
 use mathlib.Core.List.{List, [], ◌∷◌, ◌++◌}
 use mathlib.Core.Bool.{Bool, true, false, ◌||◌}
-use mathlib.Core.Logic.{inl, inr, ⊎_elim}
+use mathlib.Core.Logic.{⊎_elim}
 use native.Mathlib.Omega.{arith}
 use borrow.Author.Tests.{eqb-true}
 use lib.Dec.{eqb}
@@ -22,7 +22,7 @@ use Rattle.grammar.specs.Sound.{Tables, Indexes, Given, Lies, Sound}
 use Rattle.productions.specs.declared.Prec.{Prec}
 use Rattle.productions.specs.declared.Prec.TheVariants.{NoPrec, PrecAt}
 use Rattle.productions.specs.Cells.{cell_of, prec_of, production_at}
-use Rattle.sound.specs.Test.{count_at, sound_test}
+use Rattle.sound.specs.Test.{count_at}
 use Rattle.sound.proofs.Iff.{sound_iff}
 use Rattle.validation.specs.Faults.{flaw_numbers, upto, unless, known, start_faults, prec_given, prec_faults, name_faults, kind_faults, kinds_faults, production_faults, of_rule, rule_faults, rules_faults, epp_faults, epps_faults, faults, validity}
 use Rattle.validation.specs.Places.{FaultInside, FaultsInside}

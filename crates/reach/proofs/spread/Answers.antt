@@ -1,7 +1,5 @@
 -- `reach::spread`: a round along chains, then passes, each with fewer bits left, until one marks nothing.
-use Prim.Native.Nat.{◌-◌}
 use mathlib.Core.Path.{refl, sym, ◌∙◌}
-use mathlib.Core.Logic.{⊎_elim}
 use native.Mathlib.Omega.{arith}
 use Rattle.bits.proofs.Bits.{bit_zeros}
 use Rattle.reach.specs.Reach.{named, net, rule_sort, Rushed}
