@@ -7,7 +7,6 @@ use Rattle.tables.specs.Layout.{tokens, rules, width}
 use Rattle.index.specs.Index.{size_test}
 use Rattle.grammar.specs.declared.State.{State}
 use Rattle.grammar.specs.declared.Cause.TheVariants.{NotUtf8, PrematureEnd}
-use Rattle.grammar.specs.declared.Refusal.{Refusal}
 use Rattle.grammar.specs.declared.Refusal.TheVariants.{Fault, TooLong, BadKind, BadIndex}
 use Rattle.grammar.specs.declared.Answer.{Answer}
 use Rattle.grammar.specs.declared.Answer.TheVariants.{Going, Done, Refused}

@@ -1,5 +1,4 @@
 -- `catalogue::cells_before`: the cells of the first `i` tables.
-use Prim.Native.Nat.{◌-◌}
 use mathlib.Core.Path.{◌≡◌}
 use native.Mathlib.Omega.{arith}
 use Rattle.catalogue.proofs.Laws.{before_none, before_more}
