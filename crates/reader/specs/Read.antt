@@ -1,5 +1,5 @@
 -- Document 01, "Numbers given back": what a read comes to, and what it leaves of the tables.
-use Rattle.std.specs.Prelude.{ℕ, ◌+◌, List, [], ◌∷◌, Bool, true, false, eqb, length, get_or}
+use Rattle.std.specs.Prelude.{ℕ, ◌+◌, List, [], ◌∷◌, true, false, eqb, length, get_or}
 use Rattle.tables.specs.Table.{zeroed, cell}
 use Rattle.tables.specs.Layout.{tokens, rules, symbols, repeats, first_place, width}
 use Rattle.index.specs.Index.{entries}
