@@ -1,5 +1,4 @@
 -- `validator::fault_led`: the foremost fault so far is known, with its rule.
-use Prim.Native.Nat.{◌-◌}
 use native.Mathlib.Omega.{arith}
 use Rattle.tables.specs.Layout.{rule_row}
 use Rattle.productions.specs.Cells.{cell_of}

@@ -1,6 +1,5 @@
 -- `validator::find_fault`: a finder without slots leads every name to the search.
 use mathlib.Core.Path.{refl}
-use borrow.Author.Rules.{rules}
 use Rattle.tables.specs.Layout.{tokens, precedences, implicit, rules, width}
 use Rattle.finder.proofs.Laws.{led_empty}
 use Rattle.validator.proofs.find_fault.Goals as goal

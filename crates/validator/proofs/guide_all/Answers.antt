@@ -1,6 +1,5 @@
 -- `validator::guide_all`: what led to the rows of one table still does where those of another are entered too.
 use mathlib.Core.Path.{sym}
-use borrow.Author.Rules.{rules}
 use Rattle.tables.specs.Layout.{tokens, precedences, implicit, rules, width}
 use Rattle.finder.proofs.Laws.{grown_on, led_since, led_all}
 use Rattle.validator.proofs.guide_all.Goals as goal

@@ -1,6 +1,5 @@
 -- `validator::note_epps_unused`: a finder without slots leads every name to the search.
 use mathlib.Core.Path.{refl}
-use borrow.Author.Rules.{rules}
 use Rattle.tables.specs.Layout.{tokens, implicit, rules, width}
 use Rattle.finder.proofs.Laws.{led_empty}
 use Rattle.validator.proofs.note_epps_unused.Goals as goal

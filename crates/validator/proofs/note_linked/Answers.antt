@@ -1,5 +1,4 @@
 -- `validator::note_linked`: the faults of the rules so far are noted.
-use Prim.Native.Nat.{◌-◌}
 use mathlib.Core.Path.{refl, ◌∙◌}
 use native.Mathlib.Omega.{arith}
 use Rattle.validation.specs.Faults.{rules_faults}

@@ -1,5 +1,4 @@
 -- `validator::note_rule`: the faults of the rule's productions so far are noted, and the next row is the rule's.
-use Prim.Native.Nat.{◌-◌}
 use mathlib.Core.Path.{◌∙◌}
 use native.Mathlib.Omega.{arith}
 use Rattle.links.proofs.Laws.{next_less}
