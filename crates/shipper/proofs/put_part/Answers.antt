@@ -1,5 +1,4 @@
 -- `shipper::put_part`: what is still to be written behind what is there gives the whole.
-use Prim.Native.Nat.{◌-◌}
 use mathlib.Core.Path.{refl}
 use borrow.Author.Rules.{rules}
 use Rattle.shipper.proofs.Laws.{part_on, part_end}

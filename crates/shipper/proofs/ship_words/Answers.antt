@@ -1,5 +1,4 @@
 -- `shipper::ship_words`: the loop's turns are those of its definition.
-use Prim.Native.Nat.{◌-◌}
 use mathlib.Core.Path.{refl, ◌∙◌}
 use native.Mathlib.Omega.{arith}
 use Rattle.shipper.specs.Ship.{ship_words, spaced}

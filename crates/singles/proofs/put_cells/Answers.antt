@@ -24,8 +24,7 @@ overflow_add-k c = omega (arith, (let it : c.loop-i.k < length c.loop-i.out = lt
 
 pub loop-i-preserved : goal.loop-i-preserved
 loop-i-preserved c =
-    let a = c.args in
-    (
+    let a = c.args in (
       omega arith,
       omega arith,
       simp length-set c.loop-i.invariant.2,

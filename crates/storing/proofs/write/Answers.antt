@@ -9,24 +9,22 @@ use Rattle.storing.proofs.Laws.{room_all, content_put}
 use Rattle.storing.proofs.write.Goals as goal
 
 pub put_numbers-requires : goal.put_numbers-requires
-put_numbers-requires c =
-    (
-      omega arith,
-      omega (arith, (room_all c.args.h.counts c.args.h.posix c.args.h.length c.args.n c.args.out.now c.requires.2 c.requires.3)),
-      omega arith,
-      omega (arith, ap length c.head_cells-head.ensures, head_length c.args.h),
-    )
+put_numbers-requires c = (
+  omega arith,
+  omega (arith, (room_all c.args.h.counts c.args.h.posix c.args.h.length c.args.n c.args.out.now c.requires.2 c.requires.3)),
+  omega arith,
+  omega (arith, ap length c.head_cells-head.ensures, head_length c.args.h),
+)
 
 pub put_tables-requires : goal.put_tables-requires
 put_tables-requires c =
     (c.requires.1, omega (arith, (room_all c.args.h.counts c.args.h.posix c.args.h.length c.args.n c.args.out.now c.requires.2 c.requires.3), c.put_numbers.auto.out))
 
 pub put_bytes-requires : goal.put_bytes-requires
-put_bytes-requires c =
-    (
-      omega (arith, (room_all c.args.h.counts c.args.h.posix c.args.h.length c.args.n c.args.out.now c.requires.2 c.requires.3), c.rows_from.ensures.value, c.requires.0, c.put_tables.auto.out, c.put_numbers.auto.out),
-      omega (arith, c.rows_from.ensures.upper_bound, c.requires.0, c.well_formed),
-    )
+put_bytes-requires c = (
+  omega (arith, (room_all c.args.h.counts c.args.h.posix c.args.h.length c.args.n c.args.out.now c.requires.2 c.requires.3), c.rows_from.ensures.value, c.requires.0, c.put_tables.auto.out, c.put_numbers.auto.out),
+  omega (arith, c.rows_from.ensures.upper_bound, c.requires.0, c.well_formed),
+)
 
 pub seal_all-requires : goal.seal_all-requires
 seal_all-requires c = omega (arith, c.requires.3, c.put_bytes.auto.out, c.put_tables.auto.out, c.put_numbers.auto.out)

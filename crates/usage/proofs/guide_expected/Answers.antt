@@ -1,5 +1,4 @@
 -- `usage::guide_expected`: the rows passed so far are led to.
-use Prim.Native.Nat.{◌-◌}
 use mathlib.Core.Path.{◌≡◌}
 use native.Mathlib.Omega.{arith}
 use Rattle.finder.proofs.Laws.{grown_none, grown_on}

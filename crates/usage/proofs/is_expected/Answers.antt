@@ -1,5 +1,4 @@
 -- `usage::is_expected`: none of the rows passed so far has the kind and the name.
-use Prim.Native.Nat.{◌-◌}
 use native.Mathlib.Omega.{arith}
 use borrow.Author.Count.{below_more}
 use Rattle.usage.proofs.Picked.{says_yes, says_no}

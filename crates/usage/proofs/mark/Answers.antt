@@ -1,6 +1,5 @@
 -- `usage::mark`: validation first, and then the marking of a valid reading.
 use mathlib.Core.Path.{sym, ◌∙◌}
-use borrow.Author.Rules.{rules}
 use Rattle.usage.specs.declared.Marking.TheVariants.{AllMarked, MarksNoWords}
 use Rattle.usage.proofs.Outcome.{fair_valid, names_valid, marked_valid, marked_unsound, marked_flaw}
 use Rattle.usage.proofs.mark.Goals as goal
