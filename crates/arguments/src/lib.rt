@@ -1,6 +1,8 @@
 // What the programs do with their arguments: words, kinds of grammar by name, and files, of which `-` is standard input.
 #![tactic(auto)]
 
+ghost use Rattle.std.specs.Prelude.{◌≤◌, IfOk, length};
+
 use std::env::{Env, FillError};
 use std::fs::File;
 use std::io;
@@ -56,7 +58,9 @@ pub fn count(rt: &impl Env) -> usize {
 }
 
 // Puts argument `i` at the start of `word`, and returns its length.
-pub fn take(rt: &impl Env, i: usize, word: &mut [u8]) -> io::Result<usize> {
+pub fn take(rt: &impl Env, i: usize, word: &mut [u8]) -> io::Result<usize>
+    ensures { IfOk result (λ n. n ≤ length word.new) }
+{
     match rt.arg(i, word) {
         Ok(n) => Ok(n),
         Err(FillError::TooLong) => Err(io::Error::from_raw_os_error(ENAMETOOLONG)),
