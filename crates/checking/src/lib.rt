@@ -9,6 +9,9 @@ use grammar::{Counts, Singles, Told};
 use loading::Judgement;
 use places::Spot;
 use scan::{Class, Place};
+use std::fs::OpenOptions;
+use std::io;
+use std::io::Write;
 
 // Rooms for any source of up to 65,536 bytes, in less than 8 MB together: 20,480 rows of tables 1 to 4, 7,680 of table 5, 32,768 of tables 6, 9 and 10, 13,952 of table 7, 65,536 of table 8
 // and 32,770 of table 14. Names in each of tables 1 to 4, in table 5 and in table 7 are pairwise different, so a source has fewer than 19,740, 7,670 and 13,830 of them (the densest tokens
@@ -119,12 +122,12 @@ pub struct Asked {
 
 // ---- Output. ----
 
-fn say(words: &[u8]) {
-    io::write_all(1, words);
+fn say(to: &impl Print, words: &[u8]) {
+    let _ = to.write_all(words);
 }
 
-fn say_number(n: u32) {
-    io::print_decimal(1, n as u64);
+fn say_number(rt: &impl Print, n: u32) {
+    let _ = rt.print(n);
 }
 
 // Whether a byte can't stand in a text as it is: a control, and in JSON a quote or a backslash.
@@ -132,169 +135,211 @@ fn is_special(c: u8, is_json: bool) -> bool {
     (c < 32) | (is_json & ((c == b'"') | (c == b'\\')))
 }
 
-fn say_escaped(c: u8) {
+fn say_escaped(rt: &impl Print, c: u8) {
     if c < 32 {
-        say(b"\\u");
-        io::print_hex(1, c as u64, 4);
+        say(rt, b"\\u");
+        let _ = print!(rt; "{c:04x}");
     } else {
-        say(b"\\");
-        say(&[c]);
+        say(rt, b"\\");
+        say(rt, &[c]);
     }
 }
 
 // A part of the source or of the arguments.
-fn say_text(text: &[u8], is_json: bool) {
+fn say_text(rt: &impl Print, text: &[u8], is_json: bool) {
     let mut from = 0;
     let mut k = 0;
     while k < text.len() {
         let c = text[k];
         if is_special(c, is_json) {
-            say(names::part(text, from, k));
-            say_escaped(c);
+            say(rt, names::part(text, from, k));
+            say_escaped(rt, c);
             from = k + 1;
         }
         k += 1;
     }
-    say(names::part(text, from, k));
+    say(rt, names::part(text, from, k));
 }
 
 // ---- Messages: README's table. ----
 
 // Words around a name.
-fn say_named(before: &[u8], name: &[u8], behind: &[u8], is_json: bool) {
-    say(before);
-    say(b"`");
-    say_text(name, is_json);
-    say(b"`");
-    say(behind);
+fn say_named(rt: &impl Print, before: &[u8], name: &[u8], behind: &[u8], is_json: bool) {
+    say(rt, before);
+    say(rt, b"`");
+    say_text(rt, name, is_json);
+    say(rt, b"`");
+    say(rt, behind);
 }
 
 // What stands at the place tells what is likely to be meant.
-fn say_no_token(src: &[u8], at: usize) {
+fn say_no_token(rt: &impl Print, src: &[u8], at: usize) {
     if scan::is_at(src, at, b':') {
         say(
+            rt,
             b"a token is wanted here, not a colon: if a rule begins here, the `;` of the one before it is missing, or the %% before the first",
         );
     } else if scan::is_at(src, at, b'\'') || scan::is_at(src, at, b'"') {
-        say(b"the text in quotes that begins here is empty or does not close on its line");
+        say(
+            rt,
+            b"the text in quotes that begins here is empty or does not close on its line",
+        );
     } else {
-        say(b"a token is wanted here: a letter or `_`, then those or digits, or a text in quotes");
+        say(
+            rt,
+            b"a token is wanted here: a letter or `_`, then those or digits, or a text in quotes",
+        );
     }
 }
 
 // What begins with no `%` is no declaration; often the `%%` before it is missing.
-fn say_unknown(src: &[u8], at: usize) {
+fn say_unknown(rt: &impl Print, src: &[u8], at: usize) {
     if scan::is_at(src, at, b'%') {
-        say(b"this declaration is not known, in this kind of grammar at least");
+        say(
+            rt,
+            b"this declaration is not known, in this kind of grammar at least",
+        );
     } else {
-        say(b"a declaration or %% is wanted here");
+        say(rt, b"a declaration or %% is wanted here");
     }
 }
 
-fn say_refusal(code: u32, src: &[u8], at: usize) {
+fn say_refusal(rt: &impl Print, code: u32, src: &[u8], at: usize) {
     match code {
-        1 => say(b"a whole number that fits 64 bits is wanted here"),
-        2 => say(b"a name is wanted here: a letter, `_` or `.`, then those or digits"),
-        3 => say_no_token(src, at),
-        4 => say(b"the last rule is not finished when the file ends: a rule ends with `;`"),
-        5 => say(b"the comment that begins here does not end"),
-        6 => say(b"the action that begins here has a brace that does not close"),
-        7 => say(b"a colon is wanted behind the rule's name"),
-        8 => say(b"`->` and the rule's type are wanted behind its name"),
-        9 => say(b"%empty stands in a production that is not empty"),
-        10 => say(b"the file ends where %% or a declaration is wanted"),
-        11 => say(b"behind an action only `|` or `;` may stand"),
-        12 => say_unknown(src, at),
+        1 => say(rt, b"a whole number that fits 64 bits is wanted here"),
+        2 => say(
+            rt,
+            b"a name is wanted here: a letter, `_` or `.`, then those or digits",
+        ),
+        3 => say_no_token(rt, src, at),
+        4 => say(
+            rt,
+            b"the last rule is not finished when the file ends: a rule ends with `;`",
+        ),
+        5 => say(rt, b"the comment that begins here does not end"),
+        6 => say(
+            rt,
+            b"the action that begins here has a brace that does not close",
+        ),
+        7 => say(rt, b"a colon is wanted behind the rule's name"),
+        8 => say(rt, b"`->` and the rule's type are wanted behind its name"),
+        9 => say(rt, b"%empty stands in a production that is not empty"),
+        10 => say(rt, b"the file ends where %% or a declaration is wanted"),
+        11 => say(rt, b"behind an action only `|` or `;` may stand"),
+        12 => say_unknown(rt, src, at),
         13 => say(
+            rt,
             b"the line ends too early here: what the declaration takes has to stand on its line",
         ),
-        14 => say(b"a string in quotes is wanted here"),
-        15 => say(b"a rule's name or a quoted token is wanted here"),
-        16 => say(b"a single colon is wanted, and the file ends without one; `::` is none"),
-        17 => say(b"the string has a line end here: it has to close on its line"),
-        18 => say(b"this backslash is wrong: in a string it may stand before a quote alone"),
-        _ => say(b"the string does not close before the file ends"),
+        14 => say(rt, b"a string in quotes is wanted here"),
+        15 => say(rt, b"a rule's name or a quoted token is wanted here"),
+        16 => say(
+            rt,
+            b"a single colon is wanted, and the file ends without one; `::` is none",
+        ),
+        17 => say(
+            rt,
+            b"the string has a line end here: it has to close on its line",
+        ),
+        18 => say(
+            rt,
+            b"this backslash is wrong: in a string it may stand before a quote alone",
+        ),
+        _ => say(rt, b"the string does not close before the file ends"),
     }
 }
 
-fn say_repeat(code: u32, name: &[u8], is_json: bool) {
+fn say_repeat(rt: &impl Print, code: u32, name: &[u8], is_json: bool) {
     match code {
-        20 => say_named(b"", name, b" was given a precedence before", is_json),
-        21 => say_named(b"", name, b" stands in %avoid_insert before", is_json),
-        22 => say_named(b"", name, b" stands in %implicit_tokens before", is_json),
-        23 => say(b"%expect was given before"),
-        24 => say(b"%expect-rr was given before"),
-        25 => say(b"%start was given before"),
-        26 => say(b"%actiontype was given before"),
-        _ => say_named(b"the key ", name, b" of %epp was given before", is_json),
+        20 => say_named(rt, b"", name, b" was given a precedence before", is_json),
+        21 => say_named(rt, b"", name, b" stands in %avoid_insert before", is_json),
+        22 => say_named(
+            rt,
+            b"",
+            name,
+            b" stands in %implicit_tokens before",
+            is_json,
+        ),
+        23 => say(rt, b"%expect was given before"),
+        24 => say(rt, b"%expect-rr was given before"),
+        25 => say(rt, b"%start was given before"),
+        26 => say(rt, b"%actiontype was given before"),
+        _ => say_named(rt, b"the key ", name, b" of %epp was given before", is_json),
     }
 }
 
-fn say_fault(code: u32, name: &[u8], is_json: bool) {
+fn say_fault(rt: &impl Print, code: u32, name: &[u8], is_json: bool) {
     match code {
-        30 => say(b"there is no start rule: no rule is given"),
-        31 => say_named(b"the start rule ", name, b" does not exist", is_json),
+        30 => say(rt, b"there is no start rule: no rule is given"),
+        31 => say_named(rt, b"the start rule ", name, b" does not exist", is_json),
         32 => say_named(
+            rt,
             b"no rule is named ",
             name,
             b"; a token has to be declared by %token",
             is_json,
         ),
-        33 => say_named(b"no token is named ", name, b"", is_json),
+        33 => say_named(rt, b"no token is named ", name, b"", is_json),
         34 => say_named(
+            rt,
             b"the token ",
             name,
             b" has no precedence; %left, %right or %nonassoc gives one",
             is_json,
         ),
-        _ => say_named(b"the key ", name, b" of %epp is no token", is_json),
+        _ => say_named(rt, b"the key ", name, b" of %epp is no token", is_json),
     }
 }
 
 // What kind 4 refuses besides.
-fn say_marked(code: u32) {
+fn say_marked(rt: &impl Print, code: u32) {
     match code {
         50 => say(
+            rt,
             b"a tag is wanted here, or the one that begins here does not close on its line: `<`, a text, `>`",
         ),
-        51 => say(b"the text that begins with this %{ does not end: %} is missing"),
+        51 => say(
+            rt,
+            b"the text that begins with this %{ does not end: %} is missing",
+        ),
         _ => say(
+            rt,
             b"this %union has no body in braces behind it on its line, or one that does not close",
         ),
     }
 }
 
-fn say_other(code: u32, name: &[u8], is_json: bool) {
+fn say_other(rt: &impl Print, code: u32, name: &[u8], is_json: bool) {
     match code {
-        40 => say(b"the file is not UTF-8 from this byte on"),
-        41 => say(b"the file has more than 65,536 bytes"),
-        42 => say(b"a table is full"),
-        43 => say(b"there is no such kind of grammar"),
-        44 => say(b"the tables are no reading of this source"),
-        45 => say(b"an index has a wrong size"),
-        100 => say_named(b"nothing uses the rule ", name, b"", is_json),
-        101 => say_named(b"nothing uses the token ", name, b"", is_json),
-        _ => say(b"first given here"),
+        40 => say(rt, b"the file is not UTF-8 from this byte on"),
+        41 => say(rt, b"the file has more than 65,536 bytes"),
+        42 => say(rt, b"a table is full"),
+        43 => say(rt, b"there is no such kind of grammar"),
+        44 => say(rt, b"the tables are no reading of this source"),
+        45 => say(rt, b"an index has a wrong size"),
+        100 => say_named(rt, b"nothing uses the rule ", name, b"", is_json),
+        101 => say_named(rt, b"nothing uses the token ", name, b"", is_json),
+        _ => say(rt, b"first given here"),
     }
 }
 
 // The words of a message need no escapes in JSON; the name in it may.
-fn say_message(code: u32, src: &[u8], from: usize, to: usize, is_json: bool) {
+fn say_message(rt: &impl Print, code: u32, src: &[u8], from: usize, to: usize, is_json: bool) {
     let name = names::part(src, from, to);
     match code {
-        1..=19 => say_refusal(code, src, from),
-        20..=29 => say_repeat(code, name, is_json),
-        30..=39 => say_fault(code, name, is_json),
-        50..=52 => say_marked(code),
-        _ => say_other(code, name, is_json),
+        1..=19 => say_refusal(rt, code, src, from),
+        20..=29 => say_repeat(rt, code, name, is_json),
+        30..=39 => say_fault(rt, code, name, is_json),
+        50..=52 => say_marked(rt, code),
+        _ => say_other(rt, code, name, is_json),
     }
 }
 
-fn say_severity(code: u32) {
+fn say_severity(rt: &impl Print, code: u32) {
     match code {
-        100 | 101 => say(b"warning"),
-        102 => say(b"note"),
-        _ => say(b"error"),
+        100 | 101 => say(rt, b"warning"),
+        102 => say(rt, b"note"),
+        _ => say(rt, b"error"),
     }
 }
 
@@ -480,134 +525,135 @@ fn put_dots(o: &mut Marks, is_cut: bool) -> usize {
 }
 
 // The first `n` marks.
-fn say_first(o: &Marks, n: usize) {
-    say(names::part(o, 0, n));
+fn say_first(rt: &impl Print, o: &Marks, n: usize) {
+    say(rt, names::part(o, 0, n));
 }
 
-fn say_marks(s: &[u8], v: View) {
+fn say_marks(rt: &impl Print, s: &[u8], v: View) {
     let mut o = [0u8; 256];
     let a = put_dots(&mut o, v.is_cut_before);
     let b = put_blanks(&mut o, a, s, v.from, v.at);
     let c = put_carets(&mut o, b, s, v.at, v.past);
-    say(b"      | ");
-    say_first(&o, c);
-    say(b"\n");
+    say(rt, b"      | ");
+    say_first(rt, &o, c);
+    say(rt, b"\n");
 }
 
-fn say_dots(is_cut: bool) {
+fn say_dots(rt: &impl Print, is_cut: bool) {
     if is_cut {
-        say(b"...");
+        say(rt, b"...");
     }
 }
 
 // A number in five columns.
-fn say_aligned(n: u32) {
+fn say_aligned(rt: &impl Print, n: u32) {
     if n < 10 {
-        say(b"    ");
+        say(rt, b"    ");
     } else if n < 100 {
-        say(b"   ");
+        say(rt, b"   ");
     } else if n < 1000 {
-        say(b"  ");
+        say(rt, b"  ");
     } else if n < 10000 {
-        say(b" ");
+        say(rt, b" ");
     }
-    say_number(n);
+    say_number(rt, n);
 }
 
 // The line of a place and the marks under it.
-fn say_line(s: &[u8], line: u32, from: u32, to: u32) {
+fn say_line(rt: &impl Print, s: &[u8], line: u32, from: u32, to: u32) {
     let v = view_of(s, from, to);
-    say_aligned(line);
-    say(b" | ");
-    say_dots(v.is_cut_before);
-    say(names::part(s, v.from, v.to));
-    say_dots(v.is_cut_behind);
-    say(b"\n");
-    say_marks(s, v);
+    say_aligned(rt, line);
+    say(rt, b" | ");
+    say_dots(rt, v.is_cut_before);
+    say(rt, names::part(s, v.from, v.to));
+    say_dots(rt, v.is_cut_behind);
+    say(rt, b"\n");
+    say_marks(rt, s, v);
 }
 
 // ---- What is found. ----
 
-fn say_spot(file: &[u8], p: Spot) {
-    say(file);
-    say(b":");
-    say_number(p.line);
-    say(b":");
-    say_number(p.column);
-    say(b": ");
+fn say_spot(rt: &impl Print, file: &[u8], p: Spot) {
+    say(rt, file);
+    say(rt, b":");
+    say_number(rt, p.line);
+    say(rt, b":");
+    say_number(rt, p.column);
+    say(rt, b": ");
 }
 
-fn say_plain(file: &[u8], src: &[u8], f: Finding, p: Spot) {
+fn say_plain(rt: &impl Print, file: &[u8], src: &[u8], f: Finding, p: Spot) {
     let from = f.from as usize;
     let to = f.to as usize;
-    say_spot(file, p);
-    say_severity(f.code);
-    say(b": ");
-    say_message(f.code, src, from, to, false);
+    say_spot(rt, file, p);
+    say_severity(rt, f.code);
+    say(rt, b": ");
+    say_message(rt, f.code, src, from, to, false);
     if shown_number(f.code) != 0 {
-        say(b" [");
-        say_number(f.code);
-        say(b"]");
+        say(rt, b" [");
+        say_number(rt, f.code);
+        say(rt, b"]");
     }
-    say(b"\n");
+    say(rt, b"\n");
     if has_place(f.code) {
-        say_line(src, p.line, f.from, f.to);
+        say_line(rt, src, p.line, f.from, f.to);
     }
 }
 
 // A field of an object that is a number.
-fn say_field(key: &[u8], n: u32) {
-    say(b",\"");
-    say(key);
-    say(b"\":");
-    say_number(n);
+fn say_field(rt: &impl Print, key: &[u8], n: u32) {
+    say(rt, b",\"");
+    say(rt, key);
+    say(rt, b"\":");
+    say_number(rt, n);
 }
 
-fn say_json(file: &[u8], src: &[u8], f: Finding, p: Spot) {
+fn say_json(rt: &impl Print, file: &[u8], src: &[u8], f: Finding, p: Spot) {
     let from = f.from as usize;
     let to = f.to as usize;
-    say(b"{\"file\":\"");
-    say_text(file, true);
-    say(b"\"");
-    say_field(b"line", p.line);
-    say_field(b"column", p.column);
-    say_field(b"from", f.from);
-    say_field(b"to", f.to);
-    say_field(b"number", shown_number(f.code));
-    say(b",\"severity\":\"");
-    say_severity(f.code);
-    say(b"\",\"message\":\"");
-    say_message(f.code, src, from, to, true);
-    say(b"\",\"name\":\"");
-    say_text(names::part(src, from, to), true);
-    say(b"\"}\n");
+    say(rt, b"{\"file\":\"");
+    say_text(rt, file, true);
+    say(rt, b"\"");
+    say_field(rt, b"line", p.line);
+    say_field(rt, b"column", p.column);
+    say_field(rt, b"from", f.from);
+    say_field(rt, b"to", f.to);
+    say_field(rt, b"number", shown_number(f.code));
+    say(rt, b",\"severity\":\"");
+    say_severity(rt, f.code);
+    say(rt, b"\",\"message\":\"");
+    say_message(rt, f.code, src, from, to, true);
+    say(rt, b"\",\"name\":\"");
+    say_text(rt, names::part(src, from, to), true);
+    say(rt, b"\"}\n");
 }
 
-fn say_finding(o: Form, file: &[u8], src: &[u8], f: Finding) {
+fn say_finding(rt: &impl Print, o: Form, file: &[u8], src: &[u8], f: Finding) {
     if o.is_quiet {
         return;
     }
     let p = quiltrudder::locate(src, f.from);
     if o.is_json {
-        say_json(file, src, f, p);
+        say_json(rt, file, src, f, p);
     } else {
-        say_plain(file, src, f, p);
+        say_plain(rt, file, src, f, p);
     }
 }
 
 // A number of document 01's or one of those above, and its place.
-fn say_at(o: Form, file: &[u8], src: &[u8], code: u32, from: u32, to: u32) {
-    say_finding(o, file, src, Finding { code, from, to });
+fn say_at(rt: &impl Print, o: Form, file: &[u8], src: &[u8], code: u32, from: u32, to: u32) {
+    say_finding(rt, o, file, src, Finding { code, from, to });
 }
 
 // ---- A file. ----
 
 // A repeat, and where what is repeated was given first.
-fn say_repeated(o: Form, file: &[u8], src: &[u8], t10: &[u32], row: u32) {
+fn say_repeated(rt: &impl Print, o: Form, file: &[u8], src: &[u8], t10: &[u32], row: u32) {
     let w = tables::REPEAT_WIDTH;
     let again = tables::REPEATED_PLACE;
     let first = tables::FIRST_PLACE;
     say_at(
+        rt,
         o,
         file,
         src,
@@ -616,6 +662,7 @@ fn say_repeated(o: Form, file: &[u8], src: &[u8], t10: &[u32], row: u32) {
         tables::cell(t10, w, row, again + 1),
     );
     say_at(
+        rt,
         o,
         file,
         src,
@@ -625,17 +672,18 @@ fn say_repeated(o: Form, file: &[u8], src: &[u8], t10: &[u32], row: u32) {
     );
 }
 
-fn say_repeats(o: Form, file: &[u8], src: &[u8], t10: &[u32], n: u32) {
+fn say_repeats(rt: &impl Print, o: Form, file: &[u8], src: &[u8], t10: &[u32], n: u32) {
     let mut row = 0;
     while row < n {
-        say_repeated(o, file, src, t10, row);
+        say_repeated(rt, o, file, src, t10, row);
         row += 1;
     }
 }
 
-fn say_fault_row(o: Form, file: &[u8], src: &[u8], t14: &[u32], row: u32) {
+fn say_fault_row(rt: &impl Print, o: Form, file: &[u8], src: &[u8], t14: &[u32], row: u32) {
     let w = tables::FAULT_WIDTH;
     say_at(
+        rt,
         o,
         file,
         src,
@@ -646,33 +694,43 @@ fn say_fault_row(o: Form, file: &[u8], src: &[u8], t14: &[u32], row: u32) {
 }
 
 // The faults, and how many there are.
-fn say_faults(o: Form, file: &[u8], src: &[u8], t14: &[u32], n: usize) -> u32 {
+fn say_faults(rt: &impl Print, o: Form, file: &[u8], src: &[u8], t14: &[u32], n: usize) -> u32 {
     let mut row = 0u32;
     while row < 4294967295 && (row as usize) < n {
-        say_fault_row(o, file, src, t14, row);
+        say_fault_row(rt, o, file, src, t14, row);
         row += 1;
     }
     row
 }
 
 // Row `row` of the report.
-fn say_unused(o: Form, file: &[u8], src: &[u8], t1: &[u32], t7: &[u32], out: &[u32], row: u32) {
+fn say_unused(
+    rt: &impl Print,
+    o: Form,
+    file: &[u8],
+    src: &[u8],
+    t1: &[u32],
+    t7: &[u32],
+    out: &[u32],
+    row: u32,
+) {
     let r = tables::cell(out, 2, row, 1);
     if tables::cell(out, 2, row, 0) == 1 {
         let w = tables::RULE_WIDTH;
         let from = tables::cell(t7, w, r, 0);
         let to = tables::cell(t7, w, r, 1);
-        say_at(o, file, src, UNUSED_RULE, from, to);
+        say_at(rt, o, file, src, UNUSED_RULE, from, to);
     } else {
         let w = tables::TOKEN_WIDTH;
         let from = tables::cell(t1, w, r, 0);
         let to = tables::cell(t1, w, r, 1);
-        say_at(o, file, src, UNUSED_TOKEN, from, to);
+        say_at(rt, o, file, src, UNUSED_TOKEN, from, to);
     }
 }
 
 // The unused rules and tokens, and how many there are.
 fn say_all_unused(
+    rt: &impl Print,
     o: Form,
     file: &[u8],
     src: &[u8],
@@ -683,7 +741,7 @@ fn say_all_unused(
 ) -> u32 {
     let mut row = 0u32;
     while row < 4294967295 && (row as usize) < n {
-        say_unused(o, file, src, t1, t7, out, row);
+        say_unused(rt, o, file, src, t1, t7, out, row);
         row += 1;
     }
     row
@@ -694,8 +752,8 @@ fn sum(n: u32, k: u32) -> u64 {
 }
 
 // A refusal behind `n` repeats. With these rooms no source should come to one behind its reading, but it is not passed over.
-fn say_refused(o: Form, file: &[u8], src: &[u8], n: u32, told: Told) -> Tally {
-    say_at(o, file, src, told.number, told.from, told.to);
+fn say_refused(rt: &impl Print, o: Form, file: &[u8], src: &[u8], n: u32, told: Told) -> Tally {
+    say_at(rt, o, file, src, told.number, told.from, told.to);
     Tally {
         errors: sum(n, 1),
         warnings: 0,
@@ -704,6 +762,7 @@ fn say_refused(o: Form, file: &[u8], src: &[u8], n: u32, told: Told) -> Tally {
 
 // What nothing uses in a source without faults, `n` being the errors that it has.
 fn check_unused(
+    rt: &impl Print,
     o: Form,
     file: &[u8],
     src: &[u8],
@@ -731,9 +790,9 @@ fn check_unused(
     let l = r.answer;
     let told = numbers::of_listing(l);
     if told.number != 0 {
-        return say_refused(o, file, src, n, told);
+        return say_refused(rt, o, file, src, n, told);
     }
-    let k = say_all_unused(o, file, src, t1, t7, out, numbers::listed(l));
+    let k = say_all_unused(rt, o, file, src, t1, t7, out, numbers::listed(l));
     Tally {
         errors: n as u64,
         warnings: k as u64,
@@ -742,6 +801,7 @@ fn check_unused(
 
 // What is wrong in a full reading that has `n` repeats.
 fn check_faults(
+    rt: &impl Print,
     o: Form,
     warns: bool,
     file: &[u8],
@@ -770,9 +830,9 @@ fn check_faults(
     let l = r.answer;
     let told = numbers::of_fault_listing(l);
     if told.number != 0 {
-        return say_refused(o, file, src, n, told);
+        return say_refused(rt, o, file, src, n, told);
     }
-    let k = say_faults(o, file, src, t14, numbers::faulted(l));
+    let k = say_faults(rt, o, file, src, t14, numbers::faulted(l));
     if k != 0 || !warns {
         return Tally {
             errors: sum(n, k),
@@ -780,7 +840,7 @@ fn check_faults(
         };
     }
     check_unused(
-        o, file, src, n, c, g, t1, t2, t3, t4, t5, t6, t7, t8, t9, t10, i1, i7, work, t14,
+        rt, o, file, src, n, c, g, t1, t2, t3, t4, t5, t6, t7, t8, t9, t10, i1, i7, work, t14,
     )
 }
 
@@ -794,6 +854,7 @@ fn is_stopped(number: u32) -> bool {
 
 // What is wrong with a source that was loaded or refused.
 fn check_reading(
+    rt: &impl Print,
     o: Form,
     warns: bool,
     file: &[u8],
@@ -818,16 +879,18 @@ fn check_reading(
 ) -> Tally {
     let told = numbers::of_judgement(j);
     let n = sound::rows_of(c, tables::REPEATS);
-    say_repeats(o, file, src, t10, n);
+    say_repeats(rt, o, file, src, t10, n);
     if is_stopped(told.number) {
-        return say_refused(o, file, src, n, told);
+        return say_refused(rt, o, file, src, n, told);
     }
     check_faults(
-        o, warns, file, src, n, c, g, t1, t2, t3, t4, t5, t6, t7, t8, t9, t10, i1, i7, work, t14,
+        rt, o, warns, file, src, n, c, g, t1, t2, t3, t4, t5, t6, t7, t8, t9, t10, i1, i7, work,
+        t14,
     )
 }
 
 fn check_source(
+    rt: &impl Print,
     o: Form,
     warns: bool,
     kind: u32,
@@ -857,26 +920,27 @@ fn check_source(
     let c = r.counts;
     let g = r.singles;
     check_reading(
-        o, warns, file, src, j, c, g, t1, t2, t3, t4, t5, t6, t7, t8, t9, t10, i1, i7, work, t14,
+        rt, o, warns, file, src, j, c, g, t1, t2, t3, t4, t5, t6, t7, t8, t9, t10, i1, i7, work,
+        t14,
     )
 }
 
-fn say_count(n: u64, word: &[u8]) {
-    io::print_decimal(1, n);
-    say(b" ");
-    say(word);
+fn say_count(rt: &impl Print, n: u64, word: &[u8]) {
+    let _ = rt.print(n);
+    say(rt, b" ");
+    say(rt, word);
     if n != 1 {
-        say(b"s");
+        say(rt, b"s");
     }
 }
 
-fn say_summary(file: &[u8], t: Tally) {
-    say(file);
-    say(b": ");
-    say_count(t.errors, b"error");
-    say(b", ");
-    say_count(t.warnings, b"warning");
-    say(b"\n");
+fn say_summary(rt: &impl Print, file: &[u8], t: Tally) {
+    say(rt, file);
+    say(rt, b": ");
+    say_count(rt, t.errors, b"error");
+    say(rt, b", ");
+    say_count(rt, t.warnings, b"warning");
+    say(rt, b"\n");
 }
 
 fn worse(a: u8, b: u8) -> u8 {
@@ -893,14 +957,15 @@ fn after(r: Asked, t: Tally) -> Asked {
 }
 
 // A file that can't be read: what the system says of it.
-fn fail(r: Asked, file: &[u8]) -> Asked {
-    os::fail(file);
+fn fail(rt: &HostRuntime, r: Asked, file: &[u8], error: io::Error) -> Asked {
+    streams::fail(rt, file, error);
     let mut next = r;
     next.status = 2;
     next
 }
 
 fn check_text(
+    rt: &impl Print,
     r: Asked,
     file: &[u8],
     src: &[u8],
@@ -926,16 +991,17 @@ fn check_text(
         is_json: r.is_json,
     };
     let t = check_source(
-        o, r.warns, r.kind, file, src, t1, t2, t3, t4, t5, t6, t7, t8, t9, t10, i1, i7, work, t14,
-        t16, t17,
+        rt, o, r.warns, r.kind, file, src, t1, t2, t3, t4, t5, t6, t7, t8, t9, t10, i1, i7, work,
+        t14, t16, t17,
     );
     if !r.is_json {
-        say_summary(file, t);
+        say_summary(rt, file, t);
     }
     after(r, t)
 }
 
 fn check_file(
+    rt: &HostRuntime,
     r: Asked,
     file: &[u8],
     text: &mut Source,
@@ -956,18 +1022,18 @@ fn check_file(
     t16: &mut Cells16,
     t17: &mut Cells17,
 ) -> Asked {
-    let fd = arguments::open(file);
-    if fd < 0 {
-        return fail(r, file);
+    let mut source = match arguments::open(rt, file) {
+        Ok(source) => source,
+        Err(error) => return fail(rt, r, file, error),
+    };
+    let n = streams::read_full(&mut source, text);
+    let broken = arguments::is_broken(&mut source, n);
+    arguments::close(source);
+    if let Some(error) = broken {
+        return fail(rt, r, file, error);
     }
-    let n = io::read_full(fd, text);
-    if arguments::is_broken(fd, n) {
-        let next = fail(r, file);
-        arguments::close(fd);
-        return next;
-    }
-    arguments::close(fd);
     check_text(
+        rt,
         r,
         file,
         names::part(text, 0, n),
@@ -992,58 +1058,67 @@ fn check_file(
 
 // ---- The arguments. ----
 
-fn say_usage(fd: i32) {
-    io::write_all(
-        fd,
+fn say_usage(to: &impl Print) {
+    say(
+        to,
         b"usage: speccheck [--kind original|grmtools|eco|posix] [--quiet|--json] [--no-warnings] [--] FILE ..\n",
     );
 }
 
-fn say_help() {
-    say_usage(1);
+fn say_help(rt: &impl Print) {
+    say_usage(rt);
     say(
+        rt,
         b"Says what is wrong in Yacc grammars, each of up to 65,536 bytes, and which rules and tokens nothing uses. The file - is standard input.\n",
     );
-    say(b"An option holds for the files behind it:\n");
+    say(rt, b"An option holds for the files behind it:\n");
     say(
+        rt,
         b"  --kind K       the kind of grammar; original, Yacc's own, if nothing is said; posix is Yacc as POSIX has it\n",
     );
     say(
+        rt,
         b"  --quiet        nothing but the last line of each file, its errors and warnings counted\n",
     );
     say(
+        rt,
         b"  --json         one JSON object a line: file, line, column, from, to, number, severity, message, name\n",
     );
-    say(b"  --no-warnings  unused rules and tokens are not looked for\n");
-    say(b"  --             no option follows\n");
     say(
+        rt,
+        b"  --no-warnings  unused rules and tokens are not looked for\n",
+    );
+    say(rt, b"  --             no option follows\n");
+    say(
+        rt,
         b"The status is 0 without errors, 1 with errors, 2 where a file can't be read or an option is not known.\n",
     );
 }
 
 // Arguments that can't be meant, and why: nothing more is read.
-fn refuse(r: Asked, word: &[u8], why: &[u8]) -> Asked {
-    io::write_all(2, b"speccheck: ");
-    io::write_all(2, word);
-    io::write_all(2, why);
-    say_usage(2);
+fn refuse(rt: &HostRuntime, r: Asked, word: &[u8], why: &[u8]) -> Asked {
+    let err = rt.stderr();
+    say(&err, b"speccheck: ");
+    say(&err, word);
+    say(&err, why);
+    say_usage(&err);
     let mut next = r;
     next.status = 2;
     next.is_going = false;
     next
 }
 
-fn help(r: Asked) -> Asked {
-    say_help();
+fn help(rt: &impl Print, r: Asked) -> Asked {
+    say_help(rt);
     let mut next = r;
     next.is_going = false;
     next
 }
 
-fn take_kind(r: Asked, word: &[u8]) -> Asked {
+fn take_kind(rt: &HostRuntime, r: Asked, word: &[u8]) -> Asked {
     let k = arguments::kind_of(word);
     if k == 0 {
-        return refuse(r, word, b" is no kind of grammar\n");
+        return refuse(rt, r, word, b" is no kind of grammar\n");
     }
     let mut next = r;
     next.kind = k;
@@ -1052,7 +1127,7 @@ fn take_kind(r: Asked, word: &[u8]) -> Asked {
 }
 
 // Of `--quiet` and `--json` the later one holds: JSON has no summary.
-fn take_option(r: Asked, word: &[u8]) -> Asked {
+fn take_option(rt: &HostRuntime, r: Asked, word: &[u8]) -> Asked {
     let mut next = r;
     next.has_file = false;
     if arguments::is_word(word, b"--kind") {
@@ -1070,9 +1145,9 @@ fn take_option(r: Asked, word: &[u8]) -> Asked {
     } else if arguments::is_word(word, b"--") {
         next.is_past_options = true;
     } else if arguments::is_word(word, b"--help") {
-        return help(r);
+        return help(rt, r);
     } else {
-        return refuse(r, word, b" is no option\n");
+        return refuse(rt, r, word, b" is no option\n");
     }
     next
 }
@@ -1083,6 +1158,7 @@ fn is_option(r: Asked, word: &[u8]) -> bool {
 }
 
 fn take_word(
+    rt: &HostRuntime,
     r: Asked,
     word: &[u8],
     text: &mut Source,
@@ -1104,20 +1180,21 @@ fn take_word(
     t17: &mut Cells17,
 ) -> Asked {
     if r.wants_kind {
-        return take_kind(r, word);
+        return take_kind(rt, r, word);
     }
     if is_option(r, word) {
-        return take_option(r, word);
+        return take_option(rt, r, word);
     }
     let mut next = r;
     next.has_file = true;
     check_file(
-        next, word, text, t1, t2, t3, t4, t5, t6, t7, t8, t9, t10, i1, i7, work, t14, t16, t17,
+        rt, next, word, text, t1, t2, t3, t4, t5, t6, t7, t8, t9, t10, i1, i7, work, t14, t16, t17,
     )
 }
 
 // Argument `i`. One that does not fit is longer than a path may be.
 fn take_argument(
+    rt: &HostRuntime,
     r: Asked,
     i: usize,
     word: &mut Argument,
@@ -1139,13 +1216,16 @@ fn take_argument(
     t16: &mut Cells16,
     t17: &mut Cells17,
 ) -> Asked {
-    let n = os::arg(i, word);
-    if os::errno() != 0 {
-        let mut next = fail(r, b"speccheck");
-        next.has_file = true;
-        return next;
-    }
+    let n = match arguments::take(rt, i, word) {
+        Ok(n) => n,
+        Err(error) => {
+            let mut next = fail(rt, r, b"speccheck", error);
+            next.has_file = true;
+            return next;
+        }
+    };
     take_word(
+        rt,
         r,
         names::part(word, 0, n),
         text,
@@ -1169,6 +1249,7 @@ fn take_argument(
 }
 
 fn take_arguments(
+    rt: &HostRuntime,
     word: &mut Argument,
     text: &mut Source,
     t1: &mut Cells1,
@@ -1188,7 +1269,7 @@ fn take_arguments(
     t16: &mut Cells16,
     t17: &mut Cells17,
 ) -> Asked {
-    let n = os::arg_count();
+    let n = arguments::count(rt);
     let mut r = Asked {
         kind: 1,
         is_quiet: false,
@@ -1204,40 +1285,38 @@ fn take_arguments(
     let mut i = 1;
     while i < n && r.is_going {
         r = take_argument(
-            r, i, word, text, t1, t2, t3, t4, t5, t6, t7, t8, t9, t10, i1, i7, work, t14, t16, t17,
+            rt, r, i, word, text, t1, t2, t3, t4, t5, t6, t7, t8, t9, t10, i1, i7, work, t14, t16,
+            t17,
         );
         i += 1;
     }
     r
 }
 
-// The status, for a script that sets it: a program can't.
-fn tell_status(status: u8) {
-    match status {
-        0 => {
-            io::write_all(3, b"0\n");
-        }
-        1 => {
-            io::write_all(3, b"1\n");
-        }
-        _ => {
-            io::write_all(3, b"2\n");
-        }
-    }
+// The status, for the script that ends with it: descriptor 3 is the script's file, by the name that the system has for it. Where there is none, nothing is told.
+fn tell_status(rt: &HostRuntime, status: u8) {
+    let Ok(mut told) = OpenOptions::new().append(true).open(rt, "/dev/fd/3") else {
+        return;
+    };
+    let _ = match status {
+        0 => told.write_all(b"0\n"),
+        1 => told.write_all(b"1\n"),
+        _ => told.write_all(b"2\n"),
+    };
 }
 
 // Behind the last argument: no option lacks its word or its files.
-fn end(r: Asked) {
+fn end(rt: &HostRuntime, r: Asked) {
     let mut last = r;
     if r.is_going && (r.wants_kind || !r.has_file) {
-        last = refuse(r, b"", b"a file is wanted behind the options\n");
+        last = refuse(rt, r, b"", b"a file is wanted behind the options\n");
     }
     if last.tells_status {
-        tell_status(last.status);
+        tell_status(rt, last.status);
     }
 }
 
-pub fn check_files() {
+pub fn check_files(rt: &HostRuntime) {
     let mut word = [0u8; 4096];
     let mut text = [0u8; 65537];
     let mut t1 = [0u32; 61440];
@@ -1257,8 +1336,8 @@ pub fn check_files() {
     let mut t16 = [0u32; 65535];
     let mut t17 = [0u32; 49152];
     let r = take_arguments(
-        &mut word, &mut text, &mut t1, &mut t2, &mut t3, &mut t4, &mut t5, &mut t6, &mut t7,
+        rt, &mut word, &mut text, &mut t1, &mut t2, &mut t3, &mut t4, &mut t5, &mut t6, &mut t7,
         &mut t8, &mut t9, &mut t10, &mut i1, &mut i7, &mut work, &mut t14, &mut t16, &mut t17,
     );
-    end(r);
+    end(rt, r);
 }

@@ -2,18 +2,18 @@
 #![tactic(auto)]
 
 // Each of the `n` rules or tokens, with the place of its name.
-fn print_left(t1: &[u32], t7: &[u32], kind: u32, n: u32) {
+fn print_left(rt: &impl Print, t1: &[u32], t7: &[u32], kind: u32, n: u32) {
     let mut row = 0;
     while row < n {
-        reporting::print_named(t1, t7, kind, row);
+        reporting::print_named(rt, t1, t7, kind, row);
         row += 1;
     }
 }
 
 // 1,024 rows a table and 2,048 slots an index, as for `specreport`.
-pub fn prune_input() {
+pub fn prune_input(rt: &(impl Input + Print)) {
     let mut text = [0u8; 65537];
-    let n = io::read_full(0, &mut text);
+    let n = streams::read_full(&mut rt.reader(), &mut text);
     let mut t1 = [0u32; 3072];
     let mut t2 = [0u32; 4096];
     let mut t3 = [0u32; 2048];
@@ -39,14 +39,14 @@ pub fn prune_input() {
     let j = r.answer;
     let c = r.counts;
     let g = r.singles;
-    reporting::print_answer(numbers::of_judgement(j));
+    reporting::print_answer(rt, numbers::of_judgement(j));
     let p = quiltrudder::prune(
         src, c, g, &mut t1, &t2, &mut t3, &t4, &mut t5, &t6, &mut t7, &mut t8, &mut t9, &t10,
         &mut i1, &mut i7, &mut work,
     );
     let a = p.answer;
     let d = p.counts;
-    reporting::print_answer(numbers::of_pruning(a));
-    print_left(&t1, &t7, 1, sound::rows_of(d, tables::RULES));
-    print_left(&t1, &t7, 2, sound::rows_of(d, tables::TOKENS));
+    reporting::print_answer(rt, numbers::of_pruning(a));
+    print_left(rt, &t1, &t7, 1, sound::rows_of(d, tables::RULES));
+    print_left(rt, &t1, &t7, 2, sound::rows_of(d, tables::TOKENS));
 }

@@ -2,7 +2,7 @@
 // compared line by line. A text is `x` and the hexadecimal of its bytes; `-` is absent.
 #![tactic(auto)]
 
-ghost use Rattle.io.specs.Counts.{IsPrefixLen as Leading};
+ghost use Rattle.dumping.specs.Counts.{Leading};
 
 use grammar::{Counts, Expect, Param, Part, PosixCounts, Singles, Told};
 use loading::Judgement;
@@ -98,43 +98,42 @@ pub struct Stand {
 // ---- Output: a lent buffer, and by value how much of it waits to be written. ----
 
 // A byte more. A full buffer is written out first.
-fn put(o: &mut [u8], at: usize, c: u8) -> usize {
+fn put(rt: &impl Print, o: &mut [u8], at: usize, c: u8) -> usize {
     if at < o.len() {
         o[at] = c;
         return at + 1;
     }
-    io::write_all(1, o);
+    let _ = rt.write_all(o);
     if 0 < o.len() {
         o[0] = c;
     }
     1
 }
 
-fn put_word(o: &mut [u8], at: usize, word: &[u8]) -> usize {
+fn put_word(rt: &impl Print, o: &mut [u8], at: usize, word: &[u8]) -> usize {
     let mut p = at;
     let mut i = 0;
     while i < word.len() {
-        p = put(o, p, word[i]);
+        p = put(rt, o, p, word[i]);
         i += 1;
     }
     p
 }
 
-fn put_decimal(o: &mut [u8], at: usize, n: u64) -> usize {
-    let mut digits = [0u8; 20];
-    let k = io::decimal(n, &mut digits);
-    put_word(o, at, &digits[..k])
+fn put_decimal(rt: &impl Print, o: &mut [u8], at: usize, n: u64) -> usize {
+    let mut digits = itoa::Buffer::new();
+    put_word(rt, o, at, digits.format(n).as_bytes())
 }
 
 // A space and a number.
-fn put_number(o: &mut [u8], at: usize, n: u32) -> usize {
-    let p = put(o, at, b' ');
-    put_decimal(o, p, n as u64)
+fn put_number(rt: &impl Print, o: &mut [u8], at: usize, n: u32) -> usize {
+    let p = put(rt, o, at, b' ');
+    put_decimal(rt, o, p, n as u64)
 }
 
-fn put_place(o: &mut [u8], at: usize, from: u32, to: u32) -> usize {
-    let p = put_number(o, at, from);
-    put_number(o, p, to)
+fn put_place(rt: &impl Print, o: &mut [u8], at: usize, from: u32, to: u32) -> usize {
+    let p = put_number(rt, o, at, from);
+    put_number(rt, o, p, to)
 }
 
 fn digit(d: u8) -> u8 {
@@ -147,35 +146,35 @@ fn digit(d: u8) -> u8 {
     }
 }
 
-fn put_hex(o: &mut [u8], at: usize, c: u8) -> usize {
-    let p = put(o, at, digit(c / 16));
-    put(o, p, digit(c % 16))
+fn put_hex(rt: &impl Print, o: &mut [u8], at: usize, c: u8) -> usize {
+    let p = put(rt, o, at, digit(c / 16));
+    put(rt, o, p, digit(c % 16))
 }
 
 // A space and the bytes of a text.
-fn put_text(o: &mut [u8], at: usize, text: &[u8]) -> usize {
-    let mut p = put_word(o, at, b" x");
+fn put_text(rt: &impl Print, o: &mut [u8], at: usize, text: &[u8]) -> usize {
+    let mut p = put_word(rt, o, at, b" x");
     let mut i = 0;
     while i < text.len() {
-        p = put_hex(o, p, text[i]);
+        p = put_hex(rt, o, p, text[i]);
         i += 1;
     }
     p
 }
 
 // The same of a place in the source. A reading has no other places.
-fn put_part(o: &mut [u8], at: usize, src: &[u8], from: u32, to: u32) -> usize {
+fn put_part(rt: &impl Print, o: &mut [u8], at: usize, src: &[u8], from: u32, to: u32) -> usize {
     let a = from as usize;
     let b = to as usize;
     if (a <= b) & (b <= src.len()) {
-        return put_text(o, at, names::part(src, a, b));
+        return put_text(rt, o, at, names::part(src, a, b));
     }
-    put_word(o, at, b" no-place")
+    put_word(rt, o, at, b" no-place")
 }
 
 // ---- Input: a lent buffer, and by value where it stands. ----
 
-fn next_byte(b: &mut [u8], f: Feed) -> Got {
+fn next_byte(rt: &impl Input, b: &mut [u8], f: Feed) -> Got {
     let at = f.at;
     if at < f.have && at < b.len() {
         return Got {
@@ -187,12 +186,12 @@ fn next_byte(b: &mut [u8], f: Feed) -> Got {
             },
         };
     }
-    refill(b)
+    refill(rt, b)
 }
 
 // The buffer filled again, and its first byte.
-fn refill(b: &mut [u8]) -> Got {
-    let have = io::read_full(0, b);
+fn refill(rt: &impl Input, b: &mut [u8]) -> Got {
+    let have = streams::read_full(&mut rt.reader(), b);
     if 0 < have && 0 < b.len() {
         return Got {
             is_there: true,
@@ -208,10 +207,10 @@ fn refill(b: &mut [u8]) -> Got {
 }
 
 // Two bytes, low first.
-fn next_half(b: &mut [u8], f: Feed) -> Number {
-    let low = next_byte(b, f);
+fn next_half(rt: &impl Input, b: &mut [u8], f: Feed) -> Number {
+    let low = next_byte(rt, b, f);
     let f1 = low.feed;
-    let high = next_byte(b, f1);
+    let high = next_byte(rt, b, f1);
     let feed = high.feed;
     Number {
         is_there: high.is_there,
@@ -220,10 +219,10 @@ fn next_half(b: &mut [u8], f: Feed) -> Number {
     }
 }
 
-fn next_number(b: &mut [u8], f: Feed) -> Number {
-    let low = next_half(b, f);
+fn next_number(rt: &impl Input, b: &mut [u8], f: Feed) -> Number {
+    let low = next_half(rt, b, f);
     let f1 = low.feed;
-    let high = next_half(b, f1);
+    let high = next_half(rt, b, f1);
     let feed = high.feed;
     Number {
         is_there: high.is_there,
@@ -233,11 +232,11 @@ fn next_number(b: &mut [u8], f: Feed) -> Number {
 }
 
 // The ten numbers at the beginning of the input.
-fn read_rooms(b: &mut [u8], rooms: &mut [u32; 10]) -> Feed {
+fn read_rooms(rt: &impl Input, b: &mut [u8], rooms: &mut [u32; 10]) -> Feed {
     let mut f = Feed { at: 0, have: 0 };
     let mut k = 0;
     while k < 10 {
-        let g = next_number(b, f);
+        let g = next_number(rt, b, f);
         f = g.feed;
         rooms[k] = g.value;
         k += 1;
@@ -246,7 +245,7 @@ fn read_rooms(b: &mut [u8], rooms: &mut [u32; 10]) -> Feed {
 }
 
 // An input's bytes, as far as they fit; the others are passed over.
-fn take_text(b: &mut [u8], f: Feed, text: &mut [u8], size: u32) -> Got {
+fn take_text(rt: &impl Input, b: &mut [u8], f: Feed, text: &mut [u8], size: u32) -> Got {
     let mut g = Got {
         is_there: true,
         byte: 0,
@@ -255,7 +254,7 @@ fn take_text(b: &mut [u8], f: Feed, text: &mut [u8], size: u32) -> Got {
     let mut i = 0u32;
     while i < size && g.is_there {
         let at = g.feed;
-        g = next_byte(b, at);
+        g = next_byte(rt, b, at);
         values::set_byte(text, i as usize, g.byte);
         i += 1;
     }
@@ -263,12 +262,12 @@ fn take_text(b: &mut [u8], f: Feed, text: &mut [u8], size: u32) -> Got {
 }
 
 // The next input, its bytes in `text`.
-fn next_input(b: &mut [u8], text: &mut [u8], f: Feed) -> Head {
-    let kind = next_byte(b, f);
+fn next_input(rt: &impl Input, b: &mut [u8], text: &mut [u8], f: Feed) -> Head {
+    let kind = next_byte(rt, b, f);
     let f1 = kind.feed;
-    let size = next_number(b, f1);
+    let size = next_number(rt, b, f1);
     let f2 = size.feed;
-    let last = take_text(b, f2, text, size.value);
+    let last = take_text(rt, b, f2, text, size.value);
     let feed = last.feed;
     Head {
         is_there: size.is_there & last.is_there,
@@ -280,34 +279,52 @@ fn next_input(b: &mut [u8], text: &mut [u8], f: Feed) -> Head {
 
 // ---- Rows: `t`, the table's number, the row's number, then what it holds. ----
 
-fn put_label(o: &mut [u8], at: usize, table: u8, row: u32) -> usize {
-    let p = put(o, at, b't');
-    let q = put_decimal(o, p, table as u64);
-    put_number(o, q, row)
+fn put_label(rt: &impl Print, o: &mut [u8], at: usize, table: u8, row: u32) -> usize {
+    let p = put(rt, o, at, b't');
+    let q = put_decimal(rt, o, p, table as u64);
+    put_number(rt, o, q, row)
 }
 
 // The first `n` cells of a row.
-fn put_cells(o: &mut [u8], at: usize, t: &[u32], wide: u32, row: u32, n: u32) -> usize {
+fn put_cells(
+    rt: &impl Print,
+    o: &mut [u8],
+    at: usize,
+    t: &[u32],
+    wide: u32,
+    row: u32,
+    n: u32,
+) -> usize {
     let mut p = at;
     let mut k = 0;
     while k < n {
-        p = put_number(o, p, tables::cell(t, wide, row, k));
+        p = put_number(rt, o, p, tables::cell(t, wide, row, k));
         k += 1;
     }
     p
 }
 
 // All cells of a row, and the name that stands in two of them.
-fn put_named(o: &mut [u8], at: usize, src: &[u8], t: &[u32], wide: u32, k: u8, row: u32) -> usize {
-    let p = put_cells(o, at, t, wide, row, wide);
+fn put_named(
+    rt: &impl Print,
+    o: &mut [u8],
+    at: usize,
+    src: &[u8],
+    t: &[u32],
+    wide: u32,
+    k: u8,
+    row: u32,
+) -> usize {
+    let p = put_cells(rt, o, at, t, wide, row, wide);
     let first = k as u32;
     let a = tables::cell(t, wide, row, first);
     let b = tables::cell(t, wide, row, first + 1);
-    put_part(o, p, src, a, b)
+    put_part(rt, o, p, src, a, b)
 }
 
 // A text where the flag in cell `k` says that there is one.
 fn put_flagged(
+    rt: &impl Print,
     o: &mut [u8],
     at: usize,
     src: &[u8],
@@ -318,92 +335,167 @@ fn put_flagged(
 ) -> usize {
     let flag = k as u32;
     if tables::cell(t, wide, row, flag) == 0 {
-        return put_word(o, at, b" -");
+        return put_word(rt, o, at, b" -");
     }
     let a = tables::cell(t, wide, row, flag + 1);
     let b = tables::cell(t, wide, row, flag + 2);
-    put_part(o, at, src, a, b)
+    put_part(rt, o, at, src, a, b)
 }
 
 // Kind, place and name of a symbol, and the row of its rule or token.
-fn put_symbol(o: &mut [u8], at: usize, src: &[u8], t: &[u32], row: u32) -> usize {
+fn put_symbol(rt: &impl Print, o: &mut [u8], at: usize, src: &[u8], t: &[u32], row: u32) -> usize {
     let w = tables::SYMBOL_WIDTH;
-    let p = put_cells(o, at, t, w, row, tables::KNOWN_ROW);
+    let p = put_cells(rt, o, at, t, w, row, tables::KNOWN_ROW);
     let a = tables::cell(t, w, row, 1);
     let b = tables::cell(t, w, row, 2);
-    let q = put_part(o, p, src, a, b);
+    let q = put_part(rt, o, p, src, a, b);
     let known = tables::cell(t, w, row, tables::KNOWN_ROW);
     if known == tables::NO_ROW {
-        return put_word(o, q, b" -");
+        return put_word(rt, o, q, b" -");
     }
-    put_number(o, q, known)
+    put_number(rt, o, q, known)
 }
 
-fn put_rule(o: &mut [u8], at: usize, src: &[u8], t: &[u32], row: u32) -> usize {
+fn put_rule(rt: &impl Print, o: &mut [u8], at: usize, src: &[u8], t: &[u32], row: u32) -> usize {
     let w = tables::RULE_WIDTH;
     let a = tables::cell(t, w, row, 0);
     let b = tables::cell(t, w, row, 1);
-    let p = put_place(o, at, a, b);
-    let q = put_part(o, p, src, a, b);
-    put_flagged(o, q, src, t, w, row, 2)
+    let p = put_place(rt, o, at, a, b);
+    let q = put_part(rt, o, p, src, a, b);
+    put_flagged(rt, o, q, src, t, w, row, 2)
 }
 
 // The action's own span, and its trimmed text.
-fn put_action(o: &mut [u8], at: usize, src: &[u8], t: &[u32], row: u32) -> usize {
+fn put_action(rt: &impl Print, o: &mut [u8], at: usize, src: &[u8], t: &[u32], row: u32) -> usize {
     let w = tables::PRODUCTION_WIDTH;
     if tables::cell(t, w, row, tables::ACTION) == 0 {
-        return put_word(o, at, b" - - -");
+        return put_word(rt, o, at, b" - - -");
     }
     let a = tables::cell(t, w, row, tables::SPAN_FROM);
     let b = tables::cell(t, w, row, tables::SPAN_TO);
-    let p = put_place(o, at, a, b);
-    put_flagged(o, p, src, t, w, row, 8)
+    let p = put_place(rt, o, at, a, b);
+    put_flagged(rt, o, p, src, t, w, row, 8)
 }
 
-fn put_production(o: &mut [u8], at: usize, src: &[u8], t: &[u32], row: u32) -> usize {
+fn put_production(
+    rt: &impl Print,
+    o: &mut [u8],
+    at: usize,
+    src: &[u8],
+    t: &[u32],
+    row: u32,
+) -> usize {
     let w = tables::PRODUCTION_WIDTH;
-    let p = put_cells(o, at, t, w, row, tables::PREC);
-    let q = put_flagged(o, p, src, t, w, row, 5);
-    put_action(o, q, src, t, row)
+    let p = put_cells(rt, o, at, t, w, row, tables::PREC);
+    let q = put_flagged(rt, o, p, src, t, w, row, 5);
+    put_action(rt, o, q, src, t, row)
 }
 
 // A word and its tag.
-fn put_tag(o: &mut [u8], at: usize, src: &[u8], t: &[u32], row: u32) -> usize {
+fn put_tag(rt: &impl Print, o: &mut [u8], at: usize, src: &[u8], t: &[u32], row: u32) -> usize {
     let w = tables::TAG_WIDTH;
-    let p = put_named(o, at, src, t, w, tables::NAME, row);
+    let p = put_named(rt, o, at, src, t, w, tables::NAME, row);
     let a = tables::cell(t, w, row, 2);
     let b = tables::cell(t, w, row, 3);
-    put_part(o, p, src, a, b)
+    put_part(rt, o, p, src, a, b)
 }
 
 // What a row of a table holds, but for table 5. Table 10 has no names.
-fn put_held(o: &mut [u8], at: usize, src: &[u8], t: &[u32], table: u8, row: u32) -> usize {
+fn put_held(
+    rt: &impl Print,
+    o: &mut [u8],
+    at: usize,
+    src: &[u8],
+    t: &[u32],
+    table: u8,
+    row: u32,
+) -> usize {
     match table {
-        1 => put_named(o, at, src, t, tables::TOKEN_WIDTH, tables::NAME, row),
-        2 => put_named(o, at, src, t, tables::PRECEDENCE_WIDTH, tables::NAME, row),
-        3 | 4 => put_named(o, at, src, t, tables::NAME_WIDTH, tables::NAME, row),
-        6 => put_named(o, at, src, t, tables::UNUSED_WIDTH, tables::KIND_NAME, row),
-        7 => put_rule(o, at, src, t, row),
-        8 => put_production(o, at, src, t, row),
-        9 => put_symbol(o, at, src, t, row),
-        15 => put_tag(o, at, src, t, row),
-        16 => put_named(o, at, src, t, tables::TOKEN_NUMBER_WIDTH, tables::NAME, row),
-        17 => put_named(o, at, src, t, tables::BODY_WIDTH, tables::KIND_NAME, row),
-        _ => put_cells(o, at, t, tables::REPEAT_WIDTH, row, tables::REPEAT_WIDTH),
+        1 => put_named(rt, o, at, src, t, tables::TOKEN_WIDTH, tables::NAME, row),
+        2 => put_named(
+            rt,
+            o,
+            at,
+            src,
+            t,
+            tables::PRECEDENCE_WIDTH,
+            tables::NAME,
+            row,
+        ),
+        3 | 4 => put_named(rt, o, at, src, t, tables::NAME_WIDTH, tables::NAME, row),
+        6 => put_named(
+            rt,
+            o,
+            at,
+            src,
+            t,
+            tables::UNUSED_WIDTH,
+            tables::KIND_NAME,
+            row,
+        ),
+        7 => put_rule(rt, o, at, src, t, row),
+        8 => put_production(rt, o, at, src, t, row),
+        9 => put_symbol(rt, o, at, src, t, row),
+        15 => put_tag(rt, o, at, src, t, row),
+        16 => put_named(
+            rt,
+            o,
+            at,
+            src,
+            t,
+            tables::TOKEN_NUMBER_WIDTH,
+            tables::NAME,
+            row,
+        ),
+        17 => put_named(
+            rt,
+            o,
+            at,
+            src,
+            t,
+            tables::BODY_WIDTH,
+            tables::KIND_NAME,
+            row,
+        ),
+        _ => put_cells(
+            rt,
+            o,
+            at,
+            t,
+            tables::REPEAT_WIDTH,
+            row,
+            tables::REPEAT_WIDTH,
+        ),
     }
 }
 
-fn put_row(o: &mut [u8], at: usize, src: &[u8], t: &[u32], table: u8, row: u32) -> usize {
-    let p = put_label(o, at, table, row);
-    let q = put_held(o, p, src, t, table, row);
-    put(o, q, b'\n')
+fn put_row(
+    rt: &impl Print,
+    o: &mut [u8],
+    at: usize,
+    src: &[u8],
+    t: &[u32],
+    table: u8,
+    row: u32,
+) -> usize {
+    let p = put_label(rt, o, at, table, row);
+    let q = put_held(rt, o, p, src, t, table, row);
+    put(rt, o, q, b'\n')
 }
 
-fn put_rows(o: &mut [u8], at: usize, src: &[u8], t: &[u32], table: u8, n: u32) -> usize {
+fn put_rows(
+    rt: &impl Print,
+    o: &mut [u8],
+    at: usize,
+    src: &[u8],
+    t: &[u32],
+    table: u8,
+    n: u32,
+) -> usize {
     let mut p = at;
     let mut row = 0;
     while row < n {
-        p = put_row(o, p, src, t, table, row);
+        p = put_row(rt, o, p, src, t, table, row);
         row += 1;
     }
     p
@@ -435,12 +527,20 @@ fn is_first(t10: &[u32], row: u32) -> bool {
 }
 
 // The repeated place of a row that belongs to the group.
-fn put_repeat(o: &mut [u8], at: usize, t10: &[u32], first: u32, row: u32) -> usize {
+fn put_repeat(
+    rt: &impl Print,
+    o: &mut [u8],
+    at: usize,
+    t10: &[u32],
+    first: u32,
+    row: u32,
+) -> usize {
     if !is_same_group(t10, first, row) {
         return at;
     }
     let w = tables::REPEAT_WIDTH;
     put_place(
+        rt,
         o,
         at,
         tables::cell(t10, w, row, 3),
@@ -448,14 +548,14 @@ fn put_repeat(o: &mut [u8], at: usize, t10: &[u32], first: u32, row: u32) -> usi
     )
 }
 
-fn put_error(o: &mut [u8], at: usize, number: u32, from: u32, to: u32) -> usize {
-    let p = put_word(o, at, b"error");
-    let q = put_number(o, p, number);
-    put_place(o, q, from, to)
+fn put_error(rt: &impl Print, o: &mut [u8], at: usize, number: u32, from: u32, to: u32) -> usize {
+    let p = put_word(rt, o, at, b"error");
+    let q = put_number(rt, o, p, number);
+    put_place(rt, o, q, from, to)
 }
 
 // The group that begins with row `first`, if one does.
-fn put_group(o: &mut [u8], at: usize, t10: &[u32], first: u32, n: u32) -> usize {
+fn put_group(rt: &impl Print, o: &mut [u8], at: usize, t10: &[u32], first: u32, n: u32) -> usize {
     if !is_first(t10, first) {
         return at;
     }
@@ -463,20 +563,20 @@ fn put_group(o: &mut [u8], at: usize, t10: &[u32], first: u32, n: u32) -> usize 
     let number = tables::cell(t10, w, first, 0);
     let a = tables::cell(t10, w, first, 1);
     let b = tables::cell(t10, w, first, 2);
-    let mut p = put_error(o, at, number, a, b);
+    let mut p = put_error(rt, o, at, number, a, b);
     let mut j = first;
     while j < n {
-        p = put_repeat(o, p, t10, first, j);
+        p = put_repeat(rt, o, p, t10, first, j);
         j += 1;
     }
-    put(o, p, b'\n')
+    put(rt, o, p, b'\n')
 }
 
-fn put_groups(o: &mut [u8], at: usize, t10: &[u32], n: u32) -> usize {
+fn put_groups(rt: &impl Print, o: &mut [u8], at: usize, t10: &[u32], n: u32) -> usize {
     let mut p = at;
     let mut row = 0;
     while row < n {
-        p = put_group(o, p, t10, row, n);
+        p = put_group(rt, o, p, t10, row, n);
         row += 1;
     }
     p
@@ -490,13 +590,13 @@ fn is_at_offset(number: u32) -> bool {
     }
 }
 
-fn put_errors(o: &mut [u8], at: usize, told: Told, t10: &[u32], n: u32) -> usize {
-    let p = put_groups(o, at, t10, n);
+fn put_errors(rt: &impl Print, o: &mut [u8], at: usize, told: Told, t10: &[u32], n: u32) -> usize {
+    let p = put_groups(rt, o, at, t10, n);
     if !is_at_offset(told.number) {
         return p;
     }
-    let q = put_error(o, p, told.number, told.from, told.to);
-    put(o, q, b'\n')
+    let q = put_error(rt, o, p, told.number, told.from, told.to);
+    put(rt, o, q, b'\n')
 }
 
 // ---- The answer of a load. ----
@@ -510,140 +610,163 @@ fn is_fatal(number: u32) -> bool {
 }
 
 // The number and the place.
-fn put_told(o: &mut [u8], at: usize, told: Told) -> usize {
-    let p = put_number(o, at, told.number);
-    put_place(o, p, told.from, told.to)
+fn put_told(rt: &impl Print, o: &mut [u8], at: usize, told: Told) -> usize {
+    let p = put_number(rt, o, at, told.number);
+    put_place(rt, o, p, told.from, told.to)
 }
 
-fn put_table(o: &mut [u8], at: usize, table: u32) -> usize {
+fn put_table(rt: &impl Print, o: &mut [u8], at: usize, table: u32) -> usize {
     if table == 0 {
         return at;
     }
-    put_number(o, at, table)
+    put_number(rt, o, at, table)
 }
 
 // A line of an operation's answer; 42 has the table too.
-fn put_answer(o: &mut [u8], at: usize, word: &[u8], told: Told) -> usize {
-    let p = put_word(o, at, word);
-    let q = put_told(o, p, told);
-    let r = put_table(o, q, told.table);
-    put(o, r, b'\n')
+fn put_answer(rt: &impl Print, o: &mut [u8], at: usize, word: &[u8], told: Told) -> usize {
+    let p = put_word(rt, o, at, word);
+    let q = put_told(rt, o, p, told);
+    let r = put_table(rt, o, q, told.table);
+    put(rt, o, r, b'\n')
 }
 
 // The same with line and column of its place.
-fn put_located(o: &mut [u8], at: usize, word: &[u8], told: Told, spot: Spot) -> usize {
-    let p = put_word(o, at, word);
-    let q = put_told(o, p, told);
-    let r = put_table(o, q, told.table);
-    let s = put_place(o, r, spot.line, spot.column);
-    put(o, s, b'\n')
+fn put_located(
+    rt: &impl Print,
+    o: &mut [u8],
+    at: usize,
+    word: &[u8],
+    told: Told,
+    spot: Spot,
+) -> usize {
+    let p = put_word(rt, o, at, word);
+    let q = put_told(rt, o, p, told);
+    let r = put_table(rt, o, q, told.table);
+    let s = put_place(rt, o, r, spot.line, spot.column);
+    put(rt, o, s, b'\n')
 }
 
-fn put_counts(o: &mut [u8], at: usize, c: Counts) -> usize {
+fn put_counts(rt: &impl Print, o: &mut [u8], at: usize, c: Counts) -> usize {
     let mut p = at;
     let mut k = 0u8;
     while k < 10 {
-        p = put_number(o, p, sound::rows_of(c, k));
+        p = put_number(rt, o, p, sound::rows_of(c, k));
         k += 1;
     }
     p
 }
 
-fn put_loading(o: &mut [u8], at: usize, told: Told, spot: Spot, c: Counts, t10: &[u32]) -> usize {
-    let p = put_located(o, at, b"load", told, spot);
-    let q = put_errors(o, p, told, t10, sound::rows_of(c, tables::REPEATS));
-    let r = put_word(o, q, b"counts");
-    let s = put_counts(o, r, c);
-    put(o, s, b'\n')
+fn put_loading(
+    rt: &impl Print,
+    o: &mut [u8],
+    at: usize,
+    told: Told,
+    spot: Spot,
+    c: Counts,
+    t10: &[u32],
+) -> usize {
+    let p = put_located(rt, o, at, b"load", told, spot);
+    let q = put_errors(rt, o, p, told, t10, sound::rows_of(c, tables::REPEATS));
+    let r = put_word(rt, o, q, b"counts");
+    let s = put_counts(rt, o, r, c);
+    put(rt, o, s, b'\n')
 }
 
 // ---- Singles. ----
 
-fn put_single(o: &mut [u8], at: usize, src: &[u8], word: &[u8], x: Part) -> usize {
-    let p = put_word(o, at, word);
+fn put_single(rt: &impl Print, o: &mut [u8], at: usize, src: &[u8], word: &[u8], x: Part) -> usize {
+    let p = put_word(rt, o, at, word);
     match x {
-        Part::Absent => put_word(o, p, b" -\n"),
+        Part::Absent => put_word(rt, o, p, b" -\n"),
         Part::At(a, b) => {
-            let q = put_part(o, p, src, a, b);
-            put(o, q, b'\n')
+            let q = put_part(rt, o, p, src, a, b);
+            put(rt, o, q, b'\n')
         }
     }
 }
 
-fn put_start(o: &mut [u8], at: usize, src: &[u8], x: Part) -> usize {
+fn put_start(rt: &impl Print, o: &mut [u8], at: usize, src: &[u8], x: Part) -> usize {
     match x {
-        Part::Absent => put_word(o, at, b"start - - -\n"),
+        Part::Absent => put_word(rt, o, at, b"start - - -\n"),
         Part::At(a, b) => {
-            let p = put_word(o, at, b"start");
-            let q = put_place(o, p, a, b);
-            let r = put_part(o, q, src, a, b);
-            put(o, r, b'\n')
+            let p = put_word(rt, o, at, b"start");
+            let q = put_place(rt, o, p, a, b);
+            let r = put_part(rt, o, q, src, a, b);
+            put(rt, o, r, b'\n')
         }
     }
 }
 
-fn put_expect(o: &mut [u8], at: usize, word: &[u8], x: Expect) -> usize {
-    let p = put_word(o, at, word);
+fn put_expect(rt: &impl Print, o: &mut [u8], at: usize, word: &[u8], x: Expect) -> usize {
+    let p = put_word(rt, o, at, word);
     match x {
-        Expect::NotExpected => put_word(o, p, b" - - -\n"),
+        Expect::NotExpected => put_word(rt, o, p, b" - - -\n"),
         Expect::Expected(v, a, b) => {
-            let q = put(o, p, b' ');
-            let r = put_decimal(o, q, v);
-            let s = put_place(o, r, a, b);
-            put(o, s, b'\n')
+            let q = put(rt, o, p, b' ');
+            let r = put_decimal(rt, o, q, v);
+            let s = put_place(rt, o, r, a, b);
+            put(rt, o, s, b'\n')
         }
     }
 }
 
-fn put_param(o: &mut [u8], at: usize, src: &[u8], x: Param) -> usize {
+fn put_param(rt: &impl Print, o: &mut [u8], at: usize, src: &[u8], x: Param) -> usize {
     match x {
-        Param::NoParam => put_word(o, at, b"param - -\n"),
+        Param::NoParam => put_word(rt, o, at, b"param - -\n"),
         Param::ParamAt(a, b, c, d) => {
-            let p = put_word(o, at, b"param");
-            let q = put_part(o, p, src, a, b);
-            let r = put_part(o, q, src, c, d);
-            put(o, r, b'\n')
+            let p = put_word(rt, o, at, b"param");
+            let q = put_part(rt, o, p, src, a, b);
+            let r = put_part(rt, o, q, src, c, d);
+            put(rt, o, r, b'\n')
         }
     }
 }
 
-fn put_expects(o: &mut [u8], at: usize, g: Singles) -> usize {
+fn put_expects(rt: &impl Print, o: &mut [u8], at: usize, g: Singles) -> usize {
     let e = g.expect;
-    let p = put_expect(o, at, b"expect", e);
+    let p = put_expect(rt, o, at, b"expect", e);
     let f = g.expect_rr;
-    put_expect(o, p, b"expect-rr", f)
+    put_expect(rt, o, p, b"expect-rr", f)
 }
 
-fn put_texts(o: &mut [u8], at: usize, src: &[u8], g: Singles) -> usize {
+fn put_texts(rt: &impl Print, o: &mut [u8], at: usize, src: &[u8], g: Singles) -> usize {
     let x = g.param;
-    let p = put_param(o, at, src, x);
+    let p = put_param(rt, o, at, src, x);
     let y = g.generics;
-    let q = put_single(o, p, src, b"generics", y);
+    let q = put_single(rt, o, p, src, b"generics", y);
     let z = g.programs;
-    put_single(o, q, src, b"programs", z)
+    put_single(rt, o, q, src, b"programs", z)
 }
 
-fn put_singles(o: &mut [u8], at: usize, src: &[u8], g: Singles) -> usize {
+fn put_singles(rt: &impl Print, o: &mut [u8], at: usize, src: &[u8], g: Singles) -> usize {
     let x = g.start;
-    let p = put_start(o, at, src, x);
-    let q = put_expects(o, p, g);
-    put_texts(o, q, src, g)
+    let p = put_start(rt, o, at, src, x);
+    let q = put_expects(rt, o, p, g);
+    put_texts(rt, o, q, src, g)
 }
 
 // ---- `%epp` rows: the key as spelled, its name, the value with its quotes, and without its escapes. ----
 
-fn put_key(o: &mut [u8], at: usize, src: &[u8], t5: &[u32], row: u32) -> usize {
+fn put_key(rt: &impl Print, o: &mut [u8], at: usize, src: &[u8], t5: &[u32], row: u32) -> usize {
     let w = tables::EPP_WIDTH;
-    let p = put_cells(o, at, t5, w, row, 2);
+    let p = put_cells(rt, o, at, t5, w, row, 2);
     let a = tables::cell(t5, w, row, 2);
     let b = tables::cell(t5, w, row, 3);
-    let q = put_part(o, p, src, a, b);
+    let q = put_part(rt, o, p, src, a, b);
     put_place(
+        rt,
         o,
         q,
         tables::cell(t5, w, row, 4),
         tables::cell(t5, w, row, 5),
     )
+}
+
+// At most `n` bytes from the first on.
+fn bytes_up_to(n: usize, text: &[u8]) -> usize
+    ensures { Leading result text.now }
+{
+    if n < text.len() { n } else { text.len() }
 }
 
 fn distance(a: u32, b: u32) -> u32 {
@@ -656,19 +779,20 @@ fn value_room(t5: &[u32], row: u32, value: &[u8]) -> usize
 {
     let a = tables::cell(t5, tables::EPP_WIDTH, row, 4);
     let b = tables::cell(t5, tables::EPP_WIDTH, row, 5);
-    io::count(distance(a, b) as isize, value)
+    bytes_up_to(distance(a, b) as usize, value)
 }
 
-fn put_written(o: &mut [u8], at: usize, v: Valuation, value: &[u8]) -> usize {
+fn put_written(rt: &impl Print, o: &mut [u8], at: usize, v: Valuation, value: &[u8]) -> usize {
     let told = numbers::of_valuation(v);
     if told.number != 0 {
-        return put_answer(o, at, b" refused", told);
+        return put_answer(rt, o, at, b" refused", told);
     }
-    let p = put_text(o, at, names::part(value, 0, numbers::written(v)));
-    put(o, p, b'\n')
+    let p = put_text(rt, o, at, names::part(value, 0, numbers::written(v)));
+    put(rt, o, p, b'\n')
 }
 
 fn put_value(
+    rt: &impl Print,
     o: &mut [u8],
     at: usize,
     src: &[u8],
@@ -693,10 +817,11 @@ fn put_value(
         src, c, g, t1, t2, t3, t4, t5, t6, t7, t8, t9, t10, i1, i7, row, value,
     );
     let a = v.answer;
-    put_written(o, at, a, value)
+    put_written(rt, o, at, a, value)
 }
 
 fn put_epp(
+    rt: &impl Print,
     o: &mut [u8],
     at: usize,
     src: &[u8],
@@ -717,10 +842,11 @@ fn put_epp(
     row: u32,
     value: &mut [u8],
 ) -> usize {
-    let p = put_label(o, at, 5, row);
-    let q = put_key(o, p, src, t5, row);
+    let p = put_label(rt, o, at, 5, row);
+    let q = put_key(rt, o, p, src, t5, row);
     let n = value_room(t5, row, value);
     put_value(
+        rt,
         o,
         q,
         src,
@@ -744,6 +870,7 @@ fn put_epp(
 }
 
 fn put_epps(
+    rt: &impl Print,
     o: &mut [u8],
     at: usize,
     src: &[u8],
@@ -768,7 +895,7 @@ fn put_epps(
     let mut row = 0;
     while row < n {
         p = put_epp(
-            o, p, src, c, g, t1, t2, t3, t4, t5, t6, t7, t8, t9, t10, i1, i7, row, value,
+            rt, o, p, src, c, g, t1, t2, t3, t4, t5, t6, t7, t8, t9, t10, i1, i7, row, value,
         );
         row += 1;
     }
@@ -779,6 +906,7 @@ fn put_epps(
 
 // Tables 1 to 4.
 fn put_first(
+    rt: &impl Print,
     o: &mut [u8],
     at: usize,
     src: &[u8],
@@ -788,14 +916,15 @@ fn put_first(
     t3: &[u32],
     t4: &[u32],
 ) -> usize {
-    let p = put_rows(o, at, src, t1, 1, sound::rows_of(c, tables::TOKENS));
-    let q = put_rows(o, p, src, t2, 2, sound::rows_of(c, tables::PRECEDENCES));
-    let r = put_rows(o, q, src, t3, 3, sound::rows_of(c, tables::AVOIDED));
-    put_rows(o, r, src, t4, 4, sound::rows_of(c, tables::IMPLICIT))
+    let p = put_rows(rt, o, at, src, t1, 1, sound::rows_of(c, tables::TOKENS));
+    let q = put_rows(rt, o, p, src, t2, 2, sound::rows_of(c, tables::PRECEDENCES));
+    let r = put_rows(rt, o, q, src, t3, 3, sound::rows_of(c, tables::AVOIDED));
+    put_rows(rt, o, r, src, t4, 4, sound::rows_of(c, tables::IMPLICIT))
 }
 
 // Tables 6 to 9.
 fn put_last(
+    rt: &impl Print,
     o: &mut [u8],
     at: usize,
     src: &[u8],
@@ -805,17 +934,25 @@ fn put_last(
     t8: &[u32],
     t9: &[u32],
 ) -> usize {
-    let p = put_rows(o, at, src, t6, 6, sound::rows_of(c, tables::UNUSED));
-    let q = put_rows(o, p, src, t7, 7, sound::rows_of(c, tables::RULES));
-    let r = put_rows(o, q, src, t8, 8, sound::rows_of(c, tables::PRODUCTIONS));
-    put_rows(o, r, src, t9, 9, sound::rows_of(c, tables::SYMBOLS))
+    let p = put_rows(rt, o, at, src, t6, 6, sound::rows_of(c, tables::UNUSED));
+    let q = put_rows(rt, o, p, src, t7, 7, sound::rows_of(c, tables::RULES));
+    let r = put_rows(rt, o, q, src, t8, 8, sound::rows_of(c, tables::PRODUCTIONS));
+    put_rows(rt, o, r, src, t9, 9, sound::rows_of(c, tables::SYMBOLS))
 }
 
-fn put_repeats(o: &mut [u8], at: usize, src: &[u8], c: Counts, t10: &[u32]) -> usize {
-    put_rows(o, at, src, t10, 10, sound::rows_of(c, tables::REPEATS))
+fn put_repeats(
+    rt: &impl Print,
+    o: &mut [u8],
+    at: usize,
+    src: &[u8],
+    c: Counts,
+    t10: &[u32],
+) -> usize {
+    put_rows(rt, o, at, src, t10, 10, sound::rows_of(c, tables::REPEATS))
 }
 
 fn put_tables(
+    rt: &impl Print,
     o: &mut [u8],
     at: usize,
     src: &[u8],
@@ -835,36 +972,44 @@ fn put_tables(
     i7: &[u32],
     value: &mut [u8],
 ) -> usize {
-    let p = put_first(o, at, src, c, t1, t2, t3, t4);
+    let p = put_first(rt, o, at, src, c, t1, t2, t3, t4);
     let q = put_epps(
-        o, p, src, c, g, t1, t2, t3, t4, t5, t6, t7, t8, t9, t10, i1, i7, value,
+        rt, o, p, src, c, g, t1, t2, t3, t4, t5, t6, t7, t8, t9, t10, i1, i7, value,
     );
-    let r = put_last(o, q, src, c, t6, t7, t8, t9);
-    put_repeats(o, r, src, c, t10)
+    let r = put_last(rt, o, q, src, c, t6, t7, t8, t9);
+    put_repeats(rt, o, r, src, c, t10)
 }
 
 // ---- The faults. ----
 
 // A row of table 14, with line and column of its place.
-fn put_fault(o: &mut [u8], at: usize, src: &[u8], t14: &[u32], row: u32) -> usize {
-    let p = put_word(o, at, b"fault");
-    let q = put_cells(o, p, t14, tables::FAULT_WIDTH, row, tables::FAULT_WIDTH);
+fn put_fault(rt: &impl Print, o: &mut [u8], at: usize, src: &[u8], t14: &[u32], row: u32) -> usize {
+    let p = put_word(rt, o, at, b"fault");
+    let q = put_cells(rt, o, p, t14, tables::FAULT_WIDTH, row, tables::FAULT_WIDTH);
     let s = quiltrudder::locate(src, tables::cell(t14, tables::FAULT_WIDTH, row, 1));
-    let r = put_place(o, q, s.line, s.column);
-    put(o, r, b'\n')
+    let r = put_place(rt, o, q, s.line, s.column);
+    put(rt, o, r, b'\n')
 }
 
-fn put_all_faults(o: &mut [u8], at: usize, src: &[u8], t14: &[u32], n: usize) -> usize {
+fn put_all_faults(
+    rt: &impl Print,
+    o: &mut [u8],
+    at: usize,
+    src: &[u8],
+    t14: &[u32],
+    n: usize,
+) -> usize {
     let mut p = at;
     let mut row = 0u32;
     while row < 4294967295 && (row as usize) < n {
-        p = put_fault(o, p, src, t14, row);
+        p = put_fault(rt, o, p, src, t14, row);
         row += 1;
     }
     p
 }
 
 fn put_faults(
+    rt: &impl Print,
     o: &mut [u8],
     at: usize,
     src: &[u8],
@@ -890,60 +1035,86 @@ fn put_faults(
     let a = l.answer;
     let told = numbers::of_fault_listing(a);
     if told.number != 0 {
-        return put_answer(o, at, b"faults", told);
+        return put_answer(rt, o, at, b"faults", told);
     }
-    put_all_faults(o, at, src, t14, numbers::faulted(a))
+    put_all_faults(rt, o, at, src, t14, numbers::faulted(a))
 }
 
 // ---- The report. ----
 
 // Row `row` of the report, with the place of the rule's or token's name.
-fn put_unused(o: &mut [u8], at: usize, t1: &[u32], t7: &[u32], out: &[u32], row: u32) -> usize {
+fn put_unused(
+    rt: &impl Print,
+    o: &mut [u8],
+    at: usize,
+    t1: &[u32],
+    t7: &[u32],
+    out: &[u32],
+    row: u32,
+) -> usize {
     let kind = tables::cell(out, 2, row, 0);
     let r = tables::cell(out, 2, row, 1);
-    let p = put_word(o, at, b"unused");
-    let q = put_place(o, p, kind, r);
+    let p = put_word(rt, o, at, b"unused");
+    let q = put_place(rt, o, p, kind, r);
     if kind == 1 {
-        return put_named_line(o, q, t7, tables::RULE_WIDTH, r);
+        return put_named_line(rt, o, q, t7, tables::RULE_WIDTH, r);
     }
-    put_named_line(o, q, t1, tables::TOKEN_WIDTH, r)
+    put_named_line(rt, o, q, t1, tables::TOKEN_WIDTH, r)
 }
 
 // The place of a name, and the end of the line.
-fn put_named_line(o: &mut [u8], at: usize, t: &[u32], wide: u32, row: u32) -> usize {
-    let p = put_cells(o, at, t, wide, row, 2);
-    put(o, p, b'\n')
+fn put_named_line(
+    rt: &impl Print,
+    o: &mut [u8],
+    at: usize,
+    t: &[u32],
+    wide: u32,
+    row: u32,
+) -> usize {
+    let p = put_cells(rt, o, at, t, wide, row, 2);
+    put(rt, o, p, b'\n')
 }
 
-fn put_all_unused(o: &mut [u8], at: usize, t1: &[u32], t7: &[u32], out: &[u32], n: usize) -> usize {
+fn put_all_unused(
+    rt: &impl Print,
+    o: &mut [u8],
+    at: usize,
+    t1: &[u32],
+    t7: &[u32],
+    out: &[u32],
+    n: usize,
+) -> usize {
     let mut p = at;
     let mut row = 0u32;
     while row < 4294967295 && (row as usize) < n {
-        p = put_unused(o, p, t1, t7, out, row);
+        p = put_unused(rt, o, p, t1, t7, out, row);
         row += 1;
     }
     p
 }
 
 // Eight hexadecimal digits.
-fn put_bits(o: &mut [u8], at: usize, word: u32) -> usize {
-    let mut digits = [0u8; 16];
-    let k = io::hex(word as u64, 8, &mut digits);
-    let p = put(o, at, b' ');
-    put_word(o, p, &digits[..k])
+fn put_bits(rt: &impl Print, o: &mut [u8], at: usize, word: u32) -> usize {
+    let bytes = word.to_be_bytes();
+    let p = put(rt, o, at, b' ');
+    let q = put_hex(rt, o, p, bytes[0]);
+    let r = put_hex(rt, o, q, bytes[1]);
+    let s = put_hex(rt, o, r, bytes[2]);
+    put_hex(rt, o, s, bytes[3])
 }
 
-fn put_work(o: &mut [u8], at: usize, work: &[u32]) -> usize {
-    let mut p = put_word(o, at, b"work");
+fn put_work(rt: &impl Print, o: &mut [u8], at: usize, work: &[u32]) -> usize {
+    let mut p = put_word(rt, o, at, b"work");
     let mut i = 0;
     while i < work.len() {
-        p = put_bits(o, p, work[i]);
+        p = put_bits(rt, o, p, work[i]);
         i += 1;
     }
-    put(o, p, b'\n')
+    put(rt, o, p, b'\n')
 }
 
 fn put_listing(
+    rt: &impl Print,
     o: &mut [u8],
     at: usize,
     l: Listing,
@@ -954,14 +1125,15 @@ fn put_listing(
 ) -> usize {
     let told = numbers::of_listing(l);
     if told.number != 0 {
-        return put_answer(o, at, b"report", told);
+        return put_answer(rt, o, at, b"report", told);
     }
-    let p = put_all_unused(o, at, t1, t7, out, numbers::listed(l));
-    put_work(o, p, work)
+    let p = put_all_unused(rt, o, at, t1, t7, out, numbers::listed(l));
+    put_work(rt, o, p, work)
 }
 
 // The report in just as many words and rows as it can need.
 fn put_report(
+    rt: &impl Print,
     o: &mut [u8],
     at: usize,
     src: &[u8],
@@ -986,7 +1158,7 @@ fn put_report(
         src, c, g, t1, t2, t3, t4, t5, t6, t7, t8, t9, t10, i1, i7, work, out,
     );
     let a = l.answer;
-    put_listing(o, at, a, t1, t7, work, out)
+    put_listing(rt, o, at, a, t1, t7, work, out)
 }
 
 // At most `n` cells from the first on.
@@ -1015,6 +1187,7 @@ fn report_room(c: Counts, out: &[u32]) -> usize
 }
 
 fn put_valid(
+    rt: &impl Print,
     o: &mut [u8],
     at: usize,
     src: &[u8],
@@ -1038,6 +1211,7 @@ fn put_valid(
     let n = work_room(c, work);
     let m = report_room(c, out);
     put_report(
+        rt,
         o,
         at,
         src,
@@ -1062,6 +1236,7 @@ fn put_valid(
 
 // The report's rows serve as table 14 before the report is made.
 fn put_validity(
+    rt: &impl Print,
     o: &mut [u8],
     at: usize,
     src: &[u8],
@@ -1086,15 +1261,15 @@ fn put_validity(
     let a = v.answer;
     let spot = v.spot;
     let told = numbers::of_validity(a);
-    let p = put_located(o, at, b"validate", told, spot);
+    let p = put_located(rt, o, at, b"validate", told, spot);
     let q = put_faults(
-        o, p, src, c, g, t1, t2, t3, t4, t5, t6, t7, t8, t9, t10, i1, i7, out,
+        rt, o, p, src, c, g, t1, t2, t3, t4, t5, t6, t7, t8, t9, t10, i1, i7, out,
     );
     if told.number != 0 {
         return q;
     }
     put_valid(
-        o, q, src, c, g, t1, t2, t3, t4, t5, t6, t7, t8, t9, t10, i1, i7, work, out,
+        rt, o, q, src, c, g, t1, t2, t3, t4, t5, t6, t7, t8, t9, t10, i1, i7, work, out,
     )
 }
 
@@ -1102,6 +1277,7 @@ fn put_validity(
 
 // What is left to print of a full reading.
 fn put_ended(
+    rt: &impl Print,
     o: &mut [u8],
     at: usize,
     src: &[u8],
@@ -1124,15 +1300,16 @@ fn put_ended(
     value: &mut [u8],
 ) -> usize {
     let p = put_tables(
-        o, at, src, c, g, t1, t2, t3, t4, t5, t6, t7, t8, t9, t10, i1, i7, value,
+        rt, o, at, src, c, g, t1, t2, t3, t4, t5, t6, t7, t8, t9, t10, i1, i7, value,
     );
-    let q = put_singles(o, p, src, g);
+    let q = put_singles(rt, o, p, src, g);
     put_validity(
-        o, q, src, c, g, t1, t2, t3, t4, t5, t6, t7, t8, t9, t10, i1, i7, work, out,
+        rt, o, q, src, c, g, t1, t2, t3, t4, t5, t6, t7, t8, t9, t10, i1, i7, work, out,
     )
 }
 
 fn put_outcome(
+    rt: &impl Print,
     o: &mut [u8],
     at: usize,
     src: &[u8],
@@ -1157,25 +1334,26 @@ fn put_outcome(
     value: &mut [u8],
 ) -> usize {
     let told = numbers::of_judgement(j);
-    let p = put_loading(o, at, told, spot, c, t10);
+    let p = put_loading(rt, o, at, told, spot, c, t10);
     if is_fatal(told.number) {
-        return put_repeats(o, p, src, c, t10);
+        return put_repeats(rt, o, p, src, c, t10);
     }
     put_ended(
-        o, p, src, c, g, t1, t2, t3, t4, t5, t6, t7, t8, t9, t10, i1, i7, work, out, value,
+        rt, o, p, src, c, g, t1, t2, t3, t4, t5, t6, t7, t8, t9, t10, i1, i7, work, out, value,
     )
 }
 
 // ---- What kind 4 has besides: three counts, and the rows of tables 15 to 17. ----
 
-fn put_posix_counts(o: &mut [u8], at: usize, c: PosixCounts) -> usize {
-    let p = put_word(o, at, b"posix");
-    let q = put_place(o, p, c.n[0], c.n[1]);
-    let r = put_number(o, q, c.n[2]);
-    put(o, r, b'\n')
+fn put_posix_counts(rt: &impl Print, o: &mut [u8], at: usize, c: PosixCounts) -> usize {
+    let p = put_word(rt, o, at, b"posix");
+    let q = put_place(rt, o, p, c.n[0], c.n[1]);
+    let r = put_number(rt, o, q, c.n[2]);
+    put(rt, o, r, b'\n')
 }
 
 fn put_posix(
+    rt: &impl Print,
     o: &mut [u8],
     at: usize,
     src: &[u8],
@@ -1188,13 +1366,14 @@ fn put_posix(
     if kind != 4 {
         return at;
     }
-    let p = put_posix_counts(o, at, c);
-    let q = put_rows(o, p, src, t15, 15, c.n[0]);
-    let r = put_rows(o, q, src, t16, 16, c.n[1]);
-    put_rows(o, r, src, t17, 17, c.n[2])
+    let p = put_posix_counts(rt, o, at, c);
+    let q = put_rows(rt, o, p, src, t15, 15, c.n[0]);
+    let r = put_rows(rt, o, q, src, t16, 16, c.n[1]);
+    put_rows(rt, o, r, src, t17, 17, c.n[2])
 }
 
 fn dump(
+    rt: &impl Print,
     o: &mut [u8],
     at: usize,
     src: &[u8],
@@ -1227,10 +1406,10 @@ fn dump(
     let posix = r.posix;
     let spot = r.spot;
     let p = put_outcome(
-        o, at, src, j, spot, c, g, t1, t2, t3, t4, t5, t6, t7, t8, t9, t10, i1, i7, work, out,
+        rt, o, at, src, j, spot, c, g, t1, t2, t3, t4, t5, t6, t7, t8, t9, t10, i1, i7, work, out,
         value,
     );
-    put_posix(o, p, src, kind, posix, t15, t16, t17)
+    put_posix(rt, o, p, src, kind, posix, t15, t16, t17)
 }
 
 // The rows to lend: those asked for, but never more than one for each byte and two more, which no reading fills.
@@ -1269,6 +1448,7 @@ fn slots(ix: &[u32], n: usize, wide: u32) -> usize
 
 // The text of the input whose bytes stand in `text`, as far as they fit there.
 fn dump_lent(
+    rt: &impl Print,
     o: &mut [u8],
     at: usize,
     text: &[u8],
@@ -1294,7 +1474,7 @@ fn dump_lent(
     out: &mut [u32],
     value: &mut [u8],
 ) -> usize {
-    let n = io::count(size as isize, text);
+    let n = bytes_up_to(size as usize, text);
     let n1 = cells(t1, tables::TOKEN_WIDTH, rooms, 0, size);
     let n2 = cells(t2, tables::PRECEDENCE_WIDTH, rooms, 1, size);
     let n3 = cells(t3, tables::NAME_WIDTH, rooms, 2, size);
@@ -1311,6 +1491,7 @@ fn dump_lent(
     let m1 = slots(i1, n1, tables::TOKEN_WIDTH);
     let m7 = slots(i7, n7, tables::RULE_WIDTH);
     dump(
+        rt,
         o,
         at,
         &text[..n],
@@ -1336,15 +1517,16 @@ fn dump_lent(
     )
 }
 
-fn put_input(o: &mut [u8], at: usize, index: u64, kind: u32, size: u32) -> usize {
-    let p = put_word(o, at, b"input ");
-    let q = put_decimal(o, p, index);
-    let r = put_place(o, q, kind, size);
-    put(o, r, b'\n')
+fn put_input(rt: &impl Print, o: &mut [u8], at: usize, index: u64, kind: u32, size: u32) -> usize {
+    let p = put_word(rt, o, at, b"input ");
+    let q = put_decimal(rt, o, p, index);
+    let r = put_place(rt, o, q, kind, size);
+    put(rt, o, r, b'\n')
 }
 
 // The next input and its text, if there is one.
 fn dump_next(
+    rt: &(impl Input + Print),
     o: &mut Bytes,
     b: &mut Bytes,
     text: &mut Source,
@@ -1371,7 +1553,7 @@ fn dump_next(
     value: &mut Bytes,
 ) -> Stand {
     let f = s.feed;
-    let h = next_input(b, text, f);
+    let h = next_input(rt, b, text, f);
     let feed = h.feed;
     if !h.is_there {
         return Stand {
@@ -1380,10 +1562,10 @@ fn dump_next(
             is_going: false,
         };
     }
-    let p = put_input(o, s.at, index, h.kind, h.size);
+    let p = put_input(rt, o, s.at, index, h.kind, h.size);
     let at = dump_lent(
-        o, p, text, h.kind, h.size, rooms, t1, t2, t3, t4, t5, t6, t7, t8, t9, t10, t15, t16, t17,
-        i1, i7, work, out, value,
+        rt, o, p, text, h.kind, h.size, rooms, t1, t2, t3, t4, t5, t6, t7, t8, t9, t10, t15, t16,
+        t17, i1, i7, work, out, value,
     );
     Stand {
         at,
@@ -1394,6 +1576,7 @@ fn dump_next(
 
 // One input after the other. Nothing says that there is a last one, so the loop ends with the numbers too.
 fn dump_all(
+    rt: &(impl Input + Print),
     o: &mut Bytes,
     b: &mut Bytes,
     text: &mut Source,
@@ -1426,8 +1609,8 @@ fn dump_all(
     let mut index = 0u64;
     while index < 18446744073709551615 && s.is_going {
         s = dump_next(
-            o, b, text, s, index, rooms, t1, t2, t3, t4, t5, t6, t7, t8, t9, t10, t15, t16, t17,
-            i1, i7, work, out, value,
+            rt, o, b, text, s, index, rooms, t1, t2, t3, t4, t5, t6, t7, t8, t9, t10, t15, t16,
+            t17, i1, i7, work, out, value,
         );
         index += 1;
     }
@@ -1435,11 +1618,11 @@ fn dump_all(
 }
 
 // What waits in the output buffer.
-fn flush(o: &Bytes, at: usize) {
-    io::write_all(1, names::part(o, 0, at));
+fn flush(rt: &impl Print, o: &Bytes, at: usize) {
+    let _ = rt.write_all(names::part(o, 0, at));
 }
 
-pub fn dump_input() {
+pub fn dump_input(rt: &(impl Input + Print)) {
     let mut o = [0u8; 65536];
     let mut b = [0u8; 65536];
     let mut text = [0u8; 65537];
@@ -1462,8 +1645,9 @@ pub fn dump_input() {
     let mut work = [0u32; 1370];
     let mut out = [0u32; 98304];
     let mut rows = [0u32; 10];
-    let f = read_rooms(&mut b, &mut rows);
+    let f = read_rooms(rt, &mut b, &mut rows);
     let at = dump_all(
+        rt,
         &mut o,
         &mut b,
         &mut text,
@@ -1488,5 +1672,5 @@ pub fn dump_input() {
         &mut out,
         &mut value,
     );
-    flush(&o, at);
+    flush(rt, &o, at);
 }

@@ -47,26 +47,20 @@ pub struct Asked {
     pub is_going: bool,
 }
 
-fn say_usage(fd: i32) {
-    io::write_all(
-        fd,
-        b"usage: specship [original|grmtools|eco] [FILE] .. (standard input if there is no FILE)\n",
+fn say_usage(rt: &impl Print) {
+    let _ = println!(rt;
+        "usage: specship [original|grmtools|eco] [FILE] .. (standard input if there is no FILE)"
     );
 }
 
 // Line and column of a refusal, and its number.
-fn say_refused(file: &[u8], t: Told, s: Spot) {
-    io::write_all(2, file);
-    io::write_all(2, b":");
-    io::print_decimal(2, s.line as u64);
-    io::write_all(2, b":");
-    io::print_decimal(2, s.column as u64);
-    io::write_all(2, b": refused with ");
-    io::print_decimal(2, t.number as u64);
-    io::write_all(2, b"\n");
+fn say_refused(rt: &HostRuntime, file: &[u8], t: Told, s: Spot) {
+    let _ = rt.stderr().write_all(file);
+    let _ = eprintln!(rt; ":{}:{}: refused with {}", s.line, s.column, t.number);
 }
 
 fn ship_text(
+    rt: &HostRuntime,
     kind: u32,
     file: &[u8],
     src: &[u8],
@@ -91,13 +85,14 @@ fn ship_text(
     let spot = r.spot;
     match answer {
         Shipment::Sent(n) => {
-            io::write_all(1, names::part(out, 0, n as usize));
+            let _ = rt.stdout().write_all(names::part(out, 0, n as usize));
         }
-        Shipment::Unsent(f) => say_refused(file, grammar::tell(f), spot),
+        Shipment::Unsent(f) => say_refused(rt, file, grammar::tell(f), spot),
     }
 }
 
 fn ship_file(
+    rt: &HostRuntime,
     kind: u32,
     file: &[u8],
     text: &mut Source,
@@ -115,16 +110,16 @@ fn ship_file(
     i7: &mut Slots7,
     out: &mut Shipped,
 ) {
-    let fd = arguments::open(file);
-    if fd < 0 {
-        os::fail(file);
-        return;
-    }
-    let n = io::read_full(fd, text);
-    if arguments::is_broken(fd, n) {
-        os::fail(file);
+    let mut source = match arguments::open(rt, file) {
+        Ok(source) => source,
+        Err(error) => return streams::fail(rt, file, error),
+    };
+    let n = streams::read_full(&mut source, text);
+    if let Some(error) = arguments::is_broken(&mut source, n) {
+        streams::fail(rt, file, error);
     } else {
         ship_text(
+            rt,
             kind,
             file,
             names::part(text, 0, n),
@@ -143,11 +138,12 @@ fn ship_file(
             out,
         );
     }
-    arguments::close(fd);
+    arguments::close(source);
 }
 
 // A word: a kind, for the files behind it, or a file.
 fn take_word(
+    rt: &HostRuntime,
     r: Asked,
     word: &[u8],
     text: &mut Source,
@@ -173,18 +169,19 @@ fn take_word(
     }
     next.has_file = true;
     if arguments::is_word(word, b"--help") {
-        say_usage(1);
+        say_usage(rt);
         next.is_going = false;
         return next;
     }
     ship_file(
-        r.kind, word, text, t1, t2, t3, t4, t5, t6, t7, t8, t9, t10, i1, i7, out,
+        rt, r.kind, word, text, t1, t2, t3, t4, t5, t6, t7, t8, t9, t10, i1, i7, out,
     );
     next
 }
 
 // Argument `i`. One that does not fit is longer than a path may be.
 fn take_argument(
+    rt: &HostRuntime,
     r: Asked,
     i: usize,
     word: &mut Argument,
@@ -203,14 +200,17 @@ fn take_argument(
     i7: &mut Slots7,
     out: &mut Shipped,
 ) -> Asked {
-    let n = os::arg(i, word);
-    if os::errno() != 0 {
-        os::fail(b"specship");
-        let mut next = r;
-        next.has_file = true;
-        return next;
-    }
+    let n = match arguments::take(rt, i, word) {
+        Ok(n) => n,
+        Err(error) => {
+            streams::fail(rt, b"specship", error);
+            let mut next = r;
+            next.has_file = true;
+            return next;
+        }
+    };
     take_word(
+        rt,
         r,
         names::part(word, 0, n),
         text,
@@ -231,6 +231,7 @@ fn take_argument(
 }
 
 fn take_arguments(
+    rt: &HostRuntime,
     word: &mut Argument,
     text: &mut Source,
     t1: &mut Cells1,
@@ -247,7 +248,7 @@ fn take_arguments(
     i7: &mut Slots7,
     out: &mut Shipped,
 ) -> Asked {
-    let n = os::arg_count();
+    let n = arguments::count(rt);
     let mut r = Asked {
         kind: 1,
         has_file: false,
@@ -256,14 +257,14 @@ fn take_arguments(
     let mut i = 1;
     while i < n && r.is_going {
         r = take_argument(
-            r, i, word, text, t1, t2, t3, t4, t5, t6, t7, t8, t9, t10, i1, i7, out,
+            rt, r, i, word, text, t1, t2, t3, t4, t5, t6, t7, t8, t9, t10, i1, i7, out,
         );
         i += 1;
     }
     r
 }
 
-pub fn ship_files() {
+pub fn ship_files(rt: &HostRuntime) {
     let mut word = [0u8; 4096];
     let mut text = [0u8; 65537];
     let mut out = [0u8; 65536];
@@ -280,13 +281,13 @@ pub fn ship_files() {
     let mut i1 = [0u32; 65536];
     let mut i7 = [0u32; 32768];
     let r = take_arguments(
-        &mut word, &mut text, &mut t1, &mut t2, &mut t3, &mut t4, &mut t5, &mut t6, &mut t7,
+        rt, &mut word, &mut text, &mut t1, &mut t2, &mut t3, &mut t4, &mut t5, &mut t6, &mut t7,
         &mut t8, &mut t9, &mut t10, &mut i1, &mut i7, &mut out,
     );
     if !r.has_file {
         ship_file(
-            r.kind, b"-", &mut text, &mut t1, &mut t2, &mut t3, &mut t4, &mut t5, &mut t6, &mut t7,
-            &mut t8, &mut t9, &mut t10, &mut i1, &mut i7, &mut out,
+            rt, r.kind, b"-", &mut text, &mut t1, &mut t2, &mut t3, &mut t4, &mut t5, &mut t6,
+            &mut t7, &mut t8, &mut t9, &mut t10, &mut i1, &mut i7, &mut out,
         );
     }
 }

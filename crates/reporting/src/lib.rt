@@ -6,34 +6,30 @@ use loading::Judgement;
 use usage::Listing;
 
 // A word and two numbers, on a line of their own.
-fn print_line(word: &[u8], from: u32, to: u32) {
-    io::write_all(1, word);
-    io::write_all(1, b" ");
-    io::print_decimal(1, from as u64);
-    io::write_all(1, b" ");
-    io::print_decimal(1, to as u64);
-    io::write_all(1, b"\n");
+fn print_line(rt: &impl Print, word: &str, from: u32, to: u32) {
+    let _ = println!(rt; "{word} {from} {to}");
 }
 
-pub fn print_answer(t: Told) {
-    io::write_all(1, b"answer ");
-    io::print_decimal(1, t.number as u64);
-    print_line(b"", t.from, t.to);
+pub fn print_answer(rt: &impl Print, t: Told) {
+    let _ = print!(rt; "answer {}", t.number);
+    print_line(rt, "", t.from, t.to);
 }
 
 // Rule or token `r`, with the place of its name.
-pub fn print_named(t1: &[u32], t7: &[u32], kind: u32, r: u32) {
+pub fn print_named(rt: &impl Print, t1: &[u32], t7: &[u32], kind: u32, r: u32) {
     if kind == 1 {
         let w = tables::RULE_WIDTH;
         print_line(
-            b"rule",
+            rt,
+            "rule",
             tables::cell(t7, w, r, 0),
             tables::cell(t7, w, r, 1),
         );
     } else {
         let w = tables::TOKEN_WIDTH;
         print_line(
-            b"token",
+            rt,
+            "token",
             tables::cell(t1, w, r, 0),
             tables::cell(t1, w, r, 1),
         );
@@ -41,8 +37,9 @@ pub fn print_named(t1: &[u32], t7: &[u32], kind: u32, r: u32) {
 }
 
 // Row `row` of the report.
-fn print_row(t1: &[u32], t7: &[u32], out: &[u32], row: u32) {
+fn print_row(rt: &impl Print, t1: &[u32], t7: &[u32], out: &[u32], row: u32) {
     print_named(
+        rt,
         t1,
         t7,
         tables::cell(out, 2, row, 0),
@@ -50,16 +47,17 @@ fn print_row(t1: &[u32], t7: &[u32], out: &[u32], row: u32) {
     );
 }
 
-fn print_rows(t1: &[u32], t7: &[u32], out: &[u32], count: usize) {
+fn print_rows(rt: &impl Print, t1: &[u32], t7: &[u32], out: &[u32], count: usize) {
     let mut row = 0u32;
     while row < 4294967295 && (row as usize) < count {
-        print_row(t1, t7, out, row);
+        print_row(rt, t1, t7, out, row);
         row += 1;
     }
 }
 
 // What is left to say of a source that was loaded.
 fn print_report(
+    rt: &impl Print,
     src: &[u8],
     j: Judgement,
     c: Counts,
@@ -85,18 +83,19 @@ fn print_report(
     let l = r.answer;
     match l {
         Listing::Unused(n) => {
-            print_answer(numbers::of_judgement(j));
-            print_rows(t1, t7, out, n);
+            print_answer(rt, numbers::of_judgement(j));
+            print_rows(rt, t1, t7, out, n);
         }
-        Listing::OfUnsound => print_answer(numbers::of_listing(l)),
-        Listing::OfInvalid(_) => print_answer(numbers::of_listing(l)),
-        Listing::NoWords => print_answer(numbers::of_listing(l)),
-        Listing::NoRoom => print_answer(numbers::of_listing(l)),
+        Listing::OfUnsound => print_answer(rt, numbers::of_listing(l)),
+        Listing::OfInvalid(_) => print_answer(rt, numbers::of_listing(l)),
+        Listing::NoWords => print_answer(rt, numbers::of_listing(l)),
+        Listing::NoRoom => print_answer(rt, numbers::of_listing(l)),
     }
 }
 
 // Load's answer if it is a refusal, else what is left to say.
 fn print_loading(
+    rt: &impl Print,
     src: &[u8],
     j: Judgement,
     c: Counts,
@@ -119,15 +118,16 @@ fn print_loading(
     match j {
         Judgement::Loaded(_) => {
             print_report(
-                src, j, c, g, t1, t2, t3, t4, t5, t6, t7, t8, t9, t10, i1, i7, work, out,
+                rt, src, j, c, g, t1, t2, t3, t4, t5, t6, t7, t8, t9, t10, i1, i7, work, out,
             );
         }
-        Judgement::NotRead(_) => print_answer(numbers::of_judgement(j)),
-        Judgement::NotValid(_) => print_answer(numbers::of_judgement(j)),
+        Judgement::NotRead(_) => print_answer(rt, numbers::of_judgement(j)),
+        Judgement::NotValid(_) => print_answer(rt, numbers::of_judgement(j)),
     }
 }
 
 fn run(
+    rt: &impl Print,
     src: &[u8],
     t1: &mut [u32],
     t2: &mut [u32],
@@ -155,14 +155,14 @@ fn run(
     let c = r.counts;
     let g = r.singles;
     print_loading(
-        src, j, c, g, t1, t2, t3, t4, t5, t6, t7, t8, t9, t10, i1, i7, work, out,
+        rt, src, j, c, g, t1, t2, t3, t4, t5, t6, t7, t8, t9, t10, i1, i7, work, out,
     );
 }
 
 // 1,024 rows a table, 2,048 slots an index, 2,048 rows for the report, and a byte more than a source may have.
-pub fn report_input() {
+pub fn report_input(rt: &(impl Input + Print)) {
     let mut text = [0u8; 65537];
-    let n = io::read_full(0, &mut text);
+    let n = streams::read_full(&mut rt.reader(), &mut text);
     let mut t1 = [0u32; 3072];
     let mut t2 = [0u32; 4096];
     let mut t3 = [0u32; 2048];
@@ -178,6 +178,7 @@ pub fn report_input() {
     let mut work = [0u32; 64];
     let mut out = [0u32; 4096];
     run(
+        rt,
         &text[..n],
         &mut t1,
         &mut t2,

@@ -3,6 +3,6 @@
 // input; lines too long to be shown; and each option.
 #![tactic(auto)]
 
-fn main() {
-    checking::check_files();
+fn main(rt: HostRuntime) {
+    checking::check_files(&rt);
 }

@@ -1,6 +1,6 @@
 // `specreport` on an empty source.
 #![tactic(auto)]
 
-fn main() {
-    reporting::report_input();
+fn main(rt: HostRuntime) {
+    reporting::report_input(&rt);
 }

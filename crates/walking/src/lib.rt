@@ -41,10 +41,10 @@ fn next_row(
 }
 
 // One call, and its row printed. Says whether there was one.
-fn print_next(t1: &[u32], t7: &[u32], n: Next) -> bool {
+fn print_next(rt: &impl Print, t1: &[u32], t7: &[u32], n: Next) -> bool {
     match n {
         Next::NextUnused(kind, row) => {
-            reporting::print_named(t1, t7, kind, row);
+            reporting::print_named(rt, t1, t7, kind, row);
             true
         }
         Next::NoneLeft => false,
@@ -54,6 +54,7 @@ fn print_next(t1: &[u32], t7: &[u32], n: Next) -> bool {
 
 // The unused rows up to the end; there are no more than rows in both tables.
 fn print_walk(
+    rt: &impl Print,
     src: &[u8],
     c: Counts,
     g: Singles,
@@ -85,13 +86,14 @@ fn print_walk(
         at = s.at;
         let n = s.next;
         let answer = n.answer;
-        going = print_next(t1, t7, answer);
+        going = print_next(rt, t1, t7, answer);
         k += 1;
     }
 }
 
 // What is left to say of a source that was loaded.
 fn print_marked(
+    rt: &impl Print,
     src: &[u8],
     j: Judgement,
     c: Counts,
@@ -116,18 +118,19 @@ fn print_marked(
     let m = r.answer;
     match m {
         Marking::AllMarked => {
-            reporting::print_answer(numbers::of_judgement(j));
+            reporting::print_answer(rt, numbers::of_judgement(j));
             print_walk(
-                src, c, g, t1, t2, t3, t4, t5, t6, t7, t8, t9, t10, i1, i7, work,
+                rt, src, c, g, t1, t2, t3, t4, t5, t6, t7, t8, t9, t10, i1, i7, work,
             );
         }
-        Marking::MarksUnsound => reporting::print_answer(numbers::of_marking(m)),
-        Marking::MarksInvalid(_) => reporting::print_answer(numbers::of_marking(m)),
-        Marking::MarksNoWords => reporting::print_answer(numbers::of_marking(m)),
+        Marking::MarksUnsound => reporting::print_answer(rt, numbers::of_marking(m)),
+        Marking::MarksInvalid(_) => reporting::print_answer(rt, numbers::of_marking(m)),
+        Marking::MarksNoWords => reporting::print_answer(rt, numbers::of_marking(m)),
     }
 }
 
 fn print_loading(
+    rt: &impl Print,
     src: &[u8],
     j: Judgement,
     c: Counts,
@@ -148,14 +151,15 @@ fn print_loading(
 ) {
     match j {
         Judgement::Loaded(_) => print_marked(
-            src, j, c, g, t1, t2, t3, t4, t5, t6, t7, t8, t9, t10, i1, i7, work,
+            rt, src, j, c, g, t1, t2, t3, t4, t5, t6, t7, t8, t9, t10, i1, i7, work,
         ),
-        Judgement::NotRead(_) => reporting::print_answer(numbers::of_judgement(j)),
-        Judgement::NotValid(_) => reporting::print_answer(numbers::of_judgement(j)),
+        Judgement::NotRead(_) => reporting::print_answer(rt, numbers::of_judgement(j)),
+        Judgement::NotValid(_) => reporting::print_answer(rt, numbers::of_judgement(j)),
     }
 }
 
 fn run(
+    rt: &impl Print,
     src: &[u8],
     t1: &mut [u32],
     t2: &mut [u32],
@@ -182,14 +186,14 @@ fn run(
     let c = r.counts;
     let g = r.singles;
     print_loading(
-        src, j, c, g, t1, t2, t3, t4, t5, t6, t7, t8, t9, t10, i1, i7, work,
+        rt, src, j, c, g, t1, t2, t3, t4, t5, t6, t7, t8, t9, t10, i1, i7, work,
     );
 }
 
 // 1,024 rows a table and 2,048 slots an index, as for `specreport`.
-pub fn walk_input() {
+pub fn walk_input(rt: &(impl Input + Print)) {
     let mut text = [0u8; 65537];
-    let n = io::read_full(0, &mut text);
+    let n = streams::read_full(&mut rt.reader(), &mut text);
     let mut t1 = [0u32; 3072];
     let mut t2 = [0u32; 4096];
     let mut t3 = [0u32; 2048];
@@ -204,6 +208,7 @@ pub fn walk_input() {
     let mut i7 = [0u32; 2048];
     let mut work = [0u32; 64];
     run(
+        rt,
         &text[..n],
         &mut t1,
         &mut t2,
