@@ -6,11 +6,10 @@ use mathlib.Core.Bool.{Bool, true, false, ◌&&◌, ◌||◌, false≢true}
 use native.Mathlib.Omega.{arith}
 use lib.Dec.{leb, eqb}
 use lib.ListN.{length, get_or}
-use borrow.Author.Tests.{eq-eqb}
 use Rattle.scan.specs.declared.Place.{Place}
-use Rattle.scan.specs.Scan.{is_at, starts_at, begins}
+use Rattle.scan.specs.Scan.{starts_at}
 use Rattle.scan.specs.Loop.{Turn, more, stop, turns}
-use Rattle.scan.proofs.Bytes.{on_test, told, drop_key, at_here, at_true, starts_fits, starts_byte}
+use Rattle.scan.proofs.Bytes.{on_test, told, at_here, starts_fits, starts_byte}
 use Rattle.scan.proofs.Loop.{Either}
 use Rattle.whole.specs.Encode.{Text}
 use Rattle.words.specs.declared.Token.{Token}
@@ -21,7 +20,7 @@ use Rattle.words.proofs.Meaning.{token_iff, token_no_dot}
 use Rattle.texts.specs.declared.Action.{Action}
 use Rattle.texts.specs.declared.Action.TheVariants.{Body, OpenAction}
 use Rattle.texts.specs.Action.{action_at}
-use Rattle.tables.specs.Layout.{tokens, symbols, action}
+use Rattle.tables.specs.Layout.{tokens, symbols}
 use Rattle.grammar.specs.declared.State.{State}
 use Rattle.grammar.specs.declared.Answer.{Answer}
 use Rattle.grammar.specs.declared.Answer.TheVariants.{Going, Done, Refused}
@@ -39,7 +38,7 @@ use Rattle.items.specs.declared.Sort.TheVariants.{BarSort, EndSort, QuotedSort, 
 use Rattle.items.specs.declared.Spotted.{Spotted}
 use Rattle.items.proofs.Marks.{starts_one, ends_not}
 use Rattle.items.proofs.Far.{rule_end_never}
-use Rattle.items.specs.Items.{Made0, Made3, prec_word, first_mark, sort_at, with_to, with_last, with_action, symbol_entered, token_symbol, quoted_gap, quoted_rows, quoted_found, quoted_item, prec_found, prec_name, prec_gap, prec_item, may_end, action_gap, after_action, action_found, action_item, may_follow, empty_gap, empty_item, symbol_kind, bare_found, bare_item, end_production, bar_item, rule_end, end_item, by_sort, item_step, item_next, item_or_end, item_turn, item_list}
+use Rattle.items.specs.Items.{Made0, Made3, prec_word, first_mark, sort_at, with_to, with_last, with_action, symbol_entered, token_symbol, quoted_gap, quoted_rows, quoted_found, quoted_item, prec_found, prec_name, prec_gap, prec_item, may_end, action_gap, after_action, action_found, action_item, may_follow, empty_gap, empty_item, symbol_kind, bare_found, bare_item, end_production, bar_item, end_item, by_sort, item_step, item_next, item_or_end, item_turn, item_list}
 use Rattle.meaning.specs.Regions.{ActionMade}
 use Rattle.meaning.specs.Made.{SymbolMade, ProductionMade, MadeAt}
 use Rattle.meaning.proofs.Regions.{action_region}

@@ -1,5 +1,5 @@
 -- What the C name of prune left is what the others take: the counts in the numbers are those that are left, and the reading is valid. Assumes nothing.
-use Prim.Native.Nat.{ℕ, ◌+◌, ◌<◌}
+use Prim.Native.Nat.{◌≤◌, ℕ, ◌+◌, ◌<◌}
 use mathlib.Core.Path.{◌≡◌, refl, sym, ap, ◌∙◌}
 use mathlib.Core.List.{List, [], ◌∷◌, ◌++◌, append_assoc}
 use native.Mathlib.Omega.{arith}
@@ -23,7 +23,7 @@ use Rattle.quiltrudder.specs.Face.{validity_cells, validate_face, PruneFace}
 use Rattle.quiltrudder.proofs.Face.{cells_at}
 
 -- the numbers of a reading with ten of them rewritten
-module _ (m v : List ℕ) (long : length m ≡ 43) (ten : length v ≡ 10) where
+module _ (m v : List ℕ) (long : 14 ≤ length m) (ten : length v ≡ 10) where
   front : length (take 4 m) ≡ 4
   front = length-take-le 4 m (omega arith)
 
@@ -44,7 +44,7 @@ module _ (m v : List ℕ) (long : length m ≡ 43) (ten : length v ≡ 10) where
       rw e at a ∙ b ∙ get_or-drop 14 m k 0
 
 -- the counts that are taken out of them, and the singles
-module _ (m : List ℕ) (d : Counts) (long : length m ≡ 43) where
+module _ (m : List ℕ) (d : Counts) (long : 14 ≤ length m) where
   counts_are : (counts_of (put m 4 (counts_cells d))).n ≡ counts_cells d
   counts_are = rw (inside m (counts_cells d) long refl 0 (omega arith), inside m (counts_cells d) long refl 1 (omega arith), inside m (counts_cells d) long refl 2 (omega arith), inside m (counts_cells d) long refl 3 (omega arith), inside m (counts_cells d) long refl 4 (omega arith), inside m (counts_cells d) long refl 5 (omega arith), inside m (counts_cells d) long refl 6 (omega arith), inside m (counts_cells d) long refl 7 (omega arith), inside m (counts_cells d) long refl 8 (omega arith), inside m (counts_cells d) long refl 9 (omega arith)) refl
 
@@ -55,7 +55,7 @@ module _ (m : List ℕ) (d : Counts) (long : length m ≡ 43) where
   singles_after = rw (past m (counts_cells d) long refl 0, past m (counts_cells d) long refl 1, past m (counts_cells d) long refl 2, past m (counts_cells d) long refl 3, past m (counts_cells d) long refl 4, past m (counts_cells d) long refl 5, past m (counts_cells d) long refl 6, past m (counts_cells d) long refl 7, past m (counts_cells d) long refl 8, past m (counts_cells d) long refl 9, past m (counts_cells d) long refl 10, past m (counts_cells d) long refl 11, past m (counts_cells d) long refl 12, past m (counts_cells d) long refl 13, past m (counts_cells d) long refl 14, past m (counts_cells d) long refl 15, past m (counts_cells d) long refl 16, past m (counts_cells d) long refl 17, past m (counts_cells d) long refl 18, past m (counts_cells d) long refl 19, past m (counts_cells d) long refl 20, past m (counts_cells d) long refl 21, past m (counts_cells d) long refl 22, past m (counts_cells d) long refl 23) refl
 
 -- behind a pruning that went through
-module _ (src m₀ m : List ℕ) (T₀ T : Tables) (X₀ X : Indexes) (ws₀ ws a : List ℕ) (long : length m₀ ≡ 43) (r : PruneFace src m₀ m T₀ T X₀ X ws₀ ws a) (e : r.pruning ≡ AllPruned) where
+module _ (src m₀ m : List ℕ) (T₀ T : Tables) (X₀ X : Indexes) (ws₀ ws a : List ℕ) (long : 14 ≤ length m₀) (r : PruneFace src m₀ m T₀ T X₀ X ws₀ ws a) (e : r.pruning ≡ AllPruned) where
   went : Prunings src (singles_of m₀) AllPruned (record { counts = counts_of m₀; tables = T₀; indexes = X₀; work = ws₀ }) (record { counts = r.counts; tables = T; indexes = X; work = ws })
   went = rw e at r.pruned
 

@@ -1,5 +1,5 @@
 -- Request Twelve, writing: "Writing answers the count of blocks; bytes past them are zero." "Writing refuses 43, 44, then 42 for the blocks (table 18, 0..0), which are zero after each."
-use Rattle.std.specs.Prelude.{ℕ, ◌+◌, ◌*◌, ◌≡◌, List, [], ◌∷◌, Bool, true, false, ◌&&◌, leb, length}
+use Rattle.std.specs.Prelude.{ℕ, ◌*◌, List, [], ◌∷◌, Bool, true, false, ◌&&◌, leb, length}
 use Rattle.blocks.specs.Blocks.{blocks_for, blocks_of}
 use Rattle.tables.specs.Table.{zeroed}
 use Rattle.grammar.specs.declared.Counts.{Counts}

@@ -1,5 +1,5 @@
 -- What counting and writing leave. Assumes nothing.
-use Prim.Native.Nat.{ℕ, suc, ◌+◌, ◌*◌, ◌/◌, ◌<◌, ◌≤◌, ◌^◌}
+use Prim.Native.Nat.{ℕ, ◌+◌, ◌*◌, ◌/◌, ◌<◌, ◌≤◌, ◌^◌}
 use mathlib.Core.Path.{◌≡◌, sym, ap, ◌∙◌}
 use mathlib.Core.List.{List, [], ◌∷◌, ◌++◌}
 use mathlib.Core.Bool.{Bool, true, false, false≢true}
@@ -11,7 +11,7 @@ use lib.ListN.{length, length-append}
 use Rattle.scan.proofs.Bytes.{le_or_lt}
 use Rattle.tables.specs.Table.{zeroed}
 use Rattle.reach.specs.Reach.{words_for}
-use Rattle.usage.specs.Report.{Picks, Lists, total, Crowded, Filled, Counted, Room, Fits, Exceeds, Crowds, Written}
+use Rattle.usage.specs.Report.{Picks, Crowded, Filled, Counted, Room, Fits, Exceeds, Crowds, Written}
 use Rattle.usage.proofs.Picked.{picks_yes, picks_one, picks_le, picks_bound, both_cells}
 
 -- a row to be listed, and those before it, are no more than all of them

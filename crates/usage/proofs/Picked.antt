@@ -7,9 +7,8 @@ use mathlib.Core.Logic.{⊎_elim}
 use mathlib.Core.Bool.{Bool, true, false}
 use native.Mathlib.Omega.{arith}
 use native.Mathlib.Numerals.{add-one}
-use native.Mathlib.Nat.{add-zero, sub-zero, zero-sub, suc-sub-suc}
 use native.Mathlib.Decide.{ℕ_discrete, dec_lt}
-use lib.ListN.{length, set, length-append, drop, replicate, length-replicate, get_or, get_or-append}
+use lib.ListN.{length, set, length-append, replicate, length-replicate, get_or, get_or-append}
 use lib.Seq.{sets, length-sets, sets-eq, get_or-append_seam}
 use Rattle.tables.proofs.Rows.{drop_zeros, sets_append}
 use Rattle.usage.specs.Report.{Picks, none, take, skip, Counted, rows_of, Says, Wrote, Room, Written}

@@ -1,5 +1,5 @@
 -- Document 01: "Used: [..]. Excused: names of the same kind in table 6, and tokens named in table 4." Which rows stand in the unused report, and in what order.
-use Rattle.std.specs.Prelude.{ℕ, suc, ◌+◌, ◌*◌, ◌-◌, ◌<◌, ◌≤◌, ◌^◌, ◌≡◌, Bool, true, false, List, [], ◌∷◌, ◌++◌, length, replicate, set, eqb}
+use Rattle.std.specs.Prelude.{ℕ, suc, ◌+◌, ◌*◌, ◌-◌, ◌<◌, ◌≤◌, ◌≡◌, Bool, true, false, List, [], ◌∷◌, ◌++◌, length, replicate, set}
 use Rattle.std.proofs.lemmas.List.Edits.{sets}
 use Rattle.tables.specs.Table.{cell, has_name, zeroed}
 use Rattle.tables.specs.Layout.{implicit, unused, kind_name, width}
@@ -8,12 +8,11 @@ use Rattle.grammar.specs.declared.Singles.{Singles}
 use Rattle.grammar.specs.Sound.{Tables, Indexes}
 use Rattle.sound.specs.Test.{count_at}
 use Rattle.finder.specs.Finder.{LeadsTo, LedOf}
-use Rattle.validation.specs.declared.Flaw.{Flaw}
 use Rattle.validation.specs.declared.Validity.{Validity}
 use Rattle.validation.specs.declared.Validity.TheVariants.{Valid, UnsoundTables, Invalid}
 use Rattle.validation.specs.Faults.{flaw_numbers, validity}
 use Rattle.bits.specs.Bits.{bit}
-use Rattle.reach.specs.Reach.{Named, named, rule_sort, token_sort, Grammar, grammar_of, need, UsedRule, UsedToken, Work, Marks}
+use Rattle.reach.specs.Reach.{Named, Grammar, grammar_of, need, UsedRule, UsedToken, Work, Marks}
 use Rattle.usage.specs.declared.Listing.{Listing}
 use Rattle.usage.specs.declared.Listing.TheVariants.{Unused, OfUnsound, OfInvalid, NoWords, NoRoom}
 use Rattle.usage.specs.declared.Marking.{Marking}

@@ -31,13 +31,12 @@ shape_of-out-then-lines-ne0 c = c.put_spaced-m.auto.out ∙ c.loop-i.invariant.0
 pub returns-then-lines-ne0 : goal.returns-then-lines-ne0
 unfolding line_words
 returns-then-lines-ne0 c =
-    let j = c.j-1.given in
-    let g = told (Gapped _ _) j.1 c.pass_gap.ensures.moved in
+    let g = told (Gapped _ _) c.in-GapTo.is c.pass_gap.ensures.moved in
     let a = c.token_end-e.ensures.moved.onward in
     let d = g.0 in
     let b = g.1 in
     let i = c.loop-i.invariant.1 in
-    let t = line_ends_lem _ _ _ _ c.token_end-e.ensures.is c.if-e-i.false _ c.pass_gap.ensures.is _ _ j.1 c.if-lines-ne0.true in
+    let t = line_ends_lem _ _ _ _ c.token_end-e.ensures.is c.if-e-i.false _ c.pass_gap.ensures.is _ _ c.in-GapTo.is c.if-lines-ne0.true in
     record {
       is = sofar_last _ _ _ _ _ _ _ _ _ c.loop-i.invariant.3 (record { text = spaced _ c.loop-i.i c.token_end-e.result; at = _ }) t _ (wrote_at _ _ _ _ _ _ _ c.put_spaced-m.ensures refl);
       moved = record { onward = omega arith; inside = b };
@@ -55,14 +54,13 @@ loop-i-smaller c =
 
 pub loop-i-preserved : goal.loop-i-preserved
 loop-i-preserved c =
-    let j = c.j-1.given in
-    let g = told (Gapped _ _) j.1 c.pass_gap.ensures.moved in
+    let g = told (Gapped _ _) c.in-GapTo.is c.pass_gap.ensures.moved in
     let a = c.token_end-e.ensures.moved.onward in
     let d = g.0 in
     let b = g.1 in
     let h = c.if-e-i.false in
     let i = c.loop-i.invariant.1 in
-    let t = line_more _ _ _ _ c.token_end-e.ensures.is h _ c.pass_gap.ensures.is _ _ j.1 c.if-lines-ne0.false in (
+    let t = line_more _ _ _ _ c.token_end-e.ensures.is h _ c.pass_gap.ensures.is _ _ c.in-GapTo.is c.if-lines-ne0.false in (
       c.put_spaced-m.auto.out ∙ c.loop-i.invariant.0,
       omega arith,
       b,

@@ -4,14 +4,14 @@ use native.Mathlib.Omega.{arith}
 use Rattle.shipper.proofs.Laws.{passed_from, sort_wrote, prec_wrote}
 use Rattle.shipper.proofs.ship_sort.Goals as goal
 
-pub enum_told-in-EndSort : goal.enum_told-in-EndSort
-enum_told-in-EndSort c = c.requires.1
+pub ship_mark-requires : goal.ship_mark-requires
+ship_mark-requires c = c.requires.1
+
+pub ship_mark-requires-in-EndSort : goal.ship_mark-requires-in-EndSort
+ship_mark-requires-in-EndSort c = c.requires.1
 
 pub ship_piece-requires : goal.ship_piece-requires
-ship_piece-requires c = c.requires.1
-
-pub put_text-m-requires : goal.put_text-m-requires
-put_text-m-requires c = c.requires.0
+ship_piece-requires c = c.requires.0
 
 pub gap_end-requires : goal.gap_end-requires
 gap_end-requires c = c.requires.1
@@ -22,8 +22,8 @@ ship_piece-requires-in-PrecSort c = record { within = c.gap_end.ensures.moved.in
 pub ship_piece-requires-in-ActionSort : goal.ship_piece-requires-in-ActionSort
 ship_piece-requires-in-ActionSort c = c.requires.0
 
-pub enum_told-in-BareSort : goal.enum_told-in-BareSort
-enum_told-in-BareSort c = c.requires.1
+pub ship_mark-requires-in-EmptySort : goal.ship_mark-requires-in-EmptySort
+ship_mark-requires-in-EmptySort c = c.requires.1
 
 pub ship_piece-requires-in-BareSort : goal.ship_piece-requires-in-BareSort
 ship_piece-requires-in-BareSort c = c.requires.0

@@ -3,47 +3,47 @@ use Rattle.grammar.proofs.Steps.{still}
 use Rattle.shipper.proofs.Laws.{passed_from, word_wrote, wrote_none}
 use Rattle.shipper.proofs.ship_word.Goals as goal
 
-pub enum_told-in-ActiontypeWord : goal.enum_told-in-ActiontypeWord
-enum_told-in-ActiontypeWord c = c.requires.1
+pub ship_list-requires : goal.ship_list-requires
+ship_list-requires c = c.requires.1
+
+pub ship_one-requires : goal.ship_one-requires
+ship_one-requires c = c.requires.1
 
 pub ship_one-requires-in-StartWord : goal.ship_one-requires-in-StartWord
 ship_one-requires-in-StartWord c = c.requires.1
 
-pub enum_told-in-ExpectRrWord : goal.enum_told-in-ExpectRrWord
-enum_told-in-ExpectRrWord c = c.requires.1
+pub ship_epp-requires : goal.ship_epp-requires
+ship_epp-requires c = c.requires.1
+
+pub ship_one-requires-in-ExpectRrWord : goal.ship_one-requires-in-ExpectRrWord
+ship_one-requires-in-ExpectRrWord c = c.requires.1
 
 pub ship_list-requires-in-ExpectUnusedWord : goal.ship_list-requires-in-ExpectUnusedWord
 ship_list-requires-in-ExpectUnusedWord c = c.requires.1
 
-pub enum_told-in-AvoidInsertWord : goal.enum_told-in-AvoidInsertWord
-enum_told-in-AvoidInsertWord c = c.requires.1
+pub ship_one-requires-in-ExpectWord : goal.ship_one-requires-in-ExpectWord
+ship_one-requires-in-ExpectWord c = c.requires.1
+
+pub ship_line-requires : goal.ship_line-requires
+ship_line-requires c = c.requires.1
 
 pub ship_param-requires : goal.ship_param-requires
 ship_param-requires c = c.requires.1
 
-pub enum_told-in-ImplicitTokensWord : goal.enum_told-in-ImplicitTokensWord
-enum_told-in-ImplicitTokensWord c = c.requires.1
+pub ship_one-requires-in-ParseGenericsWord : goal.ship_one-requires-in-ParseGenericsWord
+ship_one-requires-in-ParseGenericsWord c = c.requires.1
+
+pub ship_line-requires-in-ImplicitTokensWord : goal.ship_line-requires-in-ImplicitTokensWord
+ship_line-requires-in-ImplicitTokensWord c = c.requires.1
 
 pub ship_line-requires-in-LeftWord : goal.ship_line-requires-in-LeftWord
 ship_line-requires-in-LeftWord c = c.requires.1
 
-pub enum_told-in-NonassocWord : goal.enum_told-in-NonassocWord
-enum_told-in-NonassocWord c = c.requires.1
+pub ship_line-requires-in-RightWord : goal.ship_line-requires-in-RightWord
+ship_line-requires-in-RightWord c = c.requires.1
 
 pub ship_line-requires-in-NonassocWord : goal.ship_line-requires-in-NonassocWord
 ship_line-requires-in-NonassocWord c = c.requires.1
-
-pub enum_told-in-PrologueWord : goal.enum_told-in-PrologueWord
-enum_told-in-PrologueWord c = c.requires.1
-
-pub enum_told-in-UnionWord : goal.enum_told-in-UnionWord
-enum_told-in-UnionWord c = c.requires.1
-
-pub enum_told-in-TypeWord : goal.enum_told-in-TypeWord
-enum_told-in-TypeWord c = c.requires.1
-
-pub enum_told-in-NoKeyword : goal.enum_told-in-NoKeyword
-enum_told-in-NoKeyword c = c.requires.1
 
 pub returns-in-Percents : goal.returns-in-Percents
 returns-in-Percents c =

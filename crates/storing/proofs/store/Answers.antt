@@ -3,7 +3,6 @@ use Prim.Native.Nat.{ℕ, ◌+◌, ◌/◌, ◌<◌}
 use mathlib.Core.Path.{refl, sym, ap, ◌∙◌}
 use native.Mathlib.Omega.{arith}
 use lib.ListN.{length}
-use borrow.Author.Rules.{rules}
 use borrow.Author.Tests.{not-true, not-false}
 use Rattle.storing.proofs.Laws.{reading_short, reading_fits, reading_few, kind_known, kind_unknown, store_unknown, store_unsound, store_full, store_right}
 use Rattle.storing.proofs.store.Goals as goal

@@ -1,10 +1,9 @@
 -- `usage::count_free`: the rows passed so far that are to be listed are counted.
-use Prim.Native.Nat.{◌-◌}
 use mathlib.Core.Path.{◌≡◌}
-use mathlib.Core.Logic.{⊎_elim}
 use native.Mathlib.Omega.{arith}
 use Rattle.usage.proofs.Picked.{says_yes, says_no, counted_none, counted_yes, counted_no, picks_bound}
 use Rattle.usage.proofs.count_free.Goals as goal
+use Rattle.usage.proofs.count_free.Goals.{else-is_listed, then-is_listed}
 
 pub loop-row-init : goal.loop-row-init
 loop-row-init c = (omega arith, counted_none _)
@@ -18,10 +17,7 @@ overflow_add-found c = omega (arith, picks_bound c.loop-row.invariant.1.picks, c
 pub loop-row-preserved : goal.loop-row-preserved
 loop-row-preserved c = (
   omega arith,
-  ⊎_elim
-      (λ w. counted_yes _ c.loop-row.invariant.1 (says_yes _ _ w.0.taken c.is_listed.ensures) w.1)
-      (λ w. counted_no _ c.loop-row.invariant.1 (says_no _ _ w.0.left c.is_listed.ensures) w.1)
-      c.if-is_listed.branch,
+  elim c.if-is_listed.branch [ then-is_listed w ↦ counted_yes _ c.loop-row.invariant.1 (says_yes _ _ w.if-is_listed.true c.is_listed.ensures) w.found-is | else-is_listed w ↦ counted_no _ c.loop-row.invariant.1 (says_no _ _ w.if-is_listed.false c.is_listed.ensures) w.found-is ],
 )
 
 pub returns : goal.returns

@@ -16,11 +16,11 @@ count_sort-first-requires c = (let it : c.rule_sort-rules.result.base < 2 ^ 40 =
 
 pub count_sort-second-requires : goal.count_sort-second-requires
 count_sort-second-requires c =
-    (let it : c.token_sort-tokens.result.base < 2 ^ 40 = rw ((c.token_sort-tokens.ensures)) (base_low _ (rw ((c.rule_sort-rules.ensures)) at c.rule_sort-rules.type-inv.1.1.1.1.0.1)) in it)
+    (let it : c.token_sort-tokens.result.base < 2 ^ 40 = rw ((c.token_sort-tokens.ensures)) (base_low _ (rw ((c.rule_sort-rules.ensures)) at c.rule_sort-rules.type_inv.1.1.1.1.0.1)) in it)
 
 pub overflow_add-result : goal.overflow_add-result
 overflow_add-result c =
-    omega (arith, picks_bound c.count_sort-first.ensures.picks, c.count_sort-first.ensures.count_is, c.rule_sort-rules.type-inv.1.1.1.1.0.1, picks_bound c.count_sort-second.ensures.picks, c.count_sort-second.ensures.count_is, c.token_sort-tokens.type-inv.1.1.1.1.0.1)
+    omega (arith, picks_bound c.count_sort-first.ensures.picks, c.count_sort-first.ensures.count_is, c.rule_sort-rules.type_inv.1.1.1.1.0.1, picks_bound c.count_sort-second.ensures.picks, c.count_sort-second.ensures.count_is, c.token_sort-tokens.type_inv.1.1.1.1.0.1)
 
 pub returns : goal.returns
 returns c =

@@ -15,7 +15,7 @@ write_sort-at-requires c =
 pub write_sort-all-requires : goal.write_sort-all-requires
 write_sort-all-requires c =
     let w = rw c.rule_sort.ensures at c.write_sort-at.ensures in
-    (rw c.token_sort.ensures (base_low _ (rw c.rule_sort.ensures at c.rule_sort.type-inv.1.1.1.1.0.1)), rw c.token_sort.ensures (second_room c.zero.new.t (crowds_no _ _ c.if-is_crowded.false c.is_crowded.ensures) (written_size w) w))
+    (rw c.token_sort.ensures (base_low _ (rw c.rule_sort.ensures at c.rule_sort.type_inv.1.1.1.1.0.1)), rw c.token_sort.ensures (second_room c.zero.new.t (crowds_no _ _ c.if-is_crowded.false c.is_crowded.ensures) (written_size w) w))
 
 pub returns : goal.returns
 returns c =

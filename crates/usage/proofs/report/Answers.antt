@@ -2,7 +2,6 @@
 use Prim.Native.Nat.{ℕ}
 use mathlib.Core.Path.{◌≡◌}
 use native.Mathlib.Omega.{arith}
-use borrow.Author.Rules.{rules}
 use Rattle.usage.proofs.Outcome.{report_listed, report_refused}
 use Rattle.usage.proofs.report.Goals as goal
 

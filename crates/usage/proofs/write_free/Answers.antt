@@ -1,10 +1,9 @@
 -- `usage::write_free`: the rows passed so far that are to be listed are written, one behind the other.
-use Prim.Native.Nat.{◌-◌}
 use mathlib.Core.Path.{◌≡◌}
-use mathlib.Core.Logic.{⊎_elim}
 use native.Mathlib.Omega.{arith}
 use Rattle.usage.proofs.Picked.{written_none, written_yes, written_no, wrote_yes, wrote_no, room_next, written_size}
 use Rattle.usage.proofs.write_free.Goals as goal
+use Rattle.usage.proofs.write_free.Goals.{else-write_one, then-write_one}
 
 pub loop-row-init : goal.loop-row-init
 loop-row-init c = (omega arith, written_none _ _ _ _)
@@ -20,10 +19,7 @@ overflow_add-next c =
 pub loop-row-preserved : goal.loop-row-preserved
 loop-row-preserved c = (
   omega arith,
-  ⊎_elim
-      (λ w. let y = wrote_yes _ _ _ _ _ _ _ w.0.taken c.write_one.ensures in written_yes _ c.loop-row.invariant.1 y.0 y.1 w.1)
-      (λ w. let y = wrote_no _ _ _ _ _ _ _ w.0.left c.write_one.ensures in written_no _ c.loop-row.invariant.1 y.0 y.1 w.1)
-      c.if-write_one.branch,
+  elim c.if-write_one.branch [ then-write_one w ↦ let y = wrote_yes _ _ _ _ _ _ _ w.if-write_one.true c.write_one.ensures in written_yes _ c.loop-row.invariant.1 y.0 y.1 w.next-is | else-write_one w ↦ let y = wrote_no _ _ _ _ _ _ _ w.if-write_one.false c.write_one.ensures in written_no _ c.loop-row.invariant.1 y.0 y.1 w.next-is ],
 )
 
 pub shape_of-out : goal.shape_of-out
