@@ -27,7 +27,7 @@ use Rattle.grammar.specs.Cells.{tag_cells, number_cells}
 use Rattle.grammar.specs.State.{Out0, Passed, pass_on}
 use Rattle.grammar.proofs.SameKind.{pass_kind}
 use Rattle.marks.specs.Marks.{Leading, no_tag, tag_found, lead_tag, tag_given, tag_row, number_given, number_behind, number_after, behind_word}
-use Rattle.refusals.specs.Steps.{Sited, Sited0, Sited1}
+use Rattle.refusals.specs.Steps.{Sited, Sited1}
 use Rattle.refusals.proofs.Steps.{past_in, pass_in, push_to}
 
 -- a tag there is where P alone

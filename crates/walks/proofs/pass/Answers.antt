@@ -1,0 +1,33 @@
+-- `walks::pass`: rules are sought first, and tokens where none of them is left.
+use native.Mathlib.Omega.{arith}
+use Rattle.reach.specs.Reach.{named, rule_sort, token_sort}
+use Rattle.usage.specs.Report.{excuses_of}
+use Rattle.usage.proofs.Passes.{base_low}
+use Rattle.walks.proofs.Laws.{passed_rule, passed_token, passed_all, found_below}
+use Rattle.walks.proofs.pass.Goals as goal
+
+-- a count is a 32-bit number, so the bits lie low
+pub first_free-requires : goal.first_free-requires
+first_free-requires c = rw ((c.rule_sort-rules.ensures)) (omega arith)
+
+pub overflow_add-result : goal.overflow_add-result
+overflow_add-result c = record { fits = omega (arith, found_below _ _ _ _ _ c.first_free.ensures c.in-RowAt.is, c.rule_sort-rules.type_inv.1.1.1.1.0.1) }
+
+pub first_free-requires-in-NoRow : goal.first_free-requires-in-NoRow
+first_free-requires-in-NoRow c = rw ((c.token_sort-tokens.ensures)) (base_low _ (rw ((c.rule_sort-rules.ensures)) at c.rule_sort-rules.type_inv.1.1.1.1.0.1))
+
+pub overflow_add-result-in-RowAt-first_free : goal.overflow_add-result-in-RowAt-first_free
+overflow_add-result-in-RowAt-first_free c =
+    record { fits = omega (arith, found_below _ _ _ _ _ c.first_free-in-NoRow.ensures c.in-RowAt-first_free.is, c.token_sort-tokens.type_inv.1.1.1.1.0.1) }
+
+pub returns-in-RowAt : goal.returns-in-RowAt
+returns-in-RowAt c =
+    passed_rule c.args.w.now (excuses_of c.args.src.now c.args.c c.args.t4.now c.args.t6.now) (named c.args.t7.now (rule_sort c.args.c)) (named c.args.t1.now (token_sort c.args.c)) c.args.at _ _ (rw ((c.rule_sort-rules.ensures)) at c.first_free.ensures) c.in-RowAt.is
+
+pub returns-in-RowAt-first_free : goal.returns-in-RowAt-first_free
+returns-in-RowAt-first_free c =
+    passed_token c.args.w.now (excuses_of c.args.src.now c.args.c c.args.t4.now c.args.t6.now) (named c.args.t7.now (rule_sort c.args.c)) (named c.args.t1.now (token_sort c.args.c)) c.args.at _ (rw ((c.rule_sort-rules.ensures)) at c.first_free.ensures) c.in-NoRow.is _ _ (rw ((c.token_sort-tokens.ensures)) at c.first_free-in-NoRow.ensures) c.in-RowAt-first_free.is
+
+pub returns-in-NoRow-first_free : goal.returns-in-NoRow-first_free
+returns-in-NoRow-first_free c =
+    passed_all c.args.w.now (excuses_of c.args.src.now c.args.c c.args.t4.now c.args.t6.now) (named c.args.t7.now (rule_sort c.args.c)) (named c.args.t1.now (token_sort c.args.c)) c.args.at _ (rw ((c.rule_sort-rules.ensures)) at c.first_free.ensures) c.in-NoRow.is _ (rw ((c.token_sort-tokens.ensures)) at c.first_free-in-NoRow.ensures) c.in-NoRow-first_free.is
