@@ -1,9 +1,9 @@
 -- What a load answers and leaves, in terms of the read and of validation; that it never answers 44; one outcome. Assumes nothing.
 use Prim.Native.Nat.{ℕ, ◌+◌, ◌≤◌, ◌<◌}
 use mathlib.Core.Path.{◌≡◌, refl, sym, ap, ◌∙◌}
-use mathlib.Core.List.{List, [], ◌∷◌, ◌++◌}
-use mathlib.Core.Bool.{true, false≢true}
-use mathlib.Core.Logic.{◌↔◌, ◌⊎◌, inl, inr}
+use mathlib.Core.List.{List, [], ◌∷◌}
+use mathlib.Core.Bool.{false≢true}
+use mathlib.Core.Logic.{◌↔◌, inl, inr}
 use native.Mathlib.Omega.{arith}
 use lib.ListN.{length, get_or}
 use Rattle.scan.proofs.Bytes.{told}
@@ -23,7 +23,6 @@ use Rattle.reader.specs.Allowed.{RepeatsOnly, Full, Cleared}
 use Rattle.reader.proofs.Sound.{read_sound, read_posix_sound, read_ten, read_three, read_values, stopped_clean}
 use Rattle.refusals.specs.Refusal.{ReadNumber}
 use Rattle.refusals.proofs.Read.{refusal_documented}
-use Rattle.sound.specs.Test.{sound_test}
 use Rattle.sound.proofs.Iff.{sound_iff}
 use Rattle.validation.specs.declared.Flaw.{Flaw}
 use Rattle.validation.specs.declared.Flaw.TheVariants.{NoStartRule, InvalidStartRule, UnknownRuleRef, UnknownTokenRef, UnknownPrecToken, NoPrecForToken, UnknownEppKey}

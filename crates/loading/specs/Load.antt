@@ -4,14 +4,12 @@ use Rattle.std.specs.Prelude.{ℕ, ◌≡◌, List, [], ◌∷◌, ◌++◌}
 use Rattle.grammar.specs.declared.Counts.{Counts}
 use Rattle.grammar.specs.declared.PosixCounts.{PosixCounts}
 use Rattle.grammar.specs.declared.Singles.{Singles}
-use Rattle.grammar.specs.declared.Refusal.{Refusal}
 use Rattle.grammar.specs.Numbers.{refusal_numbers}
 use Rattle.grammar.specs.Sound.{AllTables, ten_of, Indexes}
 use Rattle.reader.specs.declared.Verdict.{Verdict}
 use Rattle.reader.specs.declared.Verdict.TheVariants.{Accepted, Rejected}
 use Rattle.reader.specs.Read.{Result, read_all}
 use Rattle.reader.specs.Allowed.{RepeatsOnly}
-use Rattle.validation.specs.declared.Flaw.{Flaw}
 use Rattle.validation.specs.declared.Validity.{Validity}
 use Rattle.validation.specs.declared.Validity.TheVariants.{Valid, UnsoundTables, Invalid}
 use Rattle.validation.specs.Faults.{flaw_numbers, validity}

@@ -1,21 +1,20 @@
 -- A trimmed action ends before the brace that closes it, whatever the bytes: no code point reaches over an ASCII byte. Assumes nothing.
 use Prim.Native.Nat.{ℕ, zero, suc, ◌+◌, ◌-◌, ◌*◌, ◌≤◌, ◌<◌}
-use mathlib.Core.Path.{◌≡◌, refl, sym, ◌∙◌, ap}
+use mathlib.Core.Path.{◌≡◌, refl, ◌∙◌, ap}
 use mathlib.Core.List.{List, [], ◌∷◌}
 use mathlib.Core.Bool.{Bool, true, false}
 use native.Mathlib.Omega.{arith}
 use lib.Dec.{ltb, eqb}
-use lib.ListN.{length, get_or, drop, drop_of_length-le}
+use lib.ListN.{length, get_or, drop}
 use lib.Seq.{get_or-drop}
 use borrow.Author.Tests.{ltb-true}
 use native.Mathlib.Decide.{dec_lt}
 use Rattle.scan.specs.Scan.{within}
 use Rattle.scan.specs.Loop.{stop}
-use Rattle.scan.specs.declared.Place.{Place}
 use Rattle.scan.proofs.Bytes.{on_test, within_true}
 use Rattle.scan.proofs.Loop.{Either, turns_keep}
 use Rattle.utf8.specs.White.{is_white}
-use Rattle.utf8.specs.Utf8.{lead_of, follow, begun, decode, decode_at, Fitting}
+use Rattle.utf8.specs.Utf8.{lead_of, follow, begun, decode, decode_at}
 use Rattle.utf8.specs.declared.Lead.{Lead}
 use Rattle.utf8.specs.declared.Lead.TheVariants.{One, More, Never}
 use Rattle.utf8.specs.declared.Decoded.{Decoded}

@@ -1,15 +1,13 @@
 -- Each item of a production that is taken, and the items of a rule, keep places nested. Assumes nothing.
-use Prim.Native.Nat.{ℕ, zero, suc, ◌+◌, ◌-◌, ◌*◌, ◌≤◌, ◌<◌}
+use Prim.Native.Nat.{ℕ, suc, ◌+◌, ◌-◌, ◌*◌, ◌≤◌, ◌<◌}
 use mathlib.Core.Path.{◌≡◌, refl, sym, ◌∙◌}
 use mathlib.Core.List.{List, [], ◌∷◌}
-use mathlib.Core.Bool.{Bool, true, false, ◌&&◌, ◌||◌}
+use mathlib.Core.Bool.{Bool, true, false, ◌&&◌}
 use native.Mathlib.Omega.{arith}
 use lib.Dec.{leb, eqb}
-use lib.ListN.{length, get_or, length-set}
-use borrow.Author.Tests.{eq-eqb}
-use Rattle.scan.specs.Scan.{is_at, starts_at, begins}
-use Rattle.scan.specs.Loop.{Turn, more, stop, turns}
-use Rattle.scan.proofs.Bytes.{on_test, drop_key, at_true}
+use lib.ListN.{length, length-set}
+use Rattle.scan.specs.Scan.{starts_at}
+use Rattle.scan.proofs.Bytes.{on_test}
 use Rattle.scan.proofs.Loop.{Either, turns_end}
 use Rattle.words.specs.declared.Token.{Token}
 use Rattle.words.specs.declared.Token.TheVariants.{Found, NoToken}
@@ -22,10 +20,9 @@ use Rattle.texts.proofs.Laws.{action_placed}
 use Rattle.tables.specs.declared.Entered.{Entered}
 use Rattle.tables.specs.declared.Entered.TheVariants.{Rows, Full}
 use Rattle.tables.specs.Table.{Added, put, flag, enter_token}
-use Rattle.tables.specs.Layout.{tokens, productions, symbols, posix_from, width}
+use Rattle.tables.specs.Layout.{tokens, productions, symbols, posix_from}
 use Rattle.tables.proofs.Cases.{add_cases}
 use Rattle.grammar.specs.declared.State.{State}
-use Rattle.grammar.specs.declared.Refusal.{Refusal}
 use Rattle.grammar.specs.declared.Answer.{Answer}
 use Rattle.grammar.specs.declared.Answer.TheVariants.{Going, Done, Refused}
 use Rattle.grammar.specs.declared.Gap.{Gap}
@@ -42,13 +39,13 @@ use Rattle.productions.specs.Cells.{production_cells, push_production}
 use Rattle.items.specs.declared.Sort.{Sort}
 use Rattle.items.specs.declared.Sort.TheVariants.{BarSort, EndSort, QuotedSort, PrecSort, ActionSort, EmptySort, BareSort}
 use Rattle.items.specs.declared.Spotted.{Spotted}
-use Rattle.items.specs.Items.{Made0, Made1, Made2, Made3, marks, first_mark, sort_at, with_to, with_action, with_last, symbol_entered, token_symbol, quoted_gap, quoted_rows, quoted_found, quoted_item, prec_found, prec_name, prec_gap, prec_item, may_end, action_gap, after_action, action_found, action_item, may_follow, empty_gap, empty_item, symbol_kind, bare_found, bare_item, end_production, bar_item, rule_end, end_item, by_sort, item_step, item_next, item_or_end, item_turn, item_list}
+use Rattle.items.specs.Items.{Made0, Made3, first_mark, sort_at, with_to, with_action, with_last, symbol_entered, token_symbol, quoted_gap, quoted_rows, quoted_found, quoted_item, prec_found, prec_name, prec_gap, prec_item, may_end, action_gap, after_action, action_found, action_item, may_follow, empty_gap, empty_item, symbol_kind, bare_found, bare_item, end_production, bar_item, rule_end, end_item, by_sort, item_step, item_next, item_or_end, item_turn, item_list}
 use Rattle.items.specs.Draft.{Draft}
 use Rattle.items.proofs.Marks.{ends_not, spots}
 use Rattle.items.proofs.Far.{refused_undone, rule_end_never, going_taken, pass_onward, draft_on, quoted_far, prec_far, action_far, empty_far, bare_far, filled, Steps, item_far, Ongoing}
-use Rattle.nesting.specs.Under.{Lain, Lying, Settled, Nested}
+use Rattle.nesting.specs.Under.{Settled, Nested}
 use Rattle.nesting.proofs.Closes.{ActionEnded, action_ended}
-use Rattle.nesting.proofs.Laws.{lain_on, Actionless, shut_free, lying_symbol, lying_to, lying_on, lying_action, lying_over, lying_begun}
+use Rattle.nesting.proofs.Laws.{Actionless, shut_free, lying_symbol, lying_to, lying_on, lying_action, lying_over, lying_begun}
 
 -- a row more, where there was room
 pub record RowPushed (s : State) (k : ℕ) (row t : List ℕ) (o : Out1) : Type 0 where

@@ -1,21 +1,21 @@
 -- Places that nest so far, under each change that an item makes: one law for each. Assumes nothing.
-use Prim.Native.Nat.{ℕ, zero, suc, ◌+◌, ◌*◌, ◌≤◌, ◌<◌}
-use mathlib.Core.Path.{◌≡◌, refl, sym, ◌∙◌}
-use mathlib.Core.List.{List, [], ◌∷◌}
-use mathlib.Core.Bool.{Bool, true, false}
+use Prim.Native.Nat.{ℕ, ◌+◌, ◌*◌, ◌≤◌, ◌<◌}
+use mathlib.Core.Path.{◌≡◌, refl}
+use mathlib.Core.List.{List}
+use mathlib.Core.Bool.{true}
 use native.Mathlib.Omega.{arith}
 use native.Mathlib.Decide.{dec_lt}
 use lib.ListN.{length, get_or}
 use Rattle.tables.specs.Table.{put}
-use Rattle.tables.specs.Rows.{row_at, Rows}
-use Rattle.tables.specs.Layout.{productions, symbols, place, symbols_from, symbols_to, action, kind_name, width}
+use Rattle.tables.specs.Rows.{row_at}
+use Rattle.tables.specs.Layout.{productions, symbols, kind_name, width}
 use Rattle.tables.proofs.Rows.{row_new, row_old, rows_add, rows_map}
 use Rattle.productions.specs.declared.Act.{Act}
 use Rattle.productions.specs.declared.Act.TheVariants.{NoAction, ActionAt}
 use Rattle.productions.specs.declared.Production.{Production}
 use Rattle.productions.specs.Cells.{action_cells, production_cells}
 use Rattle.items.specs.Items.{may_end, with_last}
-use Rattle.nesting.specs.Nest.{InSpan, Inked, LeftOf, ActionBehind, Follows}
+use Rattle.nesting.specs.Nest.{InSpan}
 use Rattle.nesting.specs.Under.{SymbolSeen, ProductionOver, Lain, Shut, Lying}
 
 -- the reading goes on

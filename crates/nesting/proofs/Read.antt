@@ -1,7 +1,7 @@
 -- Request Fourteen: places nest in every reading, whatever the source, the kind and the lent tables. The request speaks of kinds 1 to 3;
 -- no proof here looks at the kind, so it holds of kind 4 as well. Assumes nothing.
-use Prim.Native.Nat.{ℕ, zero, suc, ◌+◌, ◌≤◌, ◌<◌}
-use mathlib.Core.Path.{◌≡◌, refl, sym, ◌∙◌}
+use Prim.Native.Nat.{ℕ, ◌+◌, ◌≤◌}
+use mathlib.Core.Path.{◌≡◌, refl, sym}
 use mathlib.Core.List.{List, []}
 use mathlib.Core.Bool.{Bool, true, false, ◌||◌}
 use native.Mathlib.Omega.{arith}
@@ -22,9 +22,9 @@ use Rattle.grammar.specs.declared.State.{State}
 use Rattle.grammar.specs.declared.Answer.{Answer}
 use Rattle.grammar.specs.declared.Answer.TheVariants.{Going, Done, Refused}
 use Rattle.grammar.specs.State.{count, fresh}
-use Rattle.grammar.specs.Sound.{AllTables, ten_of, Indexes, set_tab, zero_all, Far}
+use Rattle.grammar.specs.Sound.{AllTables, ten_of, Indexes, set_tab, zero_all}
 use Rattle.grammar.proofs.Far.{fresh_far}
-use Rattle.grammar.proofs.Touch.{refused_going, done_going}
+use Rattle.grammar.proofs.Touch.{done_going}
 use Rattle.declarations.specs.Declarations.{Out, decl_all}
 use Rattle.declarations.proofs.Far.{FarAll, declarations_far}
 use Rattle.rules.specs.Rules.{Ruled, rules_all, programs_from}

@@ -4,10 +4,10 @@ use mathlib.Core.Path.{◌≡◌, refl, sym, ◌∙◌}
 use mathlib.Core.List.{List, [], ◌∷◌}
 use mathlib.Core.Bool.{Bool, true, false}
 use native.Mathlib.Omega.{arith}
-use lib.Dec.{leb, eqb}
-use lib.ListN.{length, get_or}
+use lib.Dec.{leb}
+use lib.ListN.{length}
 use Rattle.scan.specs.Scan.{starts_at}
-use Rattle.scan.proofs.Bytes.{on_test, told}
+use Rattle.scan.proofs.Bytes.{told}
 use Rattle.scan.proofs.Loop.{Either, turns_end}
 use Rattle.words.specs.declared.Name.{Name}
 use Rattle.words.specs.declared.Name.TheVariants.{NameTo, NoName}
@@ -28,12 +28,12 @@ use Rattle.grammar.specs.Cells.{rule_cells}
 use Rattle.grammar.specs.State.{Passed, count, with_at, pass_on, onward}
 use Rattle.grammar.specs.Sound.{AllTables, set_tab, Far}
 use Rattle.grammar.proofs.Far.{far_at}
-use Rattle.grammar.proofs.Touch.{refused_going, done_going, push_apart, pass_counts, pass_going}
-use Rattle.items.specs.Items.{begun, item_list}
-use Rattle.items.proofs.Far.{Taken, going_taken, taken_going, pass_onward, begun_draft, filled, items_undone}
+use Rattle.grammar.proofs.Touch.{refused_going, done_going, push_apart, pass_counts}
+use Rattle.items.specs.Items.{begun}
+use Rattle.items.proofs.Far.{going_taken, pass_onward, begun_draft, items_undone}
 use Rattle.rules.specs.Rules.{Typing, Heading, Ruled, pass_mark, start_or, first_start, rule_type, rule_found, enter_rule, typed_head, named_head, head_found, rule_head, body_passed, rule_body, rule_headed, rule_step, next_rule, percents, rule_or_end, rules_turn, rules_run, rules_passed, rules_all}
 use Rattle.rules.proofs.Far.{Uncounted, TypeFar, mark_far, start_far, type_far, HeadFar, head_far, RuledFar, step_far, next_far, ruled}
-use Rattle.nesting.specs.Under.{Lain, Settled, Nested}
+use Rattle.nesting.specs.Under.{Lain, Settled}
 use Rattle.nesting.proofs.Laws.{lain_on, lying_begun}
 use Rattle.nesting.proofs.Items.{pass_undone, items_nested}
 

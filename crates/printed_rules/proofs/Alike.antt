@@ -43,7 +43,7 @@ use Rattle.alike.specs.Stands.{TokenAt}
 use Rattle.alike.proofs.Rows.{find_like, names_like}
 use Rattle.alike.proofs.Near.{near_at, near_one}
 use Rattle.alike.proofs.Steps.{Both1, push_like, enter_like, same_count, like_at}
-use Rattle.printed_rules.specs.Items.{Item, action, Follows, Item2, quoted2, bare2, named2, empty2, action2, bar2, LikePrec, LikeAct, LikeDraft}
+use Rattle.printed_rules.specs.Items.{Item, Follows, Item2, quoted2, bare2, named2, empty2, action2, bar2, LikePrec, LikeAct, LikeDraft}
 
 -- A rule's items under way in two sources; T and W are the tables before them.
 pub record Like3 (kind : ℕ) (src out : List ℕ) (T W : AllTables) (o z : Made3) : Type 0 where

@@ -5,7 +5,7 @@ use mathlib.Core.List.{List, [], ◌∷◌}
 use mathlib.Core.Bool.{Bool, true, false, ◌&&◌, and-eq-true_iff}
 use native.Mathlib.Omega.{arith}
 use lib.Dec.{leb, eqb}
-use lib.ListN.{length, drop}
+use lib.ListN.{length}
 use lib.Seq.{slice}
 use borrow.Author.Tests.{leb-false}
 use Rattle.scan.specs.declared.Place.{Place}
@@ -37,8 +37,7 @@ use Rattle.items.specs.declared.Sort.TheVariants.{BarSort, EndSort, QuotedSort, 
 use Rattle.items.specs.Items.{Made0, Made3, sort_at, symbol_entered, token_symbol, quoted_gap, quoted_rows, quoted_found, quoted_item, prec_found, prec_name, prec_gap, prec_item, may_end, action_gap, after_action, action_found, action_item, may_follow, empty_gap, empty_item, symbol_kind, bare_found, bare_item, end_production, bar_item, rule_end, end_item, by_sort, item_step, item_next, item_or_end, item_turn, item_list}
 use Rattle.alike.specs.Stands.{TokenAt}
 use Rattle.alike.proofs.Again.{turns_more, turns_stop}
-use Rattle.printed_rules.specs.Items.{Item, quoted, action, bar, Follows, Item1, quoted1, bare1, named1, empty1, action1, bar1, Items1, end1, item1}
-use Rattle.printed_rules.proofs.Sorts.{sort_told}
+use Rattle.printed_rules.specs.Items.{Item, action, bar, Follows, Item1, quoted1, bare1, named1, empty1, action1, bar1, Items1, end1, item1}
 use Rattle.printed_rules.proofs.Onward.{item_forth}
 use Rattle.printed_rules.proofs.Alike.{end_kind, turn_is}
 

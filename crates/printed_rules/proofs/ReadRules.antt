@@ -33,11 +33,10 @@ use Rattle.grammar.specs.Cells.{rule_cells}
 use Rattle.grammar.specs.State.{Out0, count, with_at, gap_at, past, past_gap, onward}
 use Rattle.grammar.proofs.SameKind.{push_kind, pass_kind}
 use Rattle.grammar.proofs.Touch.{refused_going, done_going, pass_going}
-use Rattle.items.specs.Items.{begun, item_list}
+use Rattle.items.specs.Items.{begun}
 use Rattle.rules.specs.Rules.{Typing, Heading, Ruled, mark_gap, pass_mark, start_or, first_start, colon_given, colon_type, arrow_passed, arrow_type, rule_type, rule_found, enter_rule, typed_head, named_head, head_found, rule_head, body_passed, rule_body, rule_headed, rule_step, next_rule, percents, rule_or_end, rules_turn, rules_run, rules_passed, rules_all, programs_gap, programs_from}
 use Rattle.sections.specs.Sections.{rest_from, rest_all}
 use Rattle.alike.proofs.Again.{turns_more, turns_stop}
-use Rattle.alike.proofs.Agree.{clash}
 use Rattle.printed_rules.specs.Items.{Item, Items1}
 use Rattle.printed_rules.specs.Rules.{Rule, Programs, none, given, MarkAt, Type1, untyped1, typed1, Rule1, over, Rules1, over1, rule1, Programs1, none1, given1, Rest1}
 use Rattle.printed_rules.proofs.Read.{Opens, goes, halts, push_opens, list_read}

@@ -1,18 +1,18 @@
 -- What is shipped of a source's rules and programs is UTF-8 where the source is. Assumes nothing.
-use Prim.Native.Nat.{ℕ, suc, ◌+◌, ◌-◌, ◌≤◌, ◌<◌}
-use mathlib.Core.Path.{◌≡◌, refl, sym, ◌∙◌, ap}
+use Prim.Native.Nat.{ℕ, ◌+◌, ◌-◌, ◌≤◌, ◌<◌}
+use mathlib.Core.Path.{◌≡◌, refl, sym, ◌∙◌}
 use mathlib.Core.List.{List, [], ◌∷◌, ◌++◌}
-use mathlib.Core.Bool.{Bool, true, false, ◌||◌, ◌&&◌}
+use mathlib.Core.Bool.{Bool, true, ◌||◌, ◌&&◌}
 use mathlib.Core.Logic.{◌⊎◌, inl, inr, ⊎_elim}
 use native.Mathlib.Omega.{arith}
 use lib.Dec.{leb, eqb}
-use lib.ListN.{length, get_or, drop, take}
+use lib.ListN.{length, get_or, drop}
 use lib.Seq.{slice, take-length}
 use borrow.Author.Tests.{eqb-true}
 use Rattle.scan.specs.declared.Place.{Place}
 use Rattle.scan.specs.declared.Class.{Class}
 use Rattle.scan.specs.declared.Class.TheVariants.{NameStart, NameByte, TokenStart, TokenByte}
-use Rattle.scan.specs.Scan.{in_class, is_letter, is_digit, starts_at}
+use Rattle.scan.specs.Scan.{in_class, is_letter, is_digit}
 use Rattle.scan.proofs.Bytes.{told, within_true, le_or_lt, drop_below, drop_byte, starts_fits}
 use Rattle.whole.specs.Encode.{encoded, Text}
 use Rattle.whole.proofs.Boundaries.{between, begins_boundary, ascii_behind}
@@ -25,7 +25,7 @@ use Rattle.texts.specs.Action.{action_at}
 use Rattle.texts.proofs.Balance.{action_is}
 use Rattle.texts.proofs.Meaning.{edge_boundary, starts_boundary}
 use Rattle.grammar.specs.declared.Gap.TheVariants.{GapTo}
-use Rattle.grammar.specs.State.{gap_at, Gapped}
+use Rattle.grammar.specs.State.{Gapped}
 use Rattle.grammar.proofs.Kept.{gapped}
 use Rattle.rules.specs.Rules.{percents}
 use Rattle.alike.specs.Stands.{TokenAt}

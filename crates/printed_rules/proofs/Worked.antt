@@ -1,9 +1,8 @@
 -- A worked example: rules and a programs text as they are shipped. Assumes nothing.
-use Prim.Native.Nat.{ℕ}
 use mathlib.Core.Path.{◌≡◌, refl}
 use mathlib.Core.List.{List, [], ◌∷◌}
 use Rattle.printed_rules.specs.Items.{quoted, bare, named, empty, action, bar, items_text}
-use Rattle.printed_rules.specs.Rules.{Rule, Programs, none, given, type_text, rule_text, rules_text, programs_text, rest_text}
+use Rattle.printed_rules.specs.Rules.{Rule, none, given, type_text, rule_text, rules_text, programs_text, rest_text}
 
 -- `s.t` of type `a::b<u8> `, with `A u %prec U { é{} }`, `%empty %prec '+'` and `"q" 'r'`, and `u` of type `()`, with two empty productions
 abbrev worked : List Rule

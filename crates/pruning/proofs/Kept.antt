@@ -1,5 +1,5 @@
 -- What valid tables name: the names of a production that stays are those of rows that stay, and are found in their new rows. Assumes nothing.
-use Prim.Native.Nat.{ℕ, ◌+◌, ◌-◌, ◌≤◌, ◌<◌}
+use Prim.Native.Nat.{ℕ, ◌+◌, ◌≤◌, ◌<◌}
 use mathlib.Core.Path.{◌≡◌, refl, sym, ◌∙◌}
 use mathlib.Core.List.{List, []}
 use mathlib.Core.Bool.{Bool, true, false}
@@ -24,7 +24,7 @@ use Rattle.validation.specs.declared.Flaw.TheVariants.{NoPrecForToken}
 use Rattle.validation.specs.declared.Validity.TheVariants.{Valid}
 use Rattle.validation.specs.Faults.{known, prec_given, prec_faults, kind_faults, validity}
 use Rattle.validation.proofs.Order.{validity_first}
-use Rattle.reach.specs.Reach.{named, Begins, Calls, here, precedence}
+use Rattle.reach.specs.Reach.{Begins, Calls, here, precedence}
 use Rattle.usage.specs.Report.{ExcusedRow, expected}
 use Rattle.closing.specs.Close.{rank, closed}
 use Rattle.pruning.specs.Stays.{start_rule, excused_rule, StaysRule, used_token, excused_token, StayWork}

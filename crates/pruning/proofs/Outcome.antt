@@ -1,13 +1,12 @@
 -- Request Eight, of a call: it has one outcome; and where it prunes, the tables validate afterwards, a second call changes nothing, and the report is the earlier one
 -- limited to rows that stayed, renumbered. Assumes nothing.
-use Prim.Native.Nat.{ℕ, ◌+◌, ◌*◌, ◌-◌, ◌≤◌}
+use Prim.Native.Nat.{ℕ, ◌*◌, ◌-◌, ◌≤◌}
 use mathlib.Core.Path.{◌≡◌, refl, sym, ap, ◌∙◌}
 use mathlib.Core.List.{List, ◌++◌}
 use native.Mathlib.Omega.{arith}
 use lib.ListN.{length, replicate}
 use Rattle.scan.proofs.Bytes.{told}
 use Rattle.tables.specs.Layout.{tokens, rules}
-use Rattle.grammar.specs.declared.Counts.{Counts}
 use Rattle.grammar.specs.declared.Singles.{Singles}
 use Rattle.sound.specs.Test.{count_at}
 use Rattle.validation.specs.declared.Validity.{Validity}

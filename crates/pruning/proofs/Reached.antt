@@ -15,7 +15,7 @@ use Rattle.grammar.specs.declared.Part.TheVariants.{Absent, At}
 use Rattle.grammar.specs.Sound.{Tables, Indexes}
 use Rattle.sound.specs.Test.{count_at}
 use Rattle.bits.specs.Bits.{bit}
-use Rattle.reach.specs.Reach.{token_sort, Uses, symbol, precedence, NamesPrec, net, Grammar, grammar_of, Begins, Calls, Names, Chain, here, next}
+use Rattle.reach.specs.Reach.{token_sort, Uses, symbol, precedence, NamesPrec, Grammar, grammar_of, Begins, Calls, Names, Chain, here, next}
 use Rattle.usage.specs.Report.{Excuses, excuses_of, ExcusedRow}
 use Rattle.closing.specs.Close.{rank, closed}
 use Rattle.closing.proofs.Numbers.{From, rank_from, rank_below, closed_row}

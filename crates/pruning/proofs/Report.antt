@@ -1,5 +1,5 @@
 -- The report of the pruned tables. Assumes nothing.
-use Prim.Native.Nat.{ℕ, zero, suc, ◌+◌, ◌≤◌, ◌<◌}
+use Prim.Native.Nat.{ℕ, zero, suc, ◌≤◌, ◌<◌}
 use mathlib.Core.Path.{◌≡◌, refl, ap}
 use mathlib.Core.List.{List, [], ◌∷◌, ◌++◌}
 use mathlib.Core.Bool.{Bool, true, false}
@@ -50,6 +50,7 @@ module _ (stays : ℕ → Bool) where
   pub picks_again : (P Q : ℕ → Type 0) (m : ℕ) → ((r : ℕ) → r < m → stays r ≡ true → (P r → Q (rank stays r)) × (Q (rank stays r) → P r)) → (n : ℕ) (l : List ℕ) → n ≤ m → Picks P n l → Picks Q (rank stays n) (renumbered stays l)
   unfolding renumbered rank
   picks_again P Q m f zero [] h none = none
+  picks_again P Q m f zero (_ ∷ _) h x = elim x [ ]
   picks_again P Q m f (suc n) _ h (take {l = l} q a) = go (stays n) refl (picks_again P Q m f n l (omega arith) q)
     where
       go : (b : Bool) → stays n ≡ b → Picks Q (rank stays n) (renumbered stays l) → Picks Q (rank stays (suc n)) (renumbered stays (l ++ (n ∷ [])))

@@ -1,5 +1,5 @@
 -- The pruned tables are sound, with their indexes and with the rows that symbols have. Assumes nothing.
-use Prim.Native.Nat.{ℕ, zero, suc, ◌+◌, ◌-◌, ◌≤◌, ◌<◌}
+use Prim.Native.Nat.{ℕ, zero, suc, ◌+◌, ◌≤◌, ◌<◌}
 use mathlib.Core.Path.{◌≡◌, refl, sym, ap, ap₂, ◌∙◌}
 use mathlib.Core.List.{List, []}
 use native.Mathlib.Omega.{arith}
@@ -17,11 +17,11 @@ use Rattle.symbols.specs.Symbols.{row_number, named_row, row_for}
 use Rattle.symbols.proofs.Laws.{named_rule, named_token, symbol_is}
 use Rattle.grammar.specs.declared.Counts.{Counts}
 use Rattle.grammar.specs.declared.Singles.{Singles}
-use Rattle.grammar.specs.Sound.{Tables, tab, Indexes, SoundIndexes, View, KindRow, ProductionRow, Each, Pairs, Table, sound_view, lexicon_of, Sound}
+use Rattle.grammar.specs.Sound.{Tables, tab, Indexes, SoundIndexes, View, KindRow, ProductionRow, Table, sound_view, lexicon_of, Sound}
 use Rattle.sound.specs.Test.{count_at}
 use Rattle.validation.specs.declared.Validity.TheVariants.{Valid}
 use Rattle.validation.specs.Faults.{validity}
-use Rattle.closing.specs.Close.{rank, closed}
+use Rattle.closing.specs.Close.{rank}
 use Rattle.closing.proofs.Numbers.{From, rank_from, rank_below, kept_at, kept_length, closed_length, closed_rows}
 use Rattle.pruning.specs.Stays.{StayWork}
 use Rattle.pruning.specs.Pruned.{rule_stays, token_stays, row_stays, production_stays, renumbered_rule, rechained, new_number, renumbered_symbol, symbols_of, tokens_left, rules_left, Pruned, pruned}
@@ -75,7 +75,7 @@ module _ (src : List ℕ) (c : Counts) (g : Singles) (T : Tables) (X : Indexes) 
   left = rows src c T ws ok
 
   table : (k : ℕ) → k < 10 → Table src (sound_view c) k (count_at c k) (tab T k)
-  table k h = record { fits = old.fits k h; low = old.low k h; clean = old.clean k h; Each = λ r l. old.rows k r h l; Pairs = λ q r l m. old.names k q r h l m }
+  table k h = record { fits = old.fits k h; low = old.low k h; clean = old.clean k h; each = λ r l. old.rows k r h l; pairs = λ q r l m. old.names k q r h l m }
 
   -- the counts
   tokens_now_lem : count_at made.counts tokens ≡ rank (token_stays c ws) (count_at c tokens)
@@ -149,8 +149,8 @@ module _ (src : List ℕ) (c : Counts) (g : Singles) (T : Tables) (X : Indexes) 
         fits = fits_8 src c T ws ok;
         low = let a = few_productions src c T ws ok in let b = old.low productions (omega arith) in omega arith;
         clean = clean_8 src c T ws ok;
-        Each = production_each;
-        Pairs = λ q r l h. tt;
+        each = production_each;
+        pairs = λ q r l h. tt;
       })
 
   -- the symbol that symbol s was
@@ -172,8 +172,8 @@ module _ (src : List ℕ) (c : Counts) (g : Singles) (T : Tables) (X : Indexes) 
         fits = fits_9 src c T ws ok;
         low = let a = few_symbols src c T ws ok in let b = old.low symbols (omega arith) in omega arith;
         clean = clean_9 src c T ws ok;
-        Each = symbol_each;
-        Pairs = λ q r l h. tt;
+        each = symbol_each;
+        pairs = λ q r l h. tt;
       })
 
   after_10 : Table src (sound_view made.counts) repeats (count_at made.counts repeats) made.tables.t10

@@ -1,5 +1,5 @@
 -- "pruning twice gives the tables of pruning once". Assumes nothing.
-use Prim.Native.Nat.{ℕ, ◌+◌, ◌-◌, ◌≤◌, ◌<◌}
+use Prim.Native.Nat.{ℕ, ◌+◌, ◌≤◌, ◌<◌}
 use mathlib.Core.Path.{◌≡◌, refl, sym, ap, ◌∙◌}
 use mathlib.Core.List.{List, []}
 use mathlib.Core.Bool.{true}
@@ -26,7 +26,7 @@ use Rattle.closing.specs.Close.{Step, rank, table_of}
 use Rattle.closing.proofs.Numbers.{From, rank_from, rank_below, rank_all, rank_up, kept_at, kept_all, kept_length, table_row, closed_same, closed_clean, closed_fits}
 use Rattle.pruning.specs.Stays.{rule, token, StayWork}
 use Rattle.pruning.specs.Pruned.{rule_stays, token_stays, found_stays, name_stays, row_stays, rules_left, tokens_left, avoided_left, epps_left, productions_left, symbols_left, production_stays, chained, new_number, renumbered_symbol, symbols_of, index_left, counts_left, Pruned, pruned}
-use Rattle.pruning.proofs.Forth.{Ready, Resolved, count_avoided, count_epps, count_symbols, count_productions, rows, rows_wide, chained_wide, ranges_in, low}
+use Rattle.pruning.proofs.Forth.{Ready, Resolved, count_avoided, count_epps, count_symbols, count_productions, rows, rows_wide, chained_wide, ranges_in}
 use Rattle.pruning.proofs.Rows.{size_of, offset, chained_at, chained_length, symbols_length, symbols_at, symbols_wide, offset_up, made_rule, number_rule, number_token}
 use Rattle.pruning.proofs.Fixed.{rows_back, chained_fixed, symbol_fixed, symbols_fixed}
 use Rattle.pruning.proofs.Sizes.{long_8, long_9}

@@ -27,14 +27,12 @@ use Rattle.grammar.specs.declared.Gap.TheVariants.{GapTo, GapRefused}
 use Rattle.grammar.specs.State.{gap_at}
 use Rattle.keywords.specs.declared.Keyword.{Keyword}
 use Rattle.keywords.specs.declared.Keyword.TheVariants.{Percents, TokenWord, ActiontypeWord, StartWord, EppWord, ExpectRrWord, ExpectUnusedWord, ExpectWord, AvoidInsertWord, ParseParamWord, ParseGenericsWord, ImplicitTokensWord, LeftWord, RightWord, NonassocWord, PrologueWord, UnionWord, TypeWord, NoKeyword}
-use Rattle.keywords.specs.declared.Seen.{Seen}
 use Rattle.keywords.specs.Keywords.{seen_at}
 use Rattle.lists.specs.declared.Spelling.{Spelling}
 use Rattle.lists.specs.declared.Spelling.TheVariants.{Spelled, Unspelled}
 use Rattle.lists.specs.Lists.{spelled_at, ends}
 use Rattle.items.specs.declared.Sort.{Sort}
 use Rattle.items.specs.declared.Sort.TheVariants.{BarSort, EndSort, QuotedSort, PrecSort, ActionSort, EmptySort, BareSort}
-use Rattle.items.specs.declared.Spotted.{Spotted}
 use Rattle.items.specs.Items.{sort_at}
 use Rattle.shipper.specs.declared.Piece.{Piece}
 use Rattle.shipper.specs.declared.Piece.TheVariants.{NamePiece, TokenPiece, SpelledPiece, IntPiece, StringPiece, LinePiece, ColonPiece, ActionPiece}

@@ -1,5 +1,4 @@
 -- `shipper::line_words`: the loop's turns are those of its definition.
-use Prim.Native.Nat.{◌-◌}
 use mathlib.Core.Path.{refl, ◌∙◌}
 use native.Mathlib.Omega.{arith}
 use Rattle.scan.proofs.Bytes.{told}

@@ -1,5 +1,4 @@
 -- `shipper::ship_declarations`: pieces as long as they move on.
-use Prim.Native.Nat.{◌-◌}
 use mathlib.Core.Path.{refl, ◌∙◌}
 use native.Mathlib.Omega.{arith}
 use Rattle.shipper.specs.Ship.{ship_decls}

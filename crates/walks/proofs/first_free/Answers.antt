@@ -1,5 +1,4 @@
 -- `walks::first_free`: none of the rows passed so far is to be listed.
-use Prim.Native.Nat.{◌-◌}
 use native.Mathlib.Omega.{arith}
 use Rattle.usage.proofs.Picked.{says_yes, says_no}
 use Rattle.walks.proofs.Laws.{none_more}

@@ -1,6 +1,5 @@
 -- `walks::is_fitting`: the numbers first, and then the tables.
 use native.Mathlib.Omega.{arith}
-use borrow.Author.Rules.{rules}
 use Rattle.walks.proofs.Laws.{fitting_says}
 use Rattle.walks.proofs.is_fitting.Goals as goal
 
