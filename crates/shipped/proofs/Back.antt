@@ -1,7 +1,7 @@
 -- What is shipped of declarations is the same declarations, for any source that they stand in. Assumes nothing.
 use Prim.Native.Nat.{ℕ, ◌+◌, ◌≤◌}
 use mathlib.Core.Path.{◌≡◌, refl, sym, ◌∙◌, ap}
-use mathlib.Core.List.{List, [], ◌∷◌, ◌++◌}
+use mathlib.Core.List.{List, ◌∷◌, ◌++◌}
 use mathlib.Core.Bool.{true, false}
 use lib.ListN.{length, drop}
 use Rattle.keywords.specs.declared.Keyword.{Keyword}
@@ -18,7 +18,7 @@ use Rattle.alike.proofs.Solid.{gap_none}
 use Rattle.alike.proofs.Front.{percent_solid}
 use Rattle.alike.proofs.Agree.{clash}
 use Rattle.printed.specs.Print.{words}
-use Rattle.printed.specs.Stands.{Spelled, Row1, end1 as row-end, more1, Lined, Single, name, integer, line, Given, Epped, Params}
+use Rattle.printed.specs.Stands.{Spelled, Lined, Single, name, integer, line, Given, Epped, Params}
 use Rattle.printed.specs.Decls.{Decl, listed, lined, single, spell, keyword_of, body_text, decl_text, decls_text, left, right, nonassoc, avoid_insert, implicit_tokens, Some, SeenTo, Decl1, listed1, prec1, names1, start1, expect1, actiontype1, generics1, epp1, param1, Decls1, end1, skip1, decl1, Section1}
 use Rattle.printed.proofs.Seen.{seen_word, seen_percents, known, seen_fits}
 use Rattle.printed.proofs.Arms.{list_space, row_some}

@@ -35,7 +35,7 @@ use Rattle.grammar.specs.declared.Gap.{Gap}
 use Rattle.grammar.specs.declared.Gap.TheVariants.{GapTo, GapRefused}
 use Rattle.grammar.specs.Cells.{rule_cells}
 use Rattle.grammar.specs.Sound.{AllTables, zero_all}
-use Rattle.grammar.specs.State.{Out0, count, with_at, gap_at, past, past_gap, pass_on, refused, fresh}
+use Rattle.grammar.specs.State.{Out0, count, with_at, gap_at, past_gap, refused, fresh}
 use Rattle.grammar.proofs.Far.{fresh_far}
 use Rattle.grammar.proofs.Kept.{onward_keep}
 use Rattle.items.specs.Items.{begun, item_list}

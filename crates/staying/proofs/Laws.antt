@@ -14,7 +14,7 @@ use Rattle.tables.specs.Layout.{tokens, implicit, unused, rules, kind_name, widt
 use Rattle.tables.proofs.Cases.{same_part_sym}
 use Rattle.grammar.specs.declared.Counts.{Counts}
 use Rattle.sound.specs.Test.{count_at}
-use Rattle.reach.specs.Reach.{words_for, rule_sort, token_sort, Named, Grammar, Begins, Uses, symbol, precedence, Adds, Fits, Called, Spread, TokenOf}
+use Rattle.reach.specs.Reach.{words_for, rule_sort, token_sort, Named, Grammar, Begins, symbol, precedence, Adds, Fits, Called, Spread, TokenOf}
 use Rattle.reach.proofs.Laws.{added_none, adds_same}
 use Rattle.reach.proofs.Chains.{begins_in, chain_in}
 use Rattle.usage.specs.Report.{Excuses, Expected, Implicit, Excused, expected, implied}

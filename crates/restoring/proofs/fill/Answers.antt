@@ -2,8 +2,6 @@
 use mathlib.Core.Path.{◌≡◌, sym, ◌∙◌}
 use mathlib.Core.Bool.{true, false}
 use native.Mathlib.Omega.{arith}
-use borrow.Author.Rules.{rules}
-use lib.ListN.{length}
 use lib.Seq.{length-take-le}
 use Rattle.blocks.specs.Blocks.{content_of}
 use Rattle.restoring.specs.declared.Restoring.TheVariants.{AllRestored, RestoringUnsound}

@@ -20,7 +20,7 @@ head_in-requires c =
 pub fill-requires : goal.fill-requires
 fill-requires c =
     fill_fits ((c.args.src.now)) ((let x = c.args in
-    record { t1 = x.t1.now; t2 = x.t2.now; t3 = x.t3.now; t4 = x.t4.now; t5 = x.t5.now; t6 = x.t6.now; t7 = x.t7.now; t8 = x.t8.now; t9 = x.t9.now; t10 = x.t10.now; t15 = x.t15.now; t16 = x.t16.now; t17 = x.t17.now })) ((record { tokens = x.before.before.before.before.before.before.before.before.before.before.before.before.before.before.before.before.before.before.before.before.before.before.before.before.before.before.before.before.before.before.before.before.before.before.before.before.before.before.before.before.before.before.before.before.before.before.before.before.before.before.before.before.before.before.before.before.before.before.before.before.before.before.before.before.before.before.before.before.args.i1.now; rules = x.before.before.before.before.before.before.before.before.before.before.before.before.before.before.before.before.before.before.before.before.before.before.before.before.before.before.before.before.before.before.before.before.before.before.before.before.before.before.before.before.before.before.before.before.before.before.before.before.before.before.before.before.before.before.before.before.before.before.before.before.before.before.before.before.before.before.before.before.args.i7.now })) ((x.before.before.before.before.before.before.before.before.before.before.before.before.before.before.before.before.before.before.before.before.before.before.before.before.before.before.before.before.before.before.before.before.before.before.clear-all.last.0)) ((let x = x.before.before.before.before.before.before.before.before.before.before.before.before.before.before.before.before.before.before.before.before.before.before.before.before.before.before.before.before.before.before.before.before.before.before.clear-all.last in record { t1 = x.1.0; t2 = x.1.1.0; t3 = x.1.1.1.0; t4 = x.1.1.1.1.0; t5 = x.1.1.1.1.1.0; t6 = x.1.1.1.1.1.1.0; t7 = x.1.1.1.1.1.1.1.0; t8 = x.1.1.1.1.1.1.1.1.0; t9 = x.1.1.1.1.1.1.1.1.1.0; t10 = x.1.1.1.1.1.1.1.1.1.1.0; t15 = x.1.1.1.1.1.1.1.1.1.1.1.1.1.0; t16 = x.1.1.1.1.1.1.1.1.1.1.1.1.1.1.0; t17 = x.1.1.1.1.1.1.1.1.1.1.1.1.1.1.1.0 })) ((let x = x.before.before.before.before.before.before.before.before.before.before.before.before.before.before.before.before.before.before.before.before.before.before.before.before.before.before.before.before.before.before.before.before.before.before.clear-all.last in record { tokens = x.1.1.1.1.1.1.1.1.1.1.1.0; rules = x.1.1.1.1.1.1.1.1.1.1.1.1.0 })) x.before.before.before.before.before.before.before.before.before.before.before.before.before.before.before.before.before.before.before.before.before.before.before.before.before.before.before.before.before.before.before.before.before.before.clear-all.ensures ((x.before.before.before.before.before.before.before.before.before.before.before.before.before.before.before.before.before.before.before.before.before.before.before.before.before.before.before.before.before.before.before.before.before.before.before.before.before.before.before.before.before.before.before.before.before.before.before.before.before.before.before.before.before.before.before.before.before.before.before.before.before.before.before.before.before.before.before.before.args.s.now)) _ _ x.before.sizes-fit.ensures x.examine.ensures c.in-Holds.is _ c.head_in.ensures
+    record { t1 = x.t1.now; t2 = x.t2.now; t3 = x.t3.now; t4 = x.t4.now; t5 = x.t5.now; t6 = x.t6.now; t7 = x.t7.now; t8 = x.t8.now; t9 = x.t9.now; t10 = x.t10.now; t15 = x.t15.now; t16 = x.t16.now; t17 = x.t17.now })) ((record { tokens = c.args.i1.now; rules = c.args.i7.now })) ((c.clear_all.new.src)) ((record { t1 = c.clear_all.new.t1; t2 = c.clear_all.new.t2; t3 = c.clear_all.new.t3; t4 = c.clear_all.new.t4; t5 = c.clear_all.new.t5; t6 = c.clear_all.new.t6; t7 = c.clear_all.new.t7; t8 = c.clear_all.new.t8; t9 = c.clear_all.new.t9; t10 = c.clear_all.new.t10; t15 = c.clear_all.new.t15; t16 = c.clear_all.new.t16; t17 = c.clear_all.new.t17 })) ((record { tokens = c.clear_all.new.i1; rules = c.clear_all.new.i7 })) c.clear_all.ensures ((c.args.s.now)) _ _ c.sizes_fit-sized.ensures c.examine.ensures c.in-Holds.is _ c.head_in.ensures
 
 pub shape_of-src-in-Holds : goal.shape_of-src-in-Holds
 shape_of-src-in-Holds c = c.fill.auto.src ∙ c.clear_all.auto.src
@@ -73,7 +73,7 @@ shape_of-t17-in-Holds c = c.fill.auto.t17 ∙ c.clear_all.auto.t17
 pub returns-in-Holds : goal.returns-in-Holds
 returns-in-Holds c =
     restored_filled ((c.args.src.now)) ((let x = c.args in
-    record { t1 = x.t1.now; t2 = x.t2.now; t3 = x.t3.now; t4 = x.t4.now; t5 = x.t5.now; t6 = x.t6.now; t7 = x.t7.now; t8 = x.t8.now; t9 = x.t9.now; t10 = x.t10.now; t15 = x.t15.now; t16 = x.t16.now; t17 = x.t17.now })) ((record { tokens = x.before.before.before.before.before.before.before.before.before.before.before.before.before.before.before.before.before.before.before.before.before.before.before.before.before.before.before.before.before.before.before.before.before.before.before.before.before.before.before.before.before.before.before.before.before.before.before.before.before.before.before.before.before.before.before.before.before.before.before.before.before.before.before.before.before.before.before.before.args.i1.now; rules = x.before.before.before.before.before.before.before.before.before.before.before.before.before.before.before.before.before.before.before.before.before.before.before.before.before.before.before.before.before.before.before.before.before.before.before.before.before.before.before.before.before.before.before.before.before.before.before.before.before.before.before.before.before.before.before.before.before.before.before.before.before.before.before.before.before.before.before.before.args.i7.now })) ((x.before.before.before.before.before.before.before.before.before.before.before.before.before.before.before.before.before.before.before.before.before.before.before.before.before.before.before.before.before.before.before.before.before.before.clear-all.last.0)) ((let x = x.before.before.before.before.before.before.before.before.before.before.before.before.before.before.before.before.before.before.before.before.before.before.before.before.before.before.before.before.before.before.before.before.before.before.clear-all.last in record { t1 = x.1.0; t2 = x.1.1.0; t3 = x.1.1.1.0; t4 = x.1.1.1.1.0; t5 = x.1.1.1.1.1.0; t6 = x.1.1.1.1.1.1.0; t7 = x.1.1.1.1.1.1.1.0; t8 = x.1.1.1.1.1.1.1.1.0; t9 = x.1.1.1.1.1.1.1.1.1.0; t10 = x.1.1.1.1.1.1.1.1.1.1.0; t15 = x.1.1.1.1.1.1.1.1.1.1.1.1.1.0; t16 = x.1.1.1.1.1.1.1.1.1.1.1.1.1.1.0; t17 = x.1.1.1.1.1.1.1.1.1.1.1.1.1.1.1.0 })) ((let x = x.before.before.before.before.before.before.before.before.before.before.before.before.before.before.before.before.before.before.before.before.before.before.before.before.before.before.before.before.before.before.before.before.before.before.clear-all.last in record { tokens = x.1.1.1.1.1.1.1.1.1.1.1.0; rules = x.1.1.1.1.1.1.1.1.1.1.1.1.0 })) x.before.before.before.before.before.before.before.before.before.before.before.before.before.before.before.before.before.before.before.before.before.before.before.before.before.before.before.before.before.before.before.before.before.before.clear-all.ensures ((x.before.before.before.before.before.before.before.before.before.before.before.before.before.before.before.before.before.before.before.before.before.before.before.before.before.before.before.before.before.before.before.before.before.before.before.before.before.before.before.before.before.before.before.before.before.before.before.before.before.before.before.before.before.before.before.before.before.before.before.before.before.before.before.before.before.before.before.before.args.s.now)) _ _ x.before.sizes-fit.ensures x.examine.ensures c.in-Holds.is _ c.head_in.ensures _ c.fill.ensures
+    record { t1 = x.t1.now; t2 = x.t2.now; t3 = x.t3.now; t4 = x.t4.now; t5 = x.t5.now; t6 = x.t6.now; t7 = x.t7.now; t8 = x.t8.now; t9 = x.t9.now; t10 = x.t10.now; t15 = x.t15.now; t16 = x.t16.now; t17 = x.t17.now })) ((record { tokens = c.args.i1.now; rules = c.args.i7.now })) ((c.clear_all.new.src)) ((record { t1 = c.clear_all.new.t1; t2 = c.clear_all.new.t2; t3 = c.clear_all.new.t3; t4 = c.clear_all.new.t4; t5 = c.clear_all.new.t5; t6 = c.clear_all.new.t6; t7 = c.clear_all.new.t7; t8 = c.clear_all.new.t8; t9 = c.clear_all.new.t9; t10 = c.clear_all.new.t10; t15 = c.clear_all.new.t15; t16 = c.clear_all.new.t16; t17 = c.clear_all.new.t17 })) ((record { tokens = c.clear_all.new.i1; rules = c.clear_all.new.i7 })) c.clear_all.ensures ((c.args.s.now)) _ _ c.sizes_fit-sized.ensures c.examine.ensures c.in-Holds.is _ c.head_in.ensures _ c.fill.ensures
 
 pub shape_of-src-in-NoWholeBlocks : goal.shape_of-src-in-NoWholeBlocks
 shape_of-src-in-NoWholeBlocks c = c.clear_all.auto.src

@@ -23,12 +23,12 @@ spread-requires c =
 pub mark_tokens-requires : goal.mark_tokens-requires
 mark_tokens-requires c =
     let size = c.spread.ensures.size ∙ c.mark_excused.ensures.size ∙ c.mark_start.ensures.size ∙ (ap length c.zero.ensures ∙ length-replicate {A = ℕ} _ 0) in
-    (fits_tokens c.args.c _ (rw size ((let it : words_for (count_at c.args.c rules) + words_for (count_at c.args.c tokens) ≤ length c.args.w.now = omega (arith, c.if-w-rules.false, c.words_for-tokens.ensures, c.rows_of-2.ensures, c.words_for-rules.ensures, c.rows_of.ensures) in it))) ((let it : count_at c.args.c rules < 2 ^ 32 = omega (arith, c.rows_of.ensures, c.rows_of.ok) in it)), c.requires.0.tokens_apart, c.requires.0.tokens_told, c.requires.0.owned)
+    (fits_tokens c.args.c _ (rw size ((let it : words_for (count_at c.args.c rules) + words_for (count_at c.args.c tokens) ≤ length c.args.w.now = omega (arith, c.if-w-rules.false, c.words_for-tokens.ensures, c.rows_of-2.ensures, c.words_for-rules.ensures, c.rows_of.ensures) in it))) ((let it : count_at c.args.c rules < 2 ^ 32 = omega (arith, c.rows_of.ensures, c.rows_of.type_inv) in it)), c.requires.0.tokens_apart, c.requires.0.tokens_told, c.requires.0.owned)
 
 pub mark_excused-requires-2 : goal.mark_excused-requires-2
 mark_excused-requires-2 c =
     let size = c.mark_tokens.ensures.size ∙ c.spread.ensures.size ∙ c.mark_excused.ensures.size ∙ c.mark_start.ensures.size ∙ (ap length c.zero.ensures ∙ length-replicate {A = ℕ} _ 0) in
-    rw c.token_sort.ensures (fits_tokens c.args.c _ (rw size ((let it : words_for (count_at c.args.c rules) + words_for (count_at c.args.c tokens) ≤ length c.args.w.now = omega (arith, c.if-w-rules.false, c.words_for-tokens.ensures, c.rows_of-2.ensures, c.words_for-rules.ensures, c.rows_of.ensures) in it))) ((let it : count_at c.args.c rules < 2 ^ 32 = omega (arith, c.rows_of.ensures, c.rows_of.ok) in it)), c.requires.0.tokens_apart)
+    rw c.token_sort.ensures (fits_tokens c.args.c _ (rw size ((let it : words_for (count_at c.args.c rules) + words_for (count_at c.args.c tokens) ≤ length c.args.w.now = omega (arith, c.if-w-rules.false, c.words_for-tokens.ensures, c.rows_of-2.ensures, c.words_for-rules.ensures, c.rows_of.ensures) in it))) ((let it : count_at c.args.c rules < 2 ^ 32 = omega (arith, c.rows_of.ensures, c.rows_of.type_inv) in it)), c.requires.0.tokens_apart)
 
 pub shape_of-w : goal.shape_of-w
 shape_of-w c =
