@@ -16,7 +16,7 @@ use Rattle.sections.specs.Sections.{sized}
 use Rattle.catalogue.specs.declared.Head.{Head}
 use Rattle.catalogue.specs.declared.Finding.{Finding}
 use Rattle.catalogue.specs.declared.Finding.TheVariants.{Holds, NoWholeBlocks, FaultyNumber, FaultyCheck, Unfilled, WrongSize, NoRoom}
-use Rattle.catalogue.specs.Catalogue.{cells_at, rows_from, content_size, head_in, lengths_of, examined, sound_reading}
+use Rattle.catalogue.specs.Catalogue.{cells_at, rows_from, head_in, lengths_of, examined, sound_reading}
 use Rattle.restoring.specs.declared.Restoring.{Restoring}
 use Rattle.restoring.specs.declared.Restoring.TheVariants.{AllRestored, NotWhole, BadNumber, BadCheck, BadContent, BadSizes, NoSpace, RestoringUnsound}
 

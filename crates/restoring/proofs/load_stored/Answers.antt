@@ -1,7 +1,6 @@
 -- `restoring::load_stored`: everything is cleared, and what the blocks come to is answered; where they hold a reading, it fits and is filled in.
 use mathlib.Core.Path.{◌≡◌, refl, ◌∙◌}
 use Prim.Native.Nat.{◌≤◌}
-use borrow.Author.Rules.{rules}
 use lib.ListN.{length}
 use Rattle.catalogue.specs.declared.Head.{Head}
 use Rattle.catalogue.specs.declared.Finding.{Finding}

@@ -1,0 +1,20 @@
+-- `pruner::name_stays`: the token that is found has its bit, and no token is no reason to go.
+use native.Mathlib.Omega.{arith}
+use Rattle.pruner.proofs.Laws.{name_found, name_unfound}
+use Rattle.pruner.proofs.name_stays.Goals as goal
+
+pub find-requires : goal.find-requires
+find-requires c = rw c.rows_of-n.ensures c.requires
+
+pub overflow_add-base : goal.overflow_add-base
+overflow_add-base c = omega (arith, c.token_base-base.ensures.low)
+
+pub returns-in-RowAt : goal.returns-in-RowAt
+returns-in-RowAt c =
+    let a = c.args in
+    name_found a.src.now a.c a.t1.now a.ws.now a.a a.b _ c.rows_of-n.ensures _ c.find.ensures _ c.token_base-base.ensures.is _ c.in-RowAt.is _ c.test_bit.ensures
+
+pub returns-in-NoRow : goal.returns-in-NoRow
+returns-in-NoRow c =
+    let a = c.args in
+    name_unfound a.src.now a.c a.t1.now a.ws.now a.a a.b _ c.rows_of-n.ensures _ c.find.ensures c.in-NoRow.is
