@@ -1,11 +1,9 @@
 -- What the operation's proofs cite: a law for each way that a shipping ends. Assumes nothing.
 use Prim.Native.Nat.{ℕ, ◌≤◌, ◌<◌, min}
 use mathlib.Core.Path.{◌≡◌, refl, sym, ap, ◌∙◌}
-use mathlib.Core.Bool.{Bool, true, false}
 use mathlib.Core.List.{List, ◌++◌}
 use native.Mathlib.Omega.{arith}
-use native.Mathlib.Nat.{min-eq_left, min-le_left}
-use lib.Dec.{leb, ltb}
+use lib.Dec.{ltb}
 use lib.ListN.{length, drop, replicate, length-replicate}
 use borrow.Author.Tests.{lt-ltb, le-ltb, le-leb, lt-leb}
 use Rattle.scan.proofs.Bytes.{told}
@@ -23,7 +21,7 @@ use Rattle.shipper.specs.Emit.{Emitted, emit}
 use Rattle.shipper.specs.Ship.{ship_all}
 use Rattle.shipper.proofs.Text.{text_count, text_fits}
 use Rattle.shipping.specs.declared.Shipment.TheVariants.{Sent, Unsent}
-use Rattle.shipping.specs.Shipping.{Mailed, mailed_room, mailed_text, mailed, shipped_kind, lent_ten, with_mailed, shipped_read, shipping, text_out, Readable}
+use Rattle.shipping.specs.Shipping.{Mailed, mailed_text, mailed, shipped_kind, lent_ten, with_mailed, shipped_read, shipping, text_out, Readable}
 
 -- a text written into zeros, n being its count and cells what was left
 module _ (text out zeros : List ℕ) (z : zeros ≡ zeroed out) (cells : List ℕ) (n : ℕ) (e : ◌≡◌ {A = Emitted} (record { n = n; cells = cells }) (emit text 0 zeros)) where

@@ -1,15 +1,15 @@
 -- What a shipping answers and leaves, in terms of the read and of the shipping form; that what was sent reads alike and ships as itself; one outcome. Assumes nothing.
-use Prim.Native.Nat.{ℕ, zero, suc, ◌+◌, ◌≤◌, ◌<◌}
+use Prim.Native.Nat.{ℕ, zero, suc, ◌≤◌, ◌<◌}
 use mathlib.Core.Path.{◌≡◌, refl, sym, ap, ◌∙◌}
 use mathlib.Core.Bool.{Bool, true, false}
-use mathlib.Core.List.{List, [], ◌∷◌, ◌++◌}
+use mathlib.Core.List.{List, ◌++◌}
 use mathlib.Core.Logic.{◌↔◌, ◌⊎◌, inl, inr, ⊎_elim}
 use native.Mathlib.Omega.{arith}
 use native.Mathlib.Decide.{ℕ_discrete}
 use lib.Dec.{leb, ltb}
 use lib.ListN.{length, take, drop}
 use lib.Seq.{take-append_seam}
-use borrow.Author.Tests.{lt-ltb, le-ltb, le-leb, lt-leb, ltb-true, ltb-false, leb-true, leb-false}
+use borrow.Author.Tests.{lt-ltb, le-ltb, le-leb, lt-leb, ltb-false, leb-true}
 use Rattle.scan.proofs.Bytes.{told}
 use Rattle.tables.specs.Table.{zeroed}
 use Rattle.tables.specs.Layout.{repeats}
@@ -29,7 +29,6 @@ use Rattle.alike.proofs.Agree.{clash}
 use Rattle.shipper.specs.Ship.{ship_all}
 use Rattle.shipped.specs.Reads.{Reread}
 use Rattle.shipped.proofs.Reread.{ship_reads, ship_again}
-use Rattle.shipping.specs.declared.Shipment.{Shipment}
 use Rattle.shipping.specs.declared.Shipment.TheVariants.{Sent, Unsent}
 use Rattle.shipping.specs.Shipping.{ShipResult, Mailed, text_out, mailed_room, mailed_text, mailed, shipped_kind, lent_ten, shipped_read, shipping, Ships, Shippable, Sendable, AllZero, AsRead}
 use Rattle.shipping.proofs.Laws.{kind_none, kind_same}

@@ -1,5 +1,5 @@
 -- `pruner::close_productions`: productions that stay are laid in front.
-use Prim.Native.Nat.{◌-◌, ◌*◌}
+use Prim.Native.Nat.{◌*◌}
 use mathlib.Core.Path.{◌≡◌, ◌∙◌, ap}
 use native.Mathlib.Omega.{arith}
 use lib.ListN.{length}
@@ -49,7 +49,7 @@ zero_from-requires c =
 pub shape_of-t8 : goal.shape_of-t8
 shape_of-t8 c =
     ap length c.zero_from.ensures ∙ (zero_length (c.loop-p.m * 13) c.loop-p.t8 ((let a = c.args in
-    productions_fit a.c a.ws.now a.i7.now a.t8.now c.requires.0 c.requires.1 c.requires.2 c.requires.3 c.loop-p.p c.loop-p.m c.loop-p.e c.loop-p.t8 c.loop-p.invariant.1 (omega (arith, c.loop-p.invariant.0, c.rows_of-n.ensures)))) ∙ l.invariant.1.laid.size)
+    productions_fit a.c a.ws.now a.i7.now a.t8.now c.requires.0 c.requires.1 c.requires.2 c.requires.3 c.loop-p.p c.loop-p.m c.loop-p.e c.loop-p.t8 c.loop-p.invariant.1 (omega (arith, c.loop-p.invariant.0, c.rows_of-n.ensures)))) ∙ c.loop-p.invariant.1.laid.size)
 
 pub returns : goal.returns
 returns c =

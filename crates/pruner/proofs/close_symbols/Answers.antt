@@ -1,5 +1,5 @@
 -- `pruner::close_symbols`: the symbols of productions that stay are laid in front.
-use Prim.Native.Nat.{◌-◌, ◌*◌}
+use Prim.Native.Nat.{◌*◌}
 use mathlib.Core.Path.{◌≡◌, refl, ◌∙◌, ap}
 use native.Mathlib.Omega.{arith}
 use lib.ListN.{length}
@@ -51,7 +51,7 @@ zero_from-requires c =
 pub shape_of-t9 : goal.shape_of-t9
 shape_of-t9 c =
     ap length c.zero_from.ensures ∙ (zero_length (c.loop-p.m * 4) c.loop-p.t9 ((let a = c.args in
-    symbols_fit a.c a.ws.now a.i1.now a.i7.now a.t8.now a.t9.now c.requires c.loop-p.p c.loop-p.m c.loop-p.t9 (c.loop-p.invariant.2 a.c c.requires c.rows_of-n.ensures) (omega (arith, c.loop-p.invariant.0, c.rows_of-n.ensures)))) ∙ l.invariant.1)
+    symbols_fit a.c a.ws.now a.i1.now a.i7.now a.t8.now a.t9.now c.requires c.loop-p.p c.loop-p.m c.loop-p.t9 (c.loop-p.invariant.2 a.c c.requires c.rows_of-n.ensures) (omega (arith, c.loop-p.invariant.0, c.rows_of-n.ensures)))) ∙ c.loop-p.invariant.1)
 
 pub returns : goal.returns
 returns c =

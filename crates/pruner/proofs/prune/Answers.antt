@@ -1,8 +1,6 @@
 -- `pruner::prune`: validation first, then the marking, and only then are rows moved.
 use mathlib.Core.Path.{refl, sym, ◌∙◌}
-use lib.ListN.{length-map}
 use borrow.Author.Tests.{not-true, not-false}
-use borrow.Author.Rules.{rules}
 use Rattle.usage.proofs.Outcome.{fair_valid, names_valid}
 use Rattle.pruner.specs.Asked.{Changing}
 use Rattle.pruner.proofs.Endings.{ends_unsound, ends_invalid, ends_no_words, stays_marked, ends_pruned, closable}
@@ -54,7 +52,7 @@ returns-then-not-mark_staying c =
 pub close_all-d-requires : goal.close_all-d-requires
 close_all-d-requires c =
     closable c.args.src.now c.args.c c.args.g ((let a = c.args in
-    record { t1 = a.t1.now; t2 = a.t2.now; t3 = a.t3.now; t4 = a.t4.now; t5 = a.t5.now; t6 = a.t6.now; t7 = a.t7.now; t8 = a.t8.now; t9 = a.t9.now; t10 = a.t10.now })) ((record { tokens = c.args.i1.now; rules = c.args.i7.now })) c.mark_staying.new.w ((sym (length-map c.args.c.n (λ v. v)) ∙ c.well_formed.1.0.1.1.0.1.0.1)) ((sym c.validate.ensures ∙ c.in-Valid.is))
+    record { t1 = a.t1.now; t2 = a.t2.now; t3 = a.t3.now; t4 = a.t4.now; t5 = a.t5.now; t6 = a.t6.now; t7 = a.t7.now; t8 = a.t8.now; t9 = a.t9.now; t10 = a.t10.now })) ((record { tokens = c.args.i1.now; rules = c.args.i7.now })) c.mark_staying.new.w (c.well_formed.1.0.1.1.0.1.0.1) ((sym c.validate.ensures ∙ c.in-Valid.is))
     (stays_marked c.args.src.now c.args.c c.args.g ((let a = c.args in
     record { t1 = a.t1.now; t2 = a.t2.now; t3 = a.t3.now; t4 = a.t4.now; t5 = a.t5.now; t6 = a.t6.now; t7 = a.t7.now; t8 = a.t8.now; t9 = a.t9.now; t10 = a.t10.now })) ((record { tokens = c.args.i1.now; rules = c.args.i7.now })) c.args.work.now c.mark_staying.new.w ((sym c.validate.ensures ∙ c.in-Valid.is)) c.mark_staying.result c.mark_staying.ensures (not-false c.mark_staying.result c.if-not-mark_staying.false-raw))
 

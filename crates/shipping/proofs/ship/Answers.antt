@@ -1,5 +1,4 @@
 -- `shipping::ship`: the read, and what becomes of the text.
-use borrow.Author.Rules.{rules}
 use Rattle.shipping.proofs.Laws.{read_readable, ship_whole}
 use Rattle.shipping.proofs.ship.Goals as goal
 
