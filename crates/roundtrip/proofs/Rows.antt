@@ -21,7 +21,7 @@ use Rattle.grammar.specs.declared.Counts.{Counts}
 use Rattle.grammar.specs.declared.PosixCounts.{PosixCounts}
 use Rattle.grammar.specs.declared.Singles.{Singles}
 use Rattle.grammar.proofs.Far.{ten_tab}
-use Rattle.grammar.specs.Sound.{AllTables, ten_of, tab, cells_of, Indexes, SoundIndexes, lexicon_of, Each, Pairs, Table, sound_view, Sound, PosixSound}
+use Rattle.grammar.specs.Sound.{AllTables, ten_of, tab, cells_of, Indexes, SoundIndexes, lexicon_of, Table, sound_view, Sound, PosixSound}
 use Rattle.catalogue.specs.Catalogue.{rows_at, cells_at}
 use Rattle.catalogue.proofs.Laws.{rows_ten, rows_three}
 use Rattle.restoring.specs.Restoring.{entered_indexes}
@@ -48,7 +48,7 @@ module _ (w n : ℕ) (t u : List ℕ) (ft : n * w ≤ length t) (fu : n * w ≤ 
       row_ext w u r (omega arith) (row_at w t r) (row_length w t r (omega arith)) (λ k l. cell_same r k h l ∙ sym (row_cell w t r k l))
 
   pub rows_same : {P : List ℕ → Type 0} {Q : List ℕ → List ℕ → Type 0} → Clean w n u → Rows P Q w n t → Rows P Q w n u
-  rows_same c R = record { fits = fu; low = R.low; clean = c; Each = λ r h. rw (row_same r h) (R.each r h); Pairs = λ q r l h. rw (row_same q (omega arith), row_same r h) (R.pairs q r l h) }
+  rows_same c R = record { fits = fu; low = R.low; clean = c; each = λ r h. rw (row_same r h) (R.each r h); pairs = λ q r l h. rw (row_same q (omega arith), row_same r h) (R.pairs q r l h) }
 
   end_same : (to r : ℕ) → r ≤ n → end_before w to u r ≡ end_before w to t r
   unfolding end_before
@@ -69,18 +69,18 @@ module _ (w n : ℕ) (t u : List ℕ) (ft : n * w ≤ length t) (fu : n * w ≤ 
 
 -- ---- all tables
 
--- what soundness says of Each of the thirteen
+-- what soundness says of each of the thirteen
 pub sound_table : (src : List ℕ) (c : Counts) (p : PosixCounts) (g : Singles) (T : AllTables) (X : Indexes) → Sound src c g (ten_of T) X → PosixSound src c p T → (k : ℕ) → k < 13 → Table src (sound_view c) k (rows_at c p k) (cells_of T k)
 sound_table src c p g T X S P k h =
     elim (dec_lt k 10) [
-      | yes l ↦ rw (← ten_tab T k l, ← rows_ten c p k l) (record { fits = S.fits k l; low = S.low k l; clean = S.clean k l; Each = λ r b. S.rows k r l b; Pairs = λ q r a b. S.names k q r l a b })
+      | yes l ↦ rw (← ten_tab T k l, ← rows_ten c p k l) (record { fits = S.fits k l; low = S.low k l; clean = S.clean k l; each = λ r b. S.rows k r l b; pairs = λ q r a b. S.names k q r l a b })
       | no l ↦
           let e : posix_from + (k - 10) ≡ k = omega arith in
           rw (← rows_three c p k (omega arith) h) (rw e at (P.tables (k - 10) (omega arith)))
     ]
 
 module _ (src : List ℕ) (c : Counts) (p : PosixCounts) (g : Singles) (T : AllTables) (X : Indexes) (U : AllTables) (m n : ℕ) (S : Sound src c g (ten_of T) X) (P : PosixSound src c p T) (fits : (k : ℕ) → k < 13 → cells_at c p k ≤ length (cells_of U k)) (same : (k : ℕ) → k < 13 → cells_of U k ≡ take (cells_at c p k) (cells_of T k) ++ replicate (length (cells_of U k) - cells_at c p k) 0) where
-  -- Each table as it was
+  -- each table as it was
   was : (k : ℕ) → k < 13 → Table src (sound_view c) k (rows_at c p k) (cells_of T k)
   was = sound_table src c p g T X S P
 
