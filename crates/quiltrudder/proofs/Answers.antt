@@ -1,12 +1,12 @@
 -- What the C names' proofs cite: what is made of a reading's numbers, and each operation's answer in numbers. Assumes nothing.
-use Prim.Native.Nat.{ℕ, ◌+◌, ◌*◌, ◌≤◌, ◌<◌}
+use Prim.Native.Nat.{ℕ, ◌≤◌, ◌<◌}
 use mathlib.Core.Path.{◌≡◌, refl, sym, ap, ◌∙◌}
 use mathlib.Core.Bool.{Bool, true, false}
 use mathlib.Core.List.{List, [], ◌∷◌, ◌++◌}
 use native.Mathlib.Omega.{arith}
-use borrow.Author.Tests.{eq-eqb, ne_eqb, ltb-true}
+use borrow.Author.Tests.{ltb-true}
 use lib.Dec.{eqb, ltb}
-use lib.ListN.{length, get_or, take, get_or-append}
+use lib.ListN.{get_or, take, get_or-append}
 use lib.Seq.{get_or-take}
 use Rattle.scan.specs.declared.Place.{Place}
 use Rattle.places.specs.declared.Spot.{Spot}
@@ -15,12 +15,6 @@ use Rattle.places.proofs.Meaning.{spot_first}
 use Rattle.tables.specs.Table.{cell}
 use Rattle.tables.specs.Layout.{tokens, rules, width}
 use Rattle.tables.proofs.Rows.{row_cell}
-use Rattle.grammar.specs.declared.Part.{Part}
-use Rattle.grammar.specs.declared.Part.TheVariants.{Absent, At}
-use Rattle.grammar.specs.declared.Expect.{Expect}
-use Rattle.grammar.specs.declared.Expect.TheVariants.{NotExpected, Expected}
-use Rattle.grammar.specs.declared.Param.{Param}
-use Rattle.grammar.specs.declared.Param.TheVariants.{NoParam, ParamAt}
 use Rattle.grammar.specs.declared.Counts.{Counts}
 use Rattle.grammar.specs.declared.PosixCounts.{PosixCounts}
 use Rattle.grammar.specs.declared.Singles.{Singles}

@@ -1,5 +1,5 @@
 -- The catalogue through the C names: what the C name of load left is never unsound for storing, and what was stored comes back with the numbers that the others take. Assumes nothing.
-use Prim.Native.Nat.{ℕ, zero, suc, ◌+◌, ◌*◌, ◌/◌, ◌%◌, ◌≤◌, ◌<◌}
+use Prim.Native.Nat.{ℕ, zero, suc, ◌+◌, ◌*◌, ◌≤◌, ◌<◌}
 use mathlib.Core.Path.{◌≡◌, refl, sym, ap, ◌∙◌}
 use mathlib.Core.List.{List, [], ◌∷◌, ◌++◌}
 use mathlib.Core.Bool.{Bool, true, false, false≢true}
@@ -15,9 +15,6 @@ use Rattle.places.proofs.Meaning.{spot_first, spotted_first}
 use Rattle.grammar.specs.declared.Part.TheVariants.{Absent, At}
 use Rattle.grammar.specs.declared.Expect.TheVariants.{NotExpected, Expected}
 use Rattle.grammar.specs.declared.Param.TheVariants.{NoParam, ParamAt}
-use Rattle.grammar.specs.declared.Counts.{Counts}
-use Rattle.grammar.specs.declared.PosixCounts.{PosixCounts}
-use Rattle.grammar.specs.declared.Singles.{Singles}
 use Rattle.grammar.specs.Numbers.{part_numbers, param_numbers}
 use Rattle.grammar.specs.Sound.{AllTables, Indexes, cells_of}
 use Rattle.sections.specs.Sections.{sized}

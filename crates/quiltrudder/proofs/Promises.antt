@@ -31,7 +31,7 @@ use Rattle.validation.specs.declared.Validity.TheVariants.{Valid, UnsoundTables,
 use Rattle.validation.specs.declared.FaultListing.{FaultListing}
 use Rattle.validation.specs.declared.FaultListing.TheVariants.{Faulted, FaultsUnsound, FaultsNoRoom}
 use Rattle.validation.specs.Walk.{fault_listing}
-use Rattle.validation.specs.Faults.{validity_numbers, validity}
+use Rattle.validation.specs.Faults.{validity}
 use Rattle.reach.specs.Reach.{Grammar, need}
 use Rattle.usage.specs.declared.Listing.{Listing}
 use Rattle.usage.specs.declared.Listing.TheVariants.{Unused, OfUnsound, OfInvalid, NoWords, NoRoom}

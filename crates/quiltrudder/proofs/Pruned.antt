@@ -1,20 +1,17 @@
 -- What the C name of prune left is what the others take: the counts in the numbers are those that are left, and the reading is valid. Assumes nothing.
 use Prim.Native.Nat.{◌≤◌, ℕ, ◌+◌, ◌<◌}
 use mathlib.Core.Path.{◌≡◌, refl, sym, ap, ◌∙◌}
-use mathlib.Core.List.{List, [], ◌∷◌, ◌++◌, append_assoc}
+use mathlib.Core.List.{List, ◌++◌, append_assoc}
 use native.Mathlib.Omega.{arith}
-use lib.ListN.{length, get_or, take, drop, length-append, get_or-append}
+use lib.ListN.{length, get_or, take, drop, get_or-append}
 use lib.Seq.{ext_get_or, length-take-le, get_or-append-add, get_or-drop}
-use Rattle.scan.proofs.Bytes.{told}
 use Rattle.tables.specs.Table.{put}
 use Rattle.tables.proofs.Rows.{put_eq}
 use Rattle.grammar.specs.declared.Counts.{Counts}
-use Rattle.grammar.specs.declared.Singles.{Singles}
 use Rattle.grammar.specs.Sound.{Tables, Indexes}
 use Rattle.validation.specs.declared.Validity.{Validity}
 use Rattle.validation.specs.declared.Validity.TheVariants.{Valid}
 use Rattle.validation.specs.Faults.{validity}
-use Rattle.pruning.specs.declared.Pruning.{Pruning}
 use Rattle.pruning.specs.declared.Pruning.TheVariants.{AllPruned}
 use Rattle.pruning.specs.Pruned.{Prunings}
 use Rattle.pruning.proofs.Outcome.{pruning_ten, pruning_validates}

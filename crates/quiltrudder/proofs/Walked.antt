@@ -1,11 +1,11 @@
 -- The unused rows one by one, of the C names: calls of `quiltrudder_next_unused` from a record of zeros give the report's rows in order, and then the end for ever. Assumes nothing.
 use Prim.Native.Nat.{ℕ, zero, suc, ◌%◌, ◌/◌, ◌<◌, ◌≤◌}
 use mathlib.Core.Path.{◌≡◌, refl, sym, ap, ◌∙◌}
-use mathlib.Core.List.{List, [], ◌∷◌, ◌++◌}
+use mathlib.Core.List.{List, [], ◌∷◌}
 use native.Mathlib.Omega.{arith}
 use native.Mathlib.Decide.{dec_lt}
 use native.Mathlib.Nat.{div-add-mod'}
-use lib.ListN.{length, get_or}
+use lib.ListN.{get_or}
 use Rattle.places.specs.declared.Spot.{Spot}
 use Rattle.places.proofs.Meaning.{spot_first}
 use Rattle.tables.specs.Table.{cell}
@@ -21,14 +21,14 @@ use Rattle.usage.specs.Standing.{UnusedRows}
 use Rattle.usage.proofs.Outcome.{report_marks}
 use Rattle.usage.proofs.Standing.{report_rows}
 use Rattle.walks.specs.declared.Next.{Next}
-use Rattle.walks.specs.declared.Next.TheVariants.{NextUnused, NoneLeft}
+use Rattle.walks.specs.declared.Next.TheVariants.{NoneLeft}
 use Rattle.walks.specs.declared.Standing.{Standing}
 use Rattle.walks.specs.Walk.{Advanced}
 use Rattle.walks.specs.Sequence.{FreshCalls, stands_behind}
 use Rattle.walks.proofs.Once.{next_one}
 use Rattle.walks.proofs.Theorems.{walk_gives, walk_ends, walk_stands}
 use Rattle.singles.specs.Singles.{singles_of, counts_of}
-use Rattle.quiltrudder.specs.Face.{listing_cells, ReportFace, marking_cells, MarkFace, standing_of, standing_cells, next_cells, NextFace, FreshFaces}
+use Rattle.quiltrudder.specs.Face.{listing_cells, ReportFace, marking_cells, MarkFace, standing_of, standing_cells, next_cells, FreshFaces}
 
 -- the number 0 of a marking
 marking_0 : (src : List ℕ) (k : Marking) → get_or (marking_cells src k) 0 0 ≡ 0 → k ≡ AllMarked

@@ -1,5 +1,5 @@
 -- The C names' numbers: the same operations over numbers and slices alone, each with its answer written as 32-bit numbers into a lent array of fixed size.
-use Rattle.std.specs.Prelude.{ℕ, suc, ◌+◌, ◌*◌, ◌/◌, ◌%◌, ◌-◌, ◌≤◌, ◌<◌, ◌^◌, ◌≡◌, true, false, List, [], ◌∷◌, ◌++◌, ◌⊎◌, eqb, length, get_or, take, replicate}
+use Rattle.std.specs.Prelude.{ℕ, suc, ◌+◌, ◌/◌, ◌%◌, ◌-◌, ◌≤◌, ◌<◌, ◌≡◌, true, false, List, [], ◌∷◌, ◌++◌, ◌⊎◌, length, get_or, take, replicate}
 use Rattle.scan.specs.declared.Place.{Place}
 use Rattle.tables.specs.Table.{put}
 use Rattle.places.specs.declared.Spot.{Spot}

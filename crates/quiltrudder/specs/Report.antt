@@ -1,8 +1,6 @@
 -- The third demand: "The unused report holds exactly the rules and tokens that no chain of productions from the start rule reaches and no declaration excuses, each once, in
 -- order."
 use Rattle.std.specs.Prelude.{ℕ, ◌+◌, ◌*◌, ◌≤◌, ◌≡◌, List, length}
-use Rattle.grammar.specs.declared.Counts.{Counts}
-use Rattle.grammar.specs.Sound.{Tables, Indexes}
 use Rattle.loading.specs.Load.{LoadResult}
 use Rattle.reach.specs.Reach.{Grammar, grammar_of, need}
 use Rattle.usage.specs.declared.Listing.{Listing}
