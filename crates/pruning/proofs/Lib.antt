@@ -16,3 +16,4 @@ pub mod StillSound
 pub mod StillValid
 pub mod Theorems
 pub mod Outcome
+pub mod Cases

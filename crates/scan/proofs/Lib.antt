@@ -4,3 +4,4 @@ pub mod Runs
 pub mod Table
 pub mod Tally
 pub mod Lines
+pub mod Cases

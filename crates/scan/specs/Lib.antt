@@ -3,4 +3,3 @@ pub mod Tally
 pub mod Lines
 pub mod Loop
 pub mod Table
-pub mod Cases

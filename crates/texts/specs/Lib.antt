@@ -4,4 +4,3 @@ pub mod Colon
 pub mod Action
 pub mod Mark
 pub mod Balance
-pub mod Cases

@@ -5,3 +5,4 @@ pub mod Foremost
 pub mod Order
 pub mod Theorems
 pub mod Places
+pub mod Cases

@@ -1,4 +1,3 @@
 pub mod Faults
 pub mod Walk
-pub mod Cases
 pub mod Places

@@ -4,3 +4,4 @@ pub mod Numbers
 pub mod Strings
 pub mod Meaning
 pub mod Feeds
+pub mod Cases

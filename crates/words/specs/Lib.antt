@@ -2,4 +2,3 @@ pub mod Words
 pub mod Tags
 pub mod Numbers
 pub mod Strings
-pub mod Cases
