@@ -1,3 +1,0 @@
-%expect many
-%%
-s: ;

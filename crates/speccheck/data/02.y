@@ -1,3 +1,0 @@
-%start 9lives
-%%
-s: ;

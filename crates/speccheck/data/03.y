@@ -1,3 +1,0 @@
-%token NUM 9
-%%
-s: NUM;

@@ -1,4 +1,0 @@
-%token NUM
-/* the tokens
-%%
-sum: NUM;

@@ -1,3 +1,0 @@
-%token NUM
-%%
-sum NUM;

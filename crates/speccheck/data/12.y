@@ -1,4 +1,0 @@
-%token NUM
-	%fallback NUM
-%%
-sum: NUM;

@@ -1,4 +1,0 @@
-%token NUM
-%expect-unused 9
-%%
-sum: NUM;

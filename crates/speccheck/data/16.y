@@ -1,3 +1,0 @@
-%token NUM
-%parse-param p::q
-%%

@@ -1,5 +1,0 @@
-%token NUM
-%epp NUM "a
-number"
-%%
-sum: NUM;

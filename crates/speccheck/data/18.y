@@ -1,4 +1,0 @@
-%token NUM
-%epp NUM "a\tnumber"
-%%
-sum: NUM;

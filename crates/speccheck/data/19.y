@@ -1,2 +1,0 @@
-%token NUM
-%epp NUM "a number

@@ -1,3 +1,0 @@
-%token <number NUMBER
-%%
-sum: NUMBER;

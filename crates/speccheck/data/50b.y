@@ -1,3 +1,0 @@
-%type sum
-%%
-sum: ;

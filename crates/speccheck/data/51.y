@@ -1,5 +1,0 @@
-%token NUMBER
-%{
-#include <stdio.h>
-%%
-sum: NUMBER;

@@ -1,3 +1,0 @@
-%union value { int number; }
-%%
-sum: ;

@@ -1,5 +1,0 @@
-%token A
-%token
-B
-%%
-s: A;

@@ -1,4 +1,0 @@
-%token A
-	/* Stra√üe ü */
-%%
-s: A;

@@ -1,4 +1,0 @@
-%token A
-/* straße */
-%%
-s: A;

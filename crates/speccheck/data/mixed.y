@@ -1,3 +1,0 @@
-%left 'a'%left 'a'
-%%s: 'a'
- | none;

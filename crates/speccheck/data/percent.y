@@ -1,3 +1,0 @@
-%token A
-%start s
-s: A;

@@ -1,3 +1,0 @@
-%token A
-%%
-s: 'x A 'y' A;

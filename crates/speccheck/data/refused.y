@@ -1,4 +1,0 @@
-%token A
-/* é */ %nolint A
-%%
-s: A;

@@ -1,2 +1,0 @@
-%token A
-s: A;

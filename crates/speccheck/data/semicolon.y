@@ -1,4 +1,0 @@
-%token A
-%%
-s: A t
-t: A;

@@ -1,5 +1,0 @@
-%left 'a'
-%left 'b' 'a'
-%start
-%%
-s: 'a';

@@ -1,4 +1,0 @@
-%union
-{ int number; }
-%%
-sum: ;

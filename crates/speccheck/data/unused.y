@@ -1,4 +1,0 @@
-%token EINS 'zwei"' '\' 'x	y'
-%%
-wort: EINS;
-/* Länge */ rest: wort;

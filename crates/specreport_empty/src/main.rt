@@ -1,6 +1,0 @@
-// `specreport` on an empty source.
-#![tactic(auto)]
-
-fn main(rt: HostRuntime) {
-    reporting::report_input(&rt);
-}

@@ -1,6 +1,0 @@
-%left A // or
-%right B /* and
-*/
-%parse-param a: :b
-%%s:A|B;%%
-  // kept

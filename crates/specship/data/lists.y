@@ -1,1 +1,0 @@
-%token%expect-unused%%s:;

@@ -1,3 +1,0 @@
-%start s
-%start t
-%%s:;t:;

@@ -1,2 +1,0 @@
-%parse-generics /
-%%s->/:;t ->  // x :;
