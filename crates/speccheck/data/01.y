@@ -1,0 +1,3 @@
+%expect many
+%%
+s: ;

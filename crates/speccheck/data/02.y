@@ -1,0 +1,3 @@
+%start 9lives
+%%
+s: ;

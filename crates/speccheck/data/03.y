@@ -1,0 +1,3 @@
+%token NUM 9
+%%
+s: NUM;

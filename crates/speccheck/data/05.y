@@ -1,0 +1,4 @@
+%token NUM
+/* the tokens
+%%
+sum: NUM;

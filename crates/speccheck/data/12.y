@@ -1,0 +1,4 @@
+%token NUM
+	%fallback NUM
+%%
+sum: NUM;

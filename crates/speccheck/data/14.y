@@ -1,0 +1,4 @@
+%token NUM
+%epp NUM number
+%%
+sum: NUM;

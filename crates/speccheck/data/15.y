@@ -1,0 +1,4 @@
+%token NUM
+%expect-unused 9
+%%
+sum: NUM;

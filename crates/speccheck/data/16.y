@@ -1,0 +1,3 @@
+%token NUM
+%parse-param p::q
+%%

@@ -1,0 +1,5 @@
+%token NUM
+%epp NUM "a
+number"
+%%
+sum: NUM;

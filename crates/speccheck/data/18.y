@@ -1,0 +1,4 @@
+%token NUM
+%epp NUM "a\tnumber"
+%%
+sum: NUM;

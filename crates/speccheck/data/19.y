@@ -1,0 +1,2 @@
+%token NUM
+%epp NUM "a number

@@ -1,0 +1,3 @@
+%token <number NUMBER
+%%
+sum: NUMBER;

@@ -1,0 +1,3 @@
+%type sum
+%%
+sum: ;

@@ -1,0 +1,5 @@
+%token NUMBER
+%{
+#include <stdio.h>
+%%
+sum: NUMBER;

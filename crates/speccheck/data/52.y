@@ -1,0 +1,3 @@
+%union value { int number; }
+%%
+sum: ;

@@ -1,0 +1,5 @@
+%%
+s: first 'zwölf' 'Boxkämpfer' 'jagen' 'Viktor' 'quer' 'über' 'den' 'großen' 'Sylter' 'Deich' 	 'zwölf' 'Boxkämpfer' 'jagen' 'Viktor' 'quer' 'über' 'den' 'großen' 'Sylter' 'Deich' middle 'zwölf' 'Boxkämpfer' 'jagen' 'Viktor' 'quer' 'über' 'den' 'großen' 'Sylter' 'Deich' 'ü' 'zwölf' 'Boxkämpfer' 'jagen' 'Viktor' 'quer' 'über' 'den' 'großen' 'Sylter' 'Deich' last;
+t: 'é''é''é''é''é''é''é''é''é''é''é''é''é''é''é''é''é''é''é''é''é''é''é''é''é''é''é''é''é''é''é''é''é''é''é''é''é''é''é''é' eins 'é' 'é' 'é' 'é' 'é' 'é' 'é' 'é' 'é' 'é' 'é' 'é' 'é' 'é' 'é' 'é' 'é' 'é' 'é' 'é' 'é' 'é' 'é' 'é' 'é' 'é' 'é' 'é' 'é' 'é' 'é' 'é' 'é' 'é' 'é' 'é' 'é' 'é' 'é' 'é' ;
+u: 'é''é''é''é''é''é''é''é''é''é''é''é''é''é''é''é''é''é''é''é''é''é''é''é''é''é''é''é''é''é''é''é''é''é''é''é''é''é''é''é'  zwei  'é' 'é' 'é' 'é' 'é' 'é' 'é' 'é' 'é' 'é' 'é' 'é' 'é' 'é' 'é' 'é' 'é' 'é' 'é' 'é' 'é' 'é' 'é' 'é' 'é' 'é' 'é' 'é' 'é' 'é' 'é' 'é' 'é' 'é' 'é' 'é' 'é' 'é' 'é' 'é' ;
+v: s t u wwwwwwwwwwwwwwwwwwwwwwwwwwwwwwwwwwwwwwwwwwwwwwwwwwwwwwwwwwwwwwwwwwwwwwwwwwwwwwwwwwwwwwwwwwwwwwwwwwwwwwwwwwwwwwwwwwwwwwwwwwwwwwwwwwwwwwwwwwwwwwwwwwwwwwwwwwwwwwwwwwwwwwwwwwwwwwwwwwwwwwwwwwwwwwwwwwwwwwww;

@@ -1,0 +1,5 @@
+%token A
+%token
+B
+%%
+s: A;

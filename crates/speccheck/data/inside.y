@@ -1,0 +1,4 @@
+%token A
+	/* Stra√üe ü */
+%%
+s: A;

@@ -1,0 +1,4 @@
+%token A
+/* straße */
+%%
+s: A;

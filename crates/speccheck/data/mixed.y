@@ -1,0 +1,3 @@
+%left 'a'%left 'a'
+%%s: 'a'
+ | none;

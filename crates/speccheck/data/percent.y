@@ -1,0 +1,3 @@
+%token A
+%start s
+s: A;

@@ -1,0 +1,3 @@
+%token A
+%%
+s: 'x A 'y' A;

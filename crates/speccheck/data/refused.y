@@ -1,0 +1,4 @@
+%token A
+/* é */ %nolint A
+%%
+s: A;

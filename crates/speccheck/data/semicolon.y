@@ -1,0 +1,4 @@
+%token A
+%%
+s: A t
+t: A;

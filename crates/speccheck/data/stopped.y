@@ -1,0 +1,5 @@
+%left 'a'
+%left 'b' 'a'
+%start
+%%
+s: 'a';

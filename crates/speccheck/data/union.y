@@ -1,0 +1,4 @@
+%union
+{ int number; }
+%%
+sum: ;

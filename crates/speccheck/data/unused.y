@@ -1,0 +1,4 @@
+%token EINS 'zwei"' '\' 'x	y'
+%%
+wort: EINS;
+/* Länge */ rest: wort;

@@ -1,0 +1,6 @@
+%left A // or
+%right B /* and
+*/
+%parse-param a: :b
+%%s:A|B;%%
+  // kept

@@ -1,0 +1,1 @@
+%token%expect-unused%%s:;

@@ -1,0 +1,3 @@
+%start s
+%start t
+%%s:;t:;

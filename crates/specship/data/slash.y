@@ -1,0 +1,2 @@
+%parse-generics /
+%%s->/:;t ->  // x :;
