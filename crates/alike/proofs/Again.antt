@@ -1,4 +1,5 @@
 -- A word whose bytes stand in another source, with what ends a word behind them, is read there as the word it was. Assumes nothing.
+use Rattle.std.specs.Prelude.{Ok}
 use Prim.Native.Nat.{ℕ, zero, suc, ◌+◌, ◌-◌, ◌≤◌, ◌<◌}
 use mathlib.Core.Path.{◌≡◌, refl, sym, ◌∙◌, ap, ap₂}
 use mathlib.Core.List.{List, [], ◌∷◌, ◌++◌}
@@ -12,10 +13,8 @@ use Rattle.scan.specs.declared.Class.TheVariants.{NameByte, TokenByte}
 use Rattle.scan.specs.Scan.{in_class}
 use Rattle.scan.specs.Loop.{Turn, more, stop, turns}
 use Rattle.scan.proofs.Bytes.{told, drop_byte}
-use Rattle.words.specs.declared.Token.TheVariants.{Found}
 use Rattle.words.specs.Words.{token_at, Tokened}
 use Rattle.words.proofs.Words.{token_placed}
-use Rattle.grammar.specs.declared.Gap.TheVariants.{GapTo}
 use Rattle.grammar.specs.State.{Gapped, gap_at}
 use Rattle.grammar.proofs.Kept.{gapped}
 use Rattle.alike.specs.Like.{Same}
@@ -52,7 +51,7 @@ parts s i e h =
     sym (take-append-drop (e - i) (drop i s)) ∙ ap₂ (λ (x y : List ℕ). x ++ y) (sym a) (sym b)
 
 -- where a token lies
-pub token_lies : (s : List ℕ) (i e : ℕ) (x : List ℕ) (w : TokenAt s i e x) → Tokened s i (Found w.place e w.quoted)
+pub token_lies : (s : List ℕ) (i e : ℕ) (x : List ℕ) (w : TokenAt s i e x) → Tokened s i (Ok (w.place, e, w.quoted))
 token_lies s i e x w = told (Tokened s i) w.is (token_placed s i (token_at s i) refl).1
 
 -- the bytes of a token begin with its first
@@ -88,10 +87,10 @@ module _ (src out : List ℕ) where
       }
 
 -- a token and the spacing behind it go onward
-pub further : (kind : ℕ) (s : List ℕ) (i e m n : ℕ) (p : Place) (q : Bool) → token_at s i ≡ Found p e q → gap_at kind true s e ≡ GapTo m n → (i < m) × (m ≤ length s)
+pub further : (kind : ℕ) (s : List ℕ) (i e m n : ℕ) (p : Place) (q : Bool) → token_at s i ≡ Ok (p, e, q) → gap_at kind true s e ≡ Ok (m, n) → (i < m) × (m ≤ length s)
 further kind s i e m n p q h g =
-    let y : Tokened s i (Found p e q) = told (Tokened s i) h (token_placed s i (token_at s i) refl).1 in
-    let z : Gapped s e (GapTo m n) = told (Gapped s e) g (gapped kind true s e y.3) in
+    let y : Tokened s i (Ok (p, e, q)) = told (Tokened s i) h (token_placed s i (token_at s i) refl).1 in
+    let z : Gapped s e (Ok (m, n)) = told (Gapped s e) g (gapped kind true s e y.3) in
     let a = y.0 in
     let b = y.1 in
     let c = y.2 in

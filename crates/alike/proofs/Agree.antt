@@ -1,4 +1,5 @@
 -- Words that stand in one source and, byte for byte, in another. Assumes nothing.
+use Rattle.std.specs.Prelude.{Ok}
 use Prim.Native.Nat.{ℕ, ◌+◌, ◌-◌, ◌≤◌, ◌<◌}
 use mathlib.Core.Path.{◌≡◌, sym, ◌∙◌, ap}
 use mathlib.Core.List.{List, ◌++◌}
@@ -10,9 +11,7 @@ use borrow.Author.Tests.{eq-eqb}
 use Rattle.scan.specs.declared.Class.{Class}
 use Rattle.scan.specs.declared.Class.TheVariants.{NameStart, NameByte, TokenStart, TokenByte, Digit, Unquoted}
 use Rattle.scan.specs.Scan.{in_class, Runs}
-use Rattle.words.specs.declared.Name.TheVariants.{NameTo}
 use Rattle.words.specs.Words.{name_at, token_at, found, IsWord}
-use Rattle.words.specs.declared.Int.TheVariants.{Value}
 use Rattle.words.specs.Numbers.{decimal, decimal_at, int_at}
 use Rattle.words.proofs.Meaning.{name_iff, bare_iff, quoted_iff, int_iff}
 
@@ -78,14 +77,14 @@ module _ (s t : List ℕ) (i j m : ℕ) (x : Agree s t i j m) where
         goes_on = runs_move (in_class rest) (i + 1) (i + m) (j + 1) (j + m) w.goes_on (omega arith) (omega arith) (omega arith) (omega arith) stops;
       }
 
-  pub name_move : name_at s i ≡ NameTo (i + m) → (j + m < length t → in_class NameByte (get_or t (j + m) 0) ≡ false) → name_at t j ≡ NameTo (j + m)
+  pub name_move : name_at s i ≡ Ok (i + m) → (j + m < length t → in_class NameByte (get_or t (j + m) 0) ≡ false) → name_at t j ≡ Ok (j + m)
   name_move e stops = (name_iff t j (j + m)).1 (word_move NameStart NameByte ((name_iff s i (i + m)).0 e) stops)
 
   pub bare_move : token_at s i ≡ found i (i + m) (i + m) false → (j + m < length t → in_class TokenByte (get_or t (j + m) 0) ≡ false) → token_at t j ≡ found j (j + m) (j + m) false
   bare_move e stops = (bare_iff t j (j + m)).1 (word_move TokenStart TokenByte ((bare_iff s i (i + m)).0 e) stops)
 
   -- an integer with no digit behind it,
-  pub int_move : (v : ℕ) → int_at s i ≡ Value v (i + m) → (j + m < length t → in_class Digit (get_or t (j + m) 0) ≡ false) → int_at t j ≡ Value v (j + m)
+  pub int_move : (v : ℕ) → int_at s i ≡ Ok (v, i + m) → (j + m < length t → in_class Digit (get_or t (j + m) 0) ≡ false) → int_at t j ≡ Ok (v, j + m)
   unfolding decimal_at
   int_move v e stops =
       let a = x.here in

@@ -1,4 +1,5 @@
 -- The first byte of a word is no spacing and no `%`. Assumes nothing.
+use Rattle.std.specs.Prelude.{Ok}
 use Prim.Native.Nat.{ℕ, ◌≤◌, ◌<◌}
 use mathlib.Core.Path.{◌≡◌, refl}
 use mathlib.Core.List.{List, ◌∷◌}
@@ -13,8 +14,6 @@ use Rattle.scan.specs.declared.Class.TheVariants.{NameStart, TokenStart}
 use Rattle.scan.specs.Scan.{in_class, is_eol, is_letter}
 use Rattle.scan.proofs.Bytes.{within_true, drop_byte, drop_below}
 use Rattle.spacing.specs.Spacing.{is_blank}
-use Rattle.words.specs.declared.Name.TheVariants.{NameTo}
-use Rattle.words.specs.declared.Token.TheVariants.{Found}
 use Rattle.words.specs.Words.{is_quote, name_at, token_at}
 use Rattle.words.proofs.Meaning.{name_iff, bare_iff, quoted_iff}
 use Rattle.lists.specs.Lists.{ends}
@@ -65,14 +64,14 @@ quote_front c t = go (either _ _ t)
     go (inr e) = let z = eqb-true c 39 e in record { high = omega arith; percent = λ q. omega arith; slash = λ q. omega arith }
 
 -- a token, a name
-pub token_begins : (s : List ℕ) (i e : ℕ) (p : Place) (q : Bool) → token_at s i ≡ Found p e q → Front (get_or s i 0)
+pub token_begins : (s : List ℕ) (i e : ℕ) (p : Place) (q : Bool) → token_at s i ≡ Ok (p, e, q) → Front (get_or s i 0)
 token_begins s i e p q h = go p e q (shape s i p e q h) h
   where
-    go : (p : Place) (e : ℕ) (q : Bool) → Shape i p e q → token_at s i ≡ Found p e q → Front (get_or s i 0)
+    go : (p : Place) (e : ℕ) (q : Bool) → Shape i p e q → token_at s i ≡ Ok (p, e, q) → Front (get_or s i 0)
     go _ _ _ (plain to) h = token_front _ ((bare_iff s i to).0 h).begins
     go _ _ _ (quote to) h = quote_front _ ((quoted_iff s i to).0 h).opens
 
-pub name_begins : (s : List ℕ) (i e : ℕ) → name_at s i ≡ NameTo e → Front (get_or s i 0)
+pub name_begins : (s : List ℕ) (i e : ℕ) → name_at s i ≡ Ok e → Front (get_or s i 0)
 name_begins s i e h = name_front _ ((name_iff s i e).0 h).begins
 
 -- is no spacing, and ends no list

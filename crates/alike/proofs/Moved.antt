@@ -1,4 +1,5 @@
 -- Strings and texts to a single colon whose bytes stand in another source are read there as they were. Assumes nothing.
+use Rattle.std.specs.Prelude.{Result, Ok}
 use Prim.Native.Nat.{ℕ, suc, ◌+◌, ◌-◌, ◌≤◌, ◌<◌}
 use mathlib.Core.Path.{◌≡◌, refl, sym, ◌∙◌, ap, ap₂}
 use mathlib.Core.List.{List, [], ◌∷◌, ◌++◌, append_assoc}
@@ -12,12 +13,10 @@ use borrow.Author.Tests.{leb-false, lt-leb}
 use Rattle.scan.proofs.Bytes.{told, on_test, drop_next, drop_byte, drop_below}
 use Rattle.whole.specs.Encode.{Text}
 use Rattle.trim.specs.Trim.{trimmed}
-use Rattle.words.specs.declared.Quote.{Quote}
-use Rattle.words.specs.declared.Quote.TheVariants.{Closed}
+use Rattle.words.specs.declared.QuoteError.{QuoteError}
 use Rattle.words.specs.Words.{is_quote}
 use Rattle.words.specs.Strings.{plain, string, string_from, string_at, Stringed}
 use Rattle.words.proofs.Strings.{string_placed}
-use Rattle.texts.specs.declared.Colon.TheVariants.{Single}
 use Rattle.texts.specs.Colon.{plain as text, single, single_from, single_at, Singled}
 use Rattle.texts.proofs.Laws.{singles}
 use Rattle.alike.specs.Like.{Same}
@@ -32,21 +31,21 @@ part_is s a n e z = rw z at (slice_take a n s)
 pub record Opened (s : List ℕ) (i e : ℕ) : Type 0 where
   pub inside : i < length s
   pub opens : is_quote (get_or s i 0) ≡ true
-  pub goes_on : string (get_or s i 0) plain (drop (i + 1) s) (i + 1) ≡ Closed e
+  pub goes_on : string (get_or s i 0) plain (drop (i + 1) s) (i + 1) ≡ Ok e
 
-pub opened : (s : List ℕ) (i e : ℕ) → string_at s i ≡ Closed e → Opened s i e
+pub opened : (s : List ℕ) (i e : ℕ) → string_at s i ≡ Ok e → Opened s i e
 unfolding string_at string_from
 opened s i e =
     on_test Is (leb (length s) i) _ _ (λ f h. let z : ◌≡◌ {A = ℕ} 0 1 = cc in absurd (omega arith))
     (λ f. on_test Is (is_quote (get_or s i 0)) _ _ (λ o h. record { inside = leb-false _ _ f; opens = o; goes_on = h }) (λ o h. let z : ◌≡◌ {A = ℕ} 0 1 = cc in absurd (omega arith)))
   where
-    Is : Quote → Type 0
-    Is r = r ≡ Closed e → Opened s i e
+    Is : Result ℕ QuoteError → Type 0
+    Is r = r ≡ Ok e → Opened s i e
 
-pub string_lies : (s : List ℕ) (i e : ℕ) → string_at s i ≡ Closed e → (i + 1 < e) × (e ≤ length s)
+pub string_lies : (s : List ℕ) (i e : ℕ) → string_at s i ≡ Ok e → (i + 1 < e) × (e ≤ length s)
 string_lies s i e h = told (Stringed s i) h (string_placed s i (string_at s i) refl).1
 
-pub string_again : (src out : List ℕ) (i e j : ℕ) (r : List ℕ) → string_at src i ≡ Closed e → drop j out ≡ slice i e src ++ r → string_at out j ≡ Closed (j + (e - i))
+pub string_again : (src out : List ℕ) (i e j : ℕ) (r : List ℕ) → string_at src i ≡ Ok e → drop j out ≡ slice i e src ++ r → string_at out j ≡ Ok (j + (e - i))
 unfolding string_at string_from
 string_again src out i e j r h q =
     let o = opened src i e h in
@@ -61,13 +60,13 @@ string_again src out i e j r h q =
     let q' : drop j out ≡ c ∷ (take m.size (drop (i + 1) src) ++ r) = q ∙ ap (λ (y : List ℕ). y ++ r) p in
     let d = drop_next out j c (take m.size (drop (i + 1) src) ++ r) q' in
     let k : j + 1 + m.size ≡ j + (e - i) = omega arith in
-    rw (lt-leb (length out) j (drop_below out j c _ q'), drop_byte out j c _ q', o.opens, string_at, drop_byte out j c _ q', d) (m.moves plain tt r (j + 1) ∙ ap (λ (y : ℕ). Closed y) k)
+    rw (lt-leb (length out) j (drop_below out j c _ q'), drop_byte out j c _ q', o.opens, string_at, drop_byte out j c _ q', d) (m.moves plain tt r (j + 1) ∙ ap (λ (y : ℕ). Ok y) k)
 
 -- a text to a single colon, with what is no colon behind it
-pub colon_lies : (s : List ℕ) (i e n : ℕ) → i ≤ length s → single_at s i ≡ Single e n → (i ≤ e) × (e < length s) × (get_or s e 0 ≡ 58)
-colon_lies s i e n h q = let x : Singled s i (Single e n) = told (Singled s i) q (singles s i h) in let a = x.0 in (omega arith, x.1, x.2)
+pub colon_lies : (s : List ℕ) (i e n : ℕ) → i ≤ length s → single_at s i ≡ Ok (e, n) → (i ≤ e) × (e < length s) × (get_or s e 0 ≡ 58)
+colon_lies s i e n h q = let x : Singled s i (Ok (e, n)) = told (Singled s i) q (singles s i h) in let a = x.0 in (omega arith, x.1, x.2)
 
-pub colon_again : (src out : List ℕ) (i e n j : ℕ) (r : List ℕ) → i ≤ length src → single_at src i ≡ Single e n → drop j out ≡ slice i e src ++ (58 ∷ r) → NoColon r → (m : ℕ) × (single_at out j ≡ Single (j + (e - i)) m)
+pub colon_again : (src out : List ℕ) (i e n j : ℕ) (r : List ℕ) → i ≤ length src → single_at src i ≡ Ok (e, n) → drop j out ≡ slice i e src ++ (58 ∷ r) → NoColon r → (m : ℕ) × (single_at out j ≡ Ok (j + (e - i), m))
 unfolding single_from
 colon_again src out i e n j r h s q x =
     let l = colon_lies src i e n h s in
@@ -80,7 +79,7 @@ colon_again src out i e n j r h s q x =
     let p : take (suc m.size) (drop i src) ≡ slice i e src ++ (58 ∷ []) = take-suc (drop i src) m.size 0 m.inside ∙ ap₂ (λ (y : List ℕ) (d : ℕ). y ++ (d ∷ [])) (sym (part_is src i m.size e b)) c in
     let t : drop j out ≡ take (suc m.size) (drop i src) ++ r = q ∙ sym (append_assoc (slice i e src) (58 ∷ []) r) ∙ ap (λ (y : List ℕ). y ++ r) (sym p) in
     let (v, w) = m.moves r x j 0 in
-    (v, ap (λ (y : List ℕ). single text y j 0) t ∙ w ∙ ap (λ (y : ℕ). Single y v) (ap (λ (y : ℕ). j + y) k))
+    (v, ap (λ (y : List ℕ). single text y j 0) t ∙ w ∙ ap (λ (y : ℕ). Ok (y, v)) (ap (λ (y : ℕ). j + y) k))
 
 -- and its trimmed part holds the same bytes
 pub colon_same : (src out : List ℕ) (i e j : ℕ) (r : List ℕ) → i ≤ e → e ≤ length src → j ≤ length out → drop j out ≡ slice i e src ++ r → Text (slice i e src)

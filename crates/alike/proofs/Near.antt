@@ -1,4 +1,5 @@
 -- All thirteen tables of two readings by number: a step on one or two of them keeps them alike, and no step says that the others stay. Assumes nothing.
+use Rattle.std.specs.Prelude.{Option}
 use Prim.Native.Nat.{ℕ, zero, suc, ◌-◌, ◌<◌}
 use mathlib.Core.Path.{◌≡◌, refl, ◌∙◌}
 use mathlib.Core.List.{List}
@@ -8,7 +9,6 @@ use native.Mathlib.Decide.{ℕ_discrete}
 use lib.ListN.{get_or, replicate}
 use Rattle.scan.proofs.Bytes.{le_or_lt}
 use Rattle.tables.specs.Layout.{repeats, posix_from}
-use Rattle.grammar.specs.declared.Part.{Part}
 use Rattle.grammar.specs.declared.Singles.{Singles}
 use Rattle.grammar.specs.declared.State.{State}
 use Rattle.grammar.specs.Sound.{AllTables, set_tab, zero_all}
@@ -29,7 +29,7 @@ module _ (src out : List ℕ) (s u : State) (T W : AllTables) (n : Near src out 
   pub near_singles : (g h : Singles) → LikeSingles src out g h → Near src out (with_singles s g) (with_singles u h) T W
   near_singles g h x = record { like = like_singles src out s u n.like g h x; tables = n.tables }
 
-  pub near_actiontype : (p q : Part) → LikePart src out p q → Near src out (with_actiontype s p) (with_actiontype u q) T W
+  pub near_actiontype : (p q : Option (ℕ × ℕ)) → LikePart src out p q → Near src out (with_actiontype s p) (with_actiontype u q) T W
   near_actiontype p q x = record { like = like_actiontype src out s u n.like p q x; tables = n.tables }
 
 -- table k is replaced in both

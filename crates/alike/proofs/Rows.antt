@@ -1,4 +1,5 @@
 -- What the operations on tables do to two tables that are alike. Assumes nothing.
+use Rattle.std.specs.Prelude.{Option, Some}
 use Prim.Native.Nat.{ℕ, zero, suc, ◌+◌, ◌*◌, ◌≤◌, ◌<◌}
 use mathlib.Core.Path.{◌≡◌, refl, sym, ◌∙◌, ap₂}
 use mathlib.Core.List.{List, [], ◌∷◌}
@@ -11,8 +12,6 @@ use lib.ListN.{length, get_or, length-set, set}
 use lib.Seq.{get_or-set_other, get_or-set_same}
 use Rattle.scan.specs.Table.{same}
 use Rattle.scan.proofs.Bytes.{within_yes}
-use Rattle.tables.specs.declared.Found.{Found}
-use Rattle.tables.specs.declared.Found.TheVariants.{RowAt}
 use Rattle.tables.specs.Table.{cell, put, same_part, has_name, first_row, find_name}
 use Rattle.tables.specs.Rows.{row_at}
 use Rattle.tables.proofs.Laws.{put_length}
@@ -31,7 +30,7 @@ module _ (src out : List ℕ) where
   first_like : (p q : ℕ → Bool) (n i : ℕ) → ((r : ℕ) → r < i + n → p r ≡ q r) → first_row p n i ≡ first_row q n i
   unfolding first_row
   first_like p q zero i h = refl
-  first_like p q (suc n) i h = ap₂ (λ (c : Bool) (d : Found). elim c [ true ↦ RowAt i | false ↦ d ]) (h i (omega arith)) (first_like p q n (i + 1) (λ r l. h r (omega arith)))
+  first_like p q (suc n) i h = ap₂ (λ (c : Bool) (d : Option ℕ). elim c [ true ↦ Some i | false ↦ d ]) (h i (omega arith)) (first_like p q n (i + 1) (λ r l. h r (omega arith)))
 
   -- a search for the same bytes gives the same row, where the names of the rows are alike
   pub find_like : (w k n : ℕ) (t u : List ℕ) → k + 1 < w → ((r : ℕ) → r < n → Same src out (cell w t r k) (cell w t r (k + 1)) (cell w u r k) (cell w u r (k + 1)))

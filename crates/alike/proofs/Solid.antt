@@ -1,4 +1,5 @@
 -- Where spacing ends, none follows; and spacing of one byte in front of what is none. Assumes nothing.
+use Rattle.std.specs.Prelude.{Result, Ok, Err}
 use Prim.Native.Nat.{ℕ, ◌+◌}
 use mathlib.Core.Path.{◌≡◌, refl, ◌∙◌, ap}
 use mathlib.Core.List.{List, [], ◌∷◌, ◌++◌}
@@ -8,18 +9,18 @@ use native.Mathlib.Omega.{arith}
 use lib.Dec.{eqb}
 use lib.ListN.{drop}
 use borrow.Author.Tests.{eqb-true}
+use Rattle.scan.proofs.Tuples.{ok_2}
 use Rattle.scan.specs.Scan.{is_eol}
 use Rattle.scan.specs.Lines.{lines_here}
 use Rattle.scan.proofs.Bytes.{on_test, drop_next}
 use Rattle.spacing.specs.Spacing.{is_blank, Mode, gap, slash, line, comment, slash_closes, spacing, spacing_at}
-use Rattle.spacing.specs.declared.Spaced.{Spaced}
-use Rattle.spacing.specs.declared.Spaced.TheVariants.{To, LineEnd, OpenComment}
-use Rattle.grammar.specs.declared.Gap.TheVariants.{GapTo}
+use Rattle.spacing.specs.declared.SpacingError.{SpacingError}
+use Rattle.spacing.specs.declared.SpacingError.TheVariants.{LineEnd, OpenComment}
 use Rattle.grammar.specs.State.{gap_of, gap_at}
 
 -- no spacing of any kind stands in front
 abbrev pub Solid : List ℕ → Type 0
-Solid l = (kind : ℕ) (ok : Bool) (i n : ℕ) → spacing kind ok gap l i n ≡ To i n
+Solid l = (kind : ℕ) (ok : Bool) (i n : ℕ) → spacing kind ok gap l i n ≡ Ok (i, n)
 
 pub solid_byte : (c : ℕ) (cs : List ℕ) → is_blank c ≡ false → is_eol c ≡ false → eqb c 47 ≡ false → Solid (c ∷ cs)
 unfolding spacing
@@ -43,13 +44,13 @@ unfolding spacing
 stops_solid [] x kind ok i n = refl
 stops_solid (c ∷ []) x kind ok i n = rw (x.0, x.1, spacing) (one (eqb c 47))
   where
-    one : (b : Bool) → ◌≡◌ {A = Spaced} (elim b [ true ↦ To i n | false ↦ To i n ]) (To i n)
+    one : (b : Bool) → ◌≡◌ {A = Result (ℕ × ℕ) SpacingError} (elim b [ true ↦ Ok (i, n) | false ↦ Ok (i, n) ]) (Ok (i, n))
     one true = refl
     one false = refl
 stops_solid (c ∷ (d ∷ l)) (x, inl e) kind ok i n = rw (x.0, x.1, e, spacing)
 stops_solid (c ∷ (d ∷ l)) (x, inr (e, f)) kind ok i n = rw (x.0, x.1, spacing) (two (eqb c 47))
   where
-    two : (b : Bool) → ◌≡◌ {A = Spaced} (elim b [ true ↦ spacing kind ok (slash i) (d ∷ l) (i + 1) n | false ↦ To i n ]) (To i n)
+    two : (b : Bool) → ◌≡◌ {A = Result (ℕ × ℕ) SpacingError} (elim b [ true ↦ spacing kind ok (slash i) (d ∷ l) (i + 1) n | false ↦ Ok (i, n) ]) (Ok (i, n))
     two true = rw (e, f, spacing)
     two false = refl
 
@@ -60,10 +61,10 @@ stops_text a [] (d ∷ l) c r x e f = (x.0, inr (e, f))
 stops_text a (b ∷ ys) l c r x e f = x
 
 module _ (kind : ℕ) (ok : Bool) (s : List ℕ) where
-  abbrev Ends : Spaced → Type 0
-  Ends (To j n) = Stops (drop j s)
-  Ends (LineEnd i) = Unit {0}
-  Ends (OpenComment i) = Unit {0}
+  abbrev Ends : Result (ℕ × ℕ) SpacingError → Type 0
+  Ends (Ok (j, n)) = Stops (drop j s)
+  Ends (Err (LineEnd i)) = Unit {0}
+  Ends (Err (OpenComment i)) = Unit {0}
 
   abbrev Ready : Mode → List ℕ → Type 0
   Ready gap l = Unit {0}
@@ -101,28 +102,28 @@ module _ (kind : ℕ) (ok : Bool) (s : List ℕ) where
       (λ g. stops cs (comment b (eqb c 42)) (i + 1) n (drop_next s i c cs q) tt))
 
   -- Where spacing ends, none follows.
-  pub gap_stops : (i j n : ℕ) → gap_at kind ok s i ≡ GapTo j n → Stops (drop j s)
+  pub gap_stops : (i j n : ℕ) → gap_at kind ok s i ≡ Ok (j, n) → Stops (drop j s)
   unfolding gap_at gap_of spacing_at
   gap_stops i j n e = go (spacing kind ok gap (drop i s) i 0) (stops (drop i s) gap i 0 refl tt) e
     where
-      go : (r : Spaced) → Ends r → gap_of r ≡ GapTo j n → Stops (drop j s)
-      go (To k m) x h = let z : k ≡ j = cc in rw z at x
-      go (LineEnd k) x h = let z : ◌≡◌ {A = ℕ} 0 1 = cc in absurd (omega arith)
-      go (OpenComment k) x h = let z : ◌≡◌ {A = ℕ} 0 1 = cc in absurd (omega arith)
+      go : (r : Result (ℕ × ℕ) SpacingError) → Ends r → gap_of r ≡ Ok (j, n) → Stops (drop j s)
+      go (Ok (k, m)) x h = rw (ok_2 h).0 at x
+      go (Err (LineEnd k)) x h = let z : ◌≡◌ {A = ℕ} 0 1 = cc in absurd (omega arith)
+      go (Err (OpenComment k)) x h = let z : ◌≡◌ {A = ℕ} 0 1 = cc in absurd (omega arith)
 
-  pub gap_solid : (i j n : ℕ) → gap_at kind ok s i ≡ GapTo j n → Solid (drop j s)
+  pub gap_solid : (i j n : ℕ) → gap_at kind ok s i ≡ Ok (j, n) → Solid (drop j s)
   gap_solid i j n e = stops_solid (drop j s) (gap_stops i j n e)
 
 -- a single space, a line end, or nothing, in front of what is no spacing
 module _ (s : List ℕ) (i : ℕ) (l : List ℕ) (x : Solid l) where
-  pub gap_space : (kind : ℕ) (ok : Bool) → drop i s ≡ 32 ∷ l → gap_at kind ok s i ≡ GapTo (i + 1) 0
+  pub gap_space : (kind : ℕ) (ok : Bool) → drop i s ≡ 32 ∷ l → gap_at kind ok s i ≡ Ok (i + 1, 0)
   unfolding gap_at gap_of spacing_at spacing is_blank
   gap_space kind ok q = rw (q, x kind ok (i + 1) 0)
 
-  pub gap_line : (kind : ℕ) → drop i s ≡ 10 ∷ l → gap_at kind true s i ≡ GapTo (i + 1) 1
+  pub gap_line : (kind : ℕ) → drop i s ≡ 10 ∷ l → gap_at kind true s i ≡ Ok (i + 1, 1)
   unfolding gap_at gap_of spacing_at spacing is_blank is_eol lines_here
   gap_line kind q = rw (q, x kind true (i + 1) 1)
 
-  pub gap_none : (kind : ℕ) (ok : Bool) → drop i s ≡ l → gap_at kind ok s i ≡ GapTo i 0
+  pub gap_none : (kind : ℕ) (ok : Bool) → drop i s ≡ l → gap_at kind ok s i ≡ Ok (i, 0)
   unfolding gap_at gap_of spacing_at
   gap_none kind ok q = rw (q, x kind ok i 0)

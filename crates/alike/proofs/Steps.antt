@@ -1,4 +1,5 @@
 -- The steps that add a row, on two readings that are alike. Assumes nothing.
+use Rattle.std.specs.Prelude.{Option, Some, None}
 use Prim.Native.Nat.{ℕ, ◌+◌, ◌-◌, ◌*◌, ◌<◌}
 use mathlib.Core.Path.{◌≡◌, refl, sym, ◌∙◌, ap, ap₂}
 use mathlib.Core.List.{List}
@@ -8,8 +9,6 @@ use lib.Dec.{ltb}
 use lib.ListN.{length, get_or, set}
 use lib.Seq.{slice_empty}
 use Rattle.scan.proofs.Bytes.{told}
-use Rattle.tables.specs.declared.Found.{Found}
-use Rattle.tables.specs.declared.Found.TheVariants.{RowAt, NoRow}
 use Rattle.tables.specs.Layout.{tokens, rules, repeats, posix_from, row_place, width}
 use Rattle.tables.specs.Table.{put, room, add_row, find_name, enter_token, marked, flag}
 use Rattle.tables.proofs.Laws.{room_fits}
@@ -18,8 +17,6 @@ use Rattle.grammar.specs.declared.Counts.{Counts}
 use Rattle.grammar.specs.declared.PosixCounts.{PosixCounts}
 use Rattle.grammar.specs.declared.State.{State}
 use Rattle.grammar.specs.declared.Answer.TheVariants.{Going, Refused}
-use Rattle.grammar.specs.declared.Part.{Part}
-use Rattle.grammar.specs.declared.Part.TheVariants.{Absent, At}
 use Rattle.grammar.specs.declared.Singles.{Singles}
 use Rattle.grammar.specs.declared.Repeat.{Repeat}
 use Rattle.grammar.specs.Cells.{token_cells, rule_cells, repeat_cells}
@@ -79,7 +76,7 @@ module _ (src out : List ℕ) (s u : State) (l : Like src out s u) where
   pub like_singles : (g h : Singles) → LikeSingles src out g h → Like src out (with_singles s g) (with_singles u h)
   like_singles g h x = record { shipped = l.shipped; kind = l.kind; level = l.level; ten = l.ten; counts = l.counts; posix = l.posix; singles = x; actiontype = l.actiontype }
 
-  pub like_actiontype : (p q : Part) → LikePart src out p q → Like src out (with_actiontype s p) (with_actiontype u q)
+  pub like_actiontype : (p q : Option (ℕ × ℕ)) → LikePart src out p q → Like src out (with_actiontype s p) (with_actiontype u q)
   like_actiontype p q x = record { shipped = l.shipped; kind = l.kind; level = l.level; ten = l.ten; counts = l.counts; posix = l.posix; singles = l.singles; actiontype = x }
 
   -- and when the same is counted in both
@@ -123,16 +120,16 @@ module _ (src out : List ℕ) (s u : State) (l : Like src out s u) where
 
 -- a token is found, or has a new row, or finds no room
 module _ (src : List ℕ) (s : State) (a b : ℕ) (d : Bool) (t : List ℕ) where
-  enter_found : (r : ℕ) → find_name src (width tokens) 0 (count s tokens) t a b ≡ RowAt r → enter_step src s a b d t ≡ record { answer = Going; state = with_count s tokens (count s tokens); a = marked d r t }
+  enter_found : (r : ℕ) → find_name src (width tokens) 0 (count s tokens) t a b ≡ Some r → enter_step src s a b d t ≡ record { answer = Going; state = with_count s tokens (count s tokens); a = marked d r t }
   unfolding enter_step enter_token
   enter_found r h = rw h
 
-  enter_new : find_name src (width tokens) 0 (count s tokens) t a b ≡ NoRow → room 3 (count s tokens) t ≡ true
+  enter_new : find_name src (width tokens) 0 (count s tokens) t a b ≡ None → room 3 (count s tokens) t ≡ true
       → enter_step src s a b d t ≡ record { answer = Going; state = with_count s tokens (count s tokens + 1); a = put t (count s tokens * 3) (token_cells a b (flag d)) }
   unfolding enter_step enter_token add_row
   enter_new h k = rw (h, k)
 
-  enter_full : find_name src (width tokens) 0 (count s tokens) t a b ≡ NoRow → room 3 (count s tokens) t ≡ false → (enter_step src s a b d t).answer ≡ Refused (no_room tokens (token_cells a b (flag d)))
+  enter_full : find_name src (width tokens) 0 (count s tokens) t a b ≡ None → room 3 (count s tokens) t ≡ false → (enter_step src s a b d t).answer ≡ Refused (no_room tokens (token_cells a b (flag d)))
   unfolding enter_step enter_token add_row
   enter_full h k = rw (h, k)
 
@@ -154,12 +151,12 @@ module _ (src out : List ℕ) (s u : State) (l : Like src out s u) where
       mark true r h = mark_like src out n r t v h y
       mark false r h = y
 
-      go : (f : Found) → find_name src 3 0 n t a b ≡ f → (q : Bool) → room 3 n t ≡ q → Both1 src out tokens s u (enter_step src s a b d t) (enter_step out u c e d v)
-      go (RowAt r) h q k =
+      go : (f : Option ℕ) → find_name src 3 0 n t a b ≡ f → (q : Bool) → room 3 n t ≡ q → Both1 src out tokens s u (enter_step src s a b d t) (enter_step out u c e d v)
+      go (Some r) h q k =
           let i = ((find_iff src 3 0 n t a b r).0 h).inside in
           rw (enter_found src s a b d t r h, enter_found out u c e d v r (sym found ∙ h), ← same_count src out s u l tokens)
           (record { going = refl; stays = refl; stays' = refl; states = count_like src out s u l tokens n; table = rw (counted n) (mark d r i); others = count_other s tokens n })
-      go NoRow h true k =
+      go None h true k =
           let m = room_fits 3 n t k in
           let o : room 3 (count u tokens) v ≡ true = rw (← same_count src out s u l tokens) (sym (room_long 3 n t v y.long) ∙ k) in
           rw (enter_new src s a b d t h k, enter_new out u c e d v (sym found ∙ h) o, ← same_count src out s u l tokens)
@@ -171,7 +168,7 @@ module _ (src out : List ℕ) (s u : State) (l : Like src out s u) where
             table = rw (counted (n + 1)) (add_like src out (fields tokens) 3 n t v (token_cells a b (flag d)) (token_cells c e (flag d)) refl refl m y (x, (refl, tt)));
             others = count_other s tokens (n + 1);
           })
-      go NoRow h false k = absurd (refused_going _ (sym (enter_full src s a b d t h k) ∙ g))
+      go None h false k = absurd (refused_going _ (sym (enter_full src s a b d t h k) ∙ g))
 
 -- what may be given once: a row more, or a repeat; table k + 1 and the repeats
 pub record Both2 (src out : List ℕ) (k : ℕ) (s : State) (o z : Out2) : Type 0 where
@@ -203,14 +200,14 @@ module _ (src out : List ℕ) (s u : State) (l : Like src out s u) where
       found : find_name src (width k) name (count s k) t from to ≡ find_name out (width k) name (count u k) v (get_or row' name 0) (get_or row' (name + 1) 0)
       found = rw (← same_count src out s u l k) (find_like src out (width k) name (count s k) t v m (names_like src out (fields k) (width k) name (count s k) t v m tab names) from to _ _ (names row row' z))
 
-      go : (r : Found) → find_name src (width k) name (count s k) t from to ≡ r → (once_found r s k (width k) what row t t10).answer ≡ Going
+      go : (r : Option ℕ) → find_name src (width k) name (count s k) t from to ≡ r → (once_found r s k (width k) what row t t10).answer ≡ Going
           → Both2 src out k s (once_found r s k (width k) what row t t10) (once_found r u k (width k) what row' v v10)
-      go (RowAt r) q g =
+      go (Some r) q g =
           let i = ((find_iff src (width k) name (count s k) t from to r).0 q).inside in
           let w = names_like src out (fields k) (width k) (row_place k) (count s k) t v m1 tab places r i in
           let p = push_like src out s u l repeats (omega arith) (repeat_cells _ _ _ _ _) (repeat_cells _ _ _ _ _) t10 v10 refl refl (refl, (w, (places row row' z, tt))) again g in
           record { going = p.going; states = p.states; table = rw (p.others k apart) tab; again = p.table; others = λ j n o. p.others j o }
-      go NoRow q g =
+      go None q g =
           let p = push_like src out s u l k h row row' t v e f z tab g in
           record { going = p.going; states = p.states; table = p.table; again = rw (p.others repeats (λ n. apart (sym n))) again; others = λ j n o. p.others j n }
 
@@ -226,17 +223,17 @@ pub record BothHeads (src out : List ℕ) (s u : State) (o z : Heading) : Type 0
 
 module _ (src out : List ℕ) (s u : State) (l : Like src out s u) where
   -- the cells of a type, given or not
-  type_like : (a b c d : ℕ) (p q : Part) → Same src out a b c d → LikePart src out p q → Fields src out (fields rules) (rule_cells a b p) (rule_cells c d q)
-  type_like a b c d Absent Absent x y = (x, (refl, (record { here = (omega arith, omega arith); there = (omega arith, omega arith); bytes = slice_empty 0 src ∙ sym (slice_empty 0 out) }, tt)))
-  type_like a b c d Absent (At e f) x y = absurd y
-  type_like a b c d (At e f) Absent x y = absurd y
-  type_like a b c d (At e f) (At g h) x y = (x, (refl, (y, tt)))
+  type_like : (a b c d : ℕ) (p q : Option (ℕ × ℕ)) → Same src out a b c d → LikePart src out p q → Fields src out (fields rules) (rule_cells a b p) (rule_cells c d q)
+  type_like a b c d None None x y = (x, (refl, (record { here = (omega arith, omega arith); there = (omega arith, omega arith); bytes = slice_empty 0 src ∙ sym (slice_empty 0 out) }, tt)))
+  type_like a b c d None (Some (e, f)) x y = absurd y
+  type_like a b c d (Some (e, f)) None x y = absurd y
+  type_like a b c d (Some (e, f)) (Some (g, h)) x y = (x, (refl, (y, tt)))
 
-  wide : (a b : ℕ) (p : Part) → length (rule_cells a b p) ≡ width rules
-  wide a b Absent = refl
-  wide a b (At c d) = refl
+  wide : (a b : ℕ) (p : Option (ℕ × ℕ)) → length (rule_cells a b p) ≡ width rules
+  wide a b None = refl
+  wide a b (Some (c, d)) = refl
 
-  pub rule_like : (a b c d : ℕ) (p q : Part) (t v : List ℕ) → Same src out a b c d → LikePart src out p q → Table src out rules (count s rules) t v → (enter_rule src s a b p t).answer ≡ Going
+  pub rule_like : (a b c d : ℕ) (p q : Option (ℕ × ℕ)) (t v : List ℕ) → Same src out a b c d → LikePart src out p q → Table src out rules (count s rules) t v → (enter_rule src s a b p t).answer ≡ Going
       → BothHeads src out s u (enter_rule src s a b p t) (enter_rule out u c d q v)
   unfolding enter_rule
   rule_like a b c d p q t v x y tab = rw (← found) (go (find_name src (width rules) 0 (count s rules) t a b))
@@ -244,8 +241,8 @@ module _ (src out : List ℕ) (s u : State) (l : Like src out s u) where
       found : find_name src (width rules) 0 (count s rules) t a b ≡ find_name out (width rules) 0 (count u rules) v c d
       found = rw (← same_count src out s u l rules) (find_like src out (width rules) 0 (count s rules) t v (omega arith) (names_like src out (fields rules) (width rules) 0 (count s rules) t v (omega arith) tab (λ x y f. f.0)) a b c d x)
 
-      go : (r : Found) → (rule_found r s a b p t).answer ≡ Going → BothHeads src out s u (rule_found r s a b p t) (rule_found r u c d q v)
-      go (RowAt r) g = record { going = refl; stays = refl; stays' = refl; row = refl; states = l; table = tab; others = λ j e. refl }
-      go NoRow g =
+      go : (r : Option ℕ) → (rule_found r s a b p t).answer ≡ Going → BothHeads src out s u (rule_found r s a b p t) (rule_found r u c d q v)
+      go (Some r) g = record { going = refl; stays = refl; stays' = refl; row = refl; states = l; table = tab; others = λ j e. refl }
+      go None g =
           let o = push_like src out s u l rules (omega arith) (rule_cells a b p) (rule_cells c d q) t v (wide a b p) (wide c d q) (type_like a b c d p q x y) tab g in
           record { going = o.going; stays = o.stays; stays' = o.stays'; row = same_count src out s u l rules; states = o.states; table = o.table; others = o.others }

@@ -1,4 +1,5 @@
 -- A token that stands in one source stands in any where its bytes do, with what ends a word behind them. Assumes nothing.
+use Rattle.std.specs.Prelude.{Option, Some, None, Result, Ok}
 use Prim.Native.Nat.{ℕ, ◌+◌, ◌-◌, ◌<◌}
 use mathlib.Core.Path.{◌≡◌, refl}
 use mathlib.Core.List.{List}
@@ -6,14 +7,11 @@ use mathlib.Core.Bool.{Bool, true, false}
 use native.Mathlib.Omega.{arith}
 use lib.Dec.{leb, eqb}
 use lib.ListN.{length, get_or}
+use Rattle.scan.proofs.Tuples.{ok_3}
 use Rattle.scan.specs.declared.Place.{Place}
 use Rattle.scan.specs.declared.Class.TheVariants.{TokenStart, TokenByte, Unquoted}
 use Rattle.scan.specs.Scan.{in_class, is_at, run_end_at}
 use Rattle.scan.proofs.Bytes.{on_test, told}
-use Rattle.words.specs.declared.Word.{Word}
-use Rattle.words.specs.declared.Word.TheVariants.{WordTo, NoWord}
-use Rattle.words.specs.declared.Token.{Token}
-use Rattle.words.specs.declared.Token.TheVariants.{Found}
 use Rattle.words.specs.Words.{word_at, is_quote, closed, quoted_at, bare, token_at, Tokened}
 use Rattle.words.proofs.Words.{token_placed}
 use Rattle.alike.specs.Like.{Same}
@@ -24,7 +22,7 @@ pub data Shape (i : ℕ) : Place → ℕ → Bool → Type 0 where
   plain : (to : ℕ) → Shape i (record { from = i; to = to }) to false
   quote : (to : ℕ) → Shape i (record { from = i + 1; to = to }) (to + 1) true
 
-pub shape : (s : List ℕ) (i : ℕ) (p : Place) (e : ℕ) (q : Bool) → token_at s i ≡ Found p e q → Shape i p e q
+pub shape : (s : List ℕ) (i : ℕ) (p : Place) (e : ℕ) (q : Bool) → token_at s i ≡ Ok (p, e, q) → Shape i p e q
 unfolding token_at quoted_at closed bare
 shape s i p e q =
     on_test Is (leb (length s) i) _ _ (λ f r. absurd (clash cc))
@@ -37,30 +35,27 @@ shape s i p e q =
     c : ℕ
     c = get_or s i 0
 
-    Is : Token → Type 0
-    Is r = r ≡ Found p e q → Shape i p e q
+    Is : Result (Place × ℕ × Bool) ℕ → Type 0
+    Is r = r ≡ Ok (p, e, q) → Shape i p e q
 
-    is : (a : Place) (b : ℕ) (d : Bool) → Found a b d ≡ Found p e q → Shape i a b d → Shape i p e q
+    is : (a : Place) (b : ℕ) (d : Bool) → ◌≡◌ {A = Result (Place × ℕ × Bool) ℕ} (Ok (a, b, d)) (Ok (p, e, q)) → Shape i a b d → Shape i p e q
     is a b d r x =
-        let u : a ≡ p = cc in
-        let v : b ≡ e = cc in
-        let w : d ≡ q = cc in
-        rw (u, v, w) at x
+        let o = ok_3 r in rw (o.0, o.1, o.2) at x
 
-    word : (w : Word) → Is (bare i w)
-    word (WordTo to) r = is _ _ _ r (plain to)
-    word NoWord r = absurd (clash cc)
+    word : (w : Option ℕ) → Is (bare i w)
+    word (Some to) r = is _ _ _ r (plain to)
+    word None r = absurd (clash cc)
 
 -- The same token in two sources that agree there, with what ends a word behind it in the second.
 pub record Twin (s t : List ℕ) (i j m : ℕ) (p : Place) (q : Bool) : Type 0 where
   pub place : Place
-  pub is : token_at t j ≡ Found place (j + m) q
+  pub is : token_at t j ≡ Ok (place, j + m, q)
   pub same : Same s t p.from p.to place.from place.to
 
-pub token_move : (s t : List ℕ) (i j m : ℕ) → Agree s t i j m → (p : Place) (q : Bool) → token_at s i ≡ Found p (i + m) q → (j + m < length t → in_class TokenByte (get_or t (j + m) 0) ≡ false) → Twin s t i j m p q
+pub token_move : (s t : List ℕ) (i j m : ℕ) → Agree s t i j m → (p : Place) (q : Bool) → token_at s i ≡ Ok (p, i + m, q) → (j + m < length t → in_class TokenByte (get_or t (j + m) 0) ≡ false) → Twin s t i j m p q
 token_move s t i j m x p q e stops = go p (i + m) q (shape s i p (i + m) q e) refl e (told (Tokened s i) e (token_placed s i (token_at s i) refl).1)
   where
-    go : (p : Place) (end : ℕ) (q : Bool) → Shape i p end q → end ≡ i + m → token_at s i ≡ Found p end q → Tokened s i (Found p end q) → Twin s t i j m p q
+    go : (p : Place) (end : ℕ) (q : Bool) → Shape i p end q → end ≡ i + m → token_at s i ≡ Ok (p, end, q) → Tokened s i (Ok (p, end, q)) → Twin s t i j m p q
     go _ _ _ (plain to) f e y =
         let a = y.1 in
         let u = x.here in

@@ -1,4 +1,5 @@
 -- What is shipped is a text: pieces that are texts are one together, and so are bytes below 128. Assumes nothing.
+use Rattle.std.specs.Prelude.{Ok, Err, Result}
 use Prim.Native.Nat.{ℕ, suc, ◌+◌, ◌-◌, ◌≤◌, ◌<◌}
 use mathlib.Core.Path.{◌≡◌, refl, ◌∙◌, ap, ap₂}
 use mathlib.Core.List.{List, [], ◌∷◌, ◌++◌}
@@ -9,6 +10,7 @@ use borrow.Author.Tests.{lt-ltb, eqb-true}
 use lib.Dec.{eqb}
 use lib.ListN.{length, get_or, drop}
 use lib.Seq.{slice, get_or-drop}
+use Rattle.words.specs.declared.QuoteError.{QuoteError}
 use Rattle.scan.specs.declared.Place.{Place}
 use Rattle.scan.specs.declared.Class.{Class}
 use Rattle.scan.specs.declared.Class.TheVariants.{NameStart, NameByte, TokenStart, TokenByte, Digit}
@@ -16,10 +18,7 @@ use Rattle.scan.specs.Scan.{within, in_class, is_eol, is_letter, is_digit}
 use Rattle.scan.proofs.Bytes.{le_or_lt, within_true}
 use Rattle.whole.specs.Encode.{Scalars, encode, encoded, Text}
 use Rattle.whole.proofs.Boundaries.{encoded_append, between, begins_boundary, ascii_behind}
-use Rattle.words.specs.declared.Name.TheVariants.{NameTo}
-use Rattle.words.specs.declared.Token.TheVariants.{Found}
-use Rattle.words.specs.declared.Int.TheVariants.{Value}
-use Rattle.words.specs.declared.Quote.TheVariants.{Closed, LineInside, BadEscape}
+use Rattle.words.specs.declared.QuoteError.TheVariants.{LineInside, BadEscape}
 use Rattle.words.specs.Words.{is_quote, name_at, token_at, IsWord}
 use Rattle.words.specs.Numbers.{int_at}
 use Rattle.words.specs.Strings.{Mode, plain, escape, string, string_at}
@@ -84,14 +83,14 @@ unfolding is_quote
 quote_low c t = or_low _ _ c (byte_low 34 c (omega arith)) (byte_low 39 c (omega arith)) t
 
 -- the last byte of a string is its quote
-string_last : (q : ℕ) (mode : Mode) (l : List ℕ) (i e : ℕ) → string q mode l i ≡ Closed e → (k : ℕ) × (i + k + 1 ≡ e) × (get_or l k 0 ≡ q)
+string_last : (q : ℕ) (mode : Mode) (l : List ℕ) (i e : ℕ) → string q mode l i ≡ Ok e → (k : ℕ) × (i + k + 1 ≡ e) × (get_or l k 0 ≡ q)
 unfolding string
 string_last q plain [] i e h = let z : ◌≡◌ {A = ℕ} 0 1 = cc in absurd (omega arith)
 string_last q (escape b) [] i e h = let z : ◌≡◌ {A = ℕ} 0 1 = cc in absurd (omega arith)
 string_last q plain (c ∷ cs) i e h = go (eqb c q) refl (is_eol c) (eqb c 92) (string_last q plain cs (i + 1) e) (string_last q (escape i) cs (i + 1) e) h
   where
-    go : (a : Bool) → eqb c q ≡ a → (b d : Bool) → (string q plain cs (i + 1) ≡ Closed e → (k : ℕ) × (i + 1 + k + 1 ≡ e) × (get_or cs k 0 ≡ q)) → (string q (escape i) cs (i + 1) ≡ Closed e → (k : ℕ) × (i + 1 + k + 1 ≡ e) × (get_or cs k 0 ≡ q))
-        → elim a [ true ↦ Closed (i + 1) | false ↦ elim b [ true ↦ LineInside i | false ↦ elim d [ true ↦ string q (escape i) cs (i + 1) | false ↦ string q plain cs (i + 1) ] ] ] ≡ Closed e
+    go : (a : Bool) → eqb c q ≡ a → (b d : Bool) → (string q plain cs (i + 1) ≡ Ok e → (k : ℕ) × (i + 1 + k + 1 ≡ e) × (get_or cs k 0 ≡ q)) → (string q (escape i) cs (i + 1) ≡ Ok e → (k : ℕ) × (i + 1 + k + 1 ≡ e) × (get_or cs k 0 ≡ q))
+        → ◌≡◌ {A = Result ℕ QuoteError} (elim a [ true ↦ Ok (i + 1) | false ↦ elim b [ true ↦ Err (LineInside i) | false ↦ elim d [ true ↦ string q (escape i) cs (i + 1) | false ↦ string q plain cs (i + 1) ] ] ]) (Ok e)
         → (k : ℕ) × (i + k + 1 ≡ e) × (get_or (c ∷ cs) k 0 ≡ q)
     go true x b d f g h = let z : i + 1 ≡ e = cc in (0, omega arith, eqb-true c q x)
     go false x true d f g h = let z : ◌≡◌ {A = ℕ} 0 1 = cc in absurd (omega arith)
@@ -99,7 +98,7 @@ string_last q plain (c ∷ cs) i e h = go (eqb c q) refl (is_eol c) (eqb c 92) (
     go false x false false f g h = let (k, y, w) = f h in (suc k, omega arith, w)
 string_last q (escape b) (c ∷ cs) i e h = go (is_quote c) (string_last q plain cs (i + 1) e) h
   where
-    go : (a : Bool) → (string q plain cs (i + 1) ≡ Closed e → (k : ℕ) × (i + 1 + k + 1 ≡ e) × (get_or cs k 0 ≡ q)) → elim a [ true ↦ string q plain cs (i + 1) | false ↦ BadEscape b ] ≡ Closed e → (k : ℕ) × (i + k + 1 ≡ e) × (get_or (c ∷ cs) k 0 ≡ q)
+    go : (a : Bool) → (string q plain cs (i + 1) ≡ Ok e → (k : ℕ) × (i + 1 + k + 1 ≡ e) × (get_or cs k 0 ≡ q)) → ◌≡◌ {A = Result ℕ QuoteError} (elim a [ true ↦ string q plain cs (i + 1) | false ↦ Err (BadEscape b) ]) (Ok e) → (k : ℕ) × (i + k + 1 ≡ e) × (get_or (c ∷ cs) k 0 ≡ q)
     go true f h = let (k, y, w) = f h in (suc k, omega arith, w)
     go false f h = let z : ◌≡◌ {A = ℕ} 0 1 = cc in absurd (omega arith)
 
@@ -124,20 +123,20 @@ module _ (s : List ℕ) (t : Text s) (i e : ℕ) where
       go (inl h) = let n = o in let z : e - 1 ≡ i = omega arith in ends_text (omega arith) w.goes_on.inside a (rw z a)
       go (inr h) = ends_text (omega arith) w.goes_on.inside a (class_low r _ (w.goes_on.each (e - 1) (omega arith) (omega arith)))
 
-  pub name_text : name_at s i ≡ NameTo e → Text (slice i e s)
+  pub name_text : name_at s i ≡ Ok e → Text (slice i e s)
   name_text h = word_text name_start name_byte ((name_iff s i e).0 h)
 
-  pub int_text : (v : ℕ) → i ≤ length s → int_at s i ≡ Value v e → Text (slice i e s)
+  pub int_text : (v : ℕ) → i ≤ length s → int_at s i ≡ Ok (v, e) → Text (slice i e s)
   int_text v h q =
       let w = (int_iff s i e v h).0 q in
       let a = w.some in
       ends_text a w.digits.inside (class_low digit _ (w.digits.each i (omega arith) (omega arith))) (class_low digit _ (w.digits.each (e - 1) (omega arith) (omega arith)))
 
 module _ (s : List ℕ) (t : Text s) (i e : ℕ) where
-  pub token_text : (p : Place) (q : Bool) → token_at s i ≡ Found p e q → Text (slice i e s)
+  pub token_text : (p : Place) (q : Bool) → token_at s i ≡ Ok (p, e, q) → Text (slice i e s)
   token_text p q h = go p e q (shape s i p e q h) h
     where
-      go : (p : Place) (d : ℕ) (q : Bool) → Shape i p d q → token_at s i ≡ Found p d q → Text (slice i d s)
+      go : (p : Place) (d : ℕ) (q : Bool) → Shape i p d q → token_at s i ≡ Ok (p, d, q) → Text (slice i d s)
       go _ _ _ (plain-token to) h = word_text s t i to token_start token_byte ((bare_iff s i to).0 h)
       go _ _ _ (quote to) h =
           let w = (quoted_iff s i to).0 h in
@@ -148,7 +147,7 @@ module _ (s : List ℕ) (t : Text s) (i e : ℕ) where
           ends_text s t i (to + 1) (omega arith) (omega arith) c (rw (z, w.closes) c)
 
   -- and a string.
-  pub string_text : string_at s i ≡ Closed e → Text (slice i e s)
+  pub string_text : string_at s i ≡ Ok e → Text (slice i e s)
   string_text h =
       let o = opened s i e h in
       let l = string_lies s i e h in

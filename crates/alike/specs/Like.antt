@@ -1,14 +1,8 @@
 -- Request eleven, "the same tables and singles, places aside": two readings of two sources, each place taken for the bytes that it denotes.
-use Rattle.std.specs.Prelude.{ℕ, ◌+◌, ◌*◌, ◌≤◌, ◌<◌, ◌≡◌, List, [], ◌∷◌, length, get_or}
+use Rattle.std.specs.Prelude.{ℕ, ◌+◌, ◌*◌, ◌≤◌, ◌<◌, ◌≡◌, List, [], ◌∷◌, length, get_or, Option, Some, None}
 use Rattle.std.proofs.Math.Seq.{slice}
 use Rattle.tables.specs.Layout.{width}
 use Rattle.tables.specs.Rows.{row_at}
-use Rattle.grammar.specs.declared.Part.{Part}
-use Rattle.grammar.specs.declared.Part.TheVariants.{Absent, At}
-use Rattle.grammar.specs.declared.Expect.{Expect}
-use Rattle.grammar.specs.declared.Expect.TheVariants.{NotExpected, Expected}
-use Rattle.grammar.specs.declared.Param.{Param}
-use Rattle.grammar.specs.declared.Param.TheVariants.{NoParam, ParamAt}
 use Rattle.grammar.specs.declared.Singles.{Singles}
 use Rattle.grammar.specs.declared.State.{State}
 use Rattle.grammar.specs.Sound.{AllTables, cells_of}
@@ -67,23 +61,23 @@ abbrev pub Table : List ℕ → List ℕ → ℕ → ℕ → List ℕ → List �
 Table src out k n t u = Alike src out (fields k) (width k) n t u
 
 -- singles
-abbrev pub LikePart : List ℕ → List ℕ → Part → Part → Type 0
-LikePart src out Absent Absent = Unit {0}
-LikePart src out Absent (At c d) = ⊥
-LikePart src out (At a b) Absent = ⊥
-LikePart src out (At a b) (At c d) = Same src out a b c d
+abbrev pub LikePart : List ℕ → List ℕ → Option (ℕ × ℕ) → Option (ℕ × ℕ) → Type 0
+LikePart src out None None = Unit {0}
+LikePart src out None (Some (c, d)) = ⊥
+LikePart src out (Some (a, b)) None = ⊥
+LikePart src out (Some (a, b)) (Some (c, d)) = Same src out a b c d
 
-abbrev pub LikeExpect : List ℕ → List ℕ → Expect → Expect → Type 0
-LikeExpect src out NotExpected NotExpected = Unit {0}
-LikeExpect src out NotExpected (Expected w c d) = ⊥
-LikeExpect src out (Expected v a b) NotExpected = ⊥
-LikeExpect src out (Expected v a b) (Expected w c d) = (v ≡ w) × Same src out a b c d
+abbrev pub LikeExpect : List ℕ → List ℕ → Option (ℕ × ℕ × ℕ) → Option (ℕ × ℕ × ℕ) → Type 0
+LikeExpect src out None None = Unit {0}
+LikeExpect src out None (Some (w, c, d)) = ⊥
+LikeExpect src out (Some (v, a, b)) None = ⊥
+LikeExpect src out (Some (v, a, b)) (Some (w, c, d)) = (v ≡ w) × Same src out a b c d
 
-abbrev pub LikeParam : List ℕ → List ℕ → Param → Param → Type 0
-LikeParam src out NoParam NoParam = Unit {0}
-LikeParam src out NoParam (ParamAt c d g h) = ⊥
-LikeParam src out (ParamAt a b e f) NoParam = ⊥
-LikeParam src out (ParamAt a b e f) (ParamAt c d g h) = Same src out a b c d × Same src out e f g h
+abbrev pub LikeParam : List ℕ → List ℕ → Option (ℕ × ℕ × ℕ × ℕ) → Option (ℕ × ℕ × ℕ × ℕ) → Type 0
+LikeParam src out None None = Unit {0}
+LikeParam src out None (Some (c, d, g, h)) = ⊥
+LikeParam src out (Some (a, b, e, f)) None = ⊥
+LikeParam src out (Some (a, b, e, f)) (Some (c, d, g, h)) = Same src out a b c d × Same src out e f g h
 
 pub record LikeSingles (src out : List ℕ) (g h : Singles) : Type 0 where
   pub start : LikePart src out g.start h.start

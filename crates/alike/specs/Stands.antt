@@ -1,17 +1,16 @@
 -- Words as they stand in a source, with their bytes.
-use Rattle.std.specs.Prelude.{ℕ, ◌≡◌, List, [], ◌∷◌, Bool, false}
+use Rattle.std.specs.Prelude.{ℕ, ◌≡◌, List, [], ◌∷◌, Bool, false, Ok}
 use Rattle.std.proofs.Math.Seq.{slice}
 use Rattle.scan.specs.declared.Place.{Place}
 use Rattle.scan.specs.declared.Class.TheVariants.{NameByte, TokenByte}
 use Rattle.scan.specs.Scan.{in_class}
-use Rattle.words.specs.declared.Token.TheVariants.{Found}
 use Rattle.words.specs.Words.{token_at}
 
 -- from i to end stands a token, spelled x
 pub record TokenAt (s : List ℕ) (i end : ℕ) (x : List ℕ) : Type 0 where
   pub place : Place
   pub quoted : Bool
-  pub is : token_at s i ≡ Found place end quoted
+  pub is : token_at s i ≡ Ok (place, end, quoted)
   pub spelled : slice i end s ≡ x
 
 -- what ends a name or a bare token

@@ -1,4 +1,4 @@
-// What the programs do with their arguments: words, kinds of grammar by name, and files, of which `-` is standard input.
+// What the programs do with their arguments: kinds of grammar by name, and files, of which `-` is standard input.
 #![tactic(auto)]
 
 ghost use Rattle.std.specs.Prelude.{◌≤◌, IfOk, length};
@@ -17,7 +17,7 @@ const EILSEQ: i32 = 84;
 
 // Where a source is read from.
 #[derive(Drop)]
-pub enum Opened {
+enum Opened {
     Input(Stdin),
     File(File),
 }
@@ -31,20 +31,15 @@ impl Read for Opened {
     }
 }
 
-pub fn is_word(a: &[u8], word: &[u8]) -> bool {
-    a.len() == word.len() && scan::starts(a, 0, word)
-}
-
-fn kind_if(word: &[u8], name: &[u8], kind: u32) -> u32 {
-    if is_word(word, name) { kind } else { 0 }
-}
-
-// The kinds by their names, 0 where there is none.
-pub fn kind_of(word: &[u8]) -> u32 {
-    kind_if(word, b"original", 1)
-        | kind_if(word, b"grmtools", 2)
-        | kind_if(word, b"eco", 3)
-        | kind_if(word, b"posix", 4)
+// The kinds by their names.
+pub fn kind_of(word: &[u8]) -> Option<u32> {
+    match word {
+        b"original" => Some(1),
+        b"grmtools" => Some(2),
+        b"eco" => Some(3),
+        b"posix" => Some(4),
+        _ => None,
+    }
 }
 
 // How many arguments there are, with the program's name.
@@ -61,34 +56,29 @@ pub fn count(rt: &impl Env) -> usize {
 pub fn take(rt: &impl Env, i: usize, word: &mut [u8]) -> io::Result<usize>
     ensures { IfOk result (λ n. n ≤ length word.new) }
 {
-    match rt.arg(i, word) {
-        Ok(n) => Ok(n),
-        Err(FillError::TooLong) => Err(io::Error::from_raw_os_error(ENAMETOOLONG)),
-        Err(FillError::NotPresent) => Err(io::Error::from_raw_os_error(EINVAL)),
-    }
+    let number = match rt.arg(i, word) {
+        Ok(n) => return Ok(n),
+        Err(FillError::TooLong) => ENAMETOOLONG,
+        Err(FillError::NotPresent) => EINVAL,
+    };
+    Err(io::Error::from_raw_os_error(number))
 }
 
 // A file whose name is not UTF-8 can't be opened: std's paths are text.
-pub fn open(rt: &HostRuntime, file: &[u8]) -> io::Result<Opened> {
-    if is_word(file, b"-") {
+fn open(rt: &HostRuntime, file: &[u8]) -> io::Result<Opened> {
+    if let b"-" = file {
         return Ok(Opened::Input(rt.stdin()));
     }
-    match std::str::from_utf8(file) {
-        Ok(path) => Ok(Opened::File(File::open(rt, path)?)),
-        Err(_) => Err(io::Error::from_raw_os_error(EILSEQ)),
-    }
+    let path = std::str::from_utf8(file).map_err(|_| io::Error::from_raw_os_error(EILSEQ))?;
+    Ok(Opened::File(File::open(rt, path)?))
 }
 
-// Closes a file; standard input stays open.
-pub fn close(source: Opened) {
-    drop(source);
-}
-
-// The error by which a read of a source that brought less than it could have was cut short, if it was.
-pub fn is_broken(source: &mut Opened, n: usize) -> Option<io::Error> {
-    if 65537 <= n {
-        return None;
+// Reads what an argument names until the room is full or it ends, and returns what was read. Where less came than there is room for, one more read tells whether an error cut it short.
+pub fn read<'a>(rt: &HostRuntime, file: &[u8], text: &'a mut [u8]) -> io::Result<&'a [u8]> {
+    let mut source = open(rt, file)?;
+    let n = streams::read_full(&mut source, text);
+    if n < text.len() {
+        source.read(&mut [0])?;
     }
-    let mut more = [0u8; 1];
-    source.read(&mut more).err()
+    Ok(&text[..n])
 }

@@ -1,4 +1,5 @@
 -- What the functions' proofs cite: where content lies, what is put and read byte by byte and number by number, the sums with one remainder, blocks closed and tested. Assumes nothing.
+use Rattle.std.specs.Prelude.{Result, Ok, Err}
 use Prim.Native.Nat.{ℕ, zero, suc, ◌+◌, ◌*◌, ◌/◌, ◌%◌, ◌-◌, ◌≤◌, ◌<◌}
 use mathlib.Core.Path.{◌≡◌, refl, sym, ap, ◌∙◌}
 use mathlib.Core.List.{List, [], ◌∷◌, ◌++◌}
@@ -18,7 +19,7 @@ use Rattle.tables.proofs.Laws.{put_length}
 use Rattle.blocks.proofs.Content.{content_length, content_is, numbers_length}
 use Rattle.blocks.specs.declared.Sums.{Sums}
 use Rattle.blocks.specs.declared.BlockFault.{BlockFault}
-use Rattle.blocks.specs.declared.BlockFault.TheVariants.{NoFault, WrongNumber, WrongCheck}
+use Rattle.blocks.specs.declared.BlockFault.TheVariants.{WrongNumber, WrongCheck}
 use Rattle.blocks.specs.Blocks.{bytes_of, bytes_of_all, word_in, words_in, content_at, capacity, content_of, put_content, zero_bytes, add_word, sums_from, sums_of, plain_from, ok_at, block_fault, or_else, first_fault, seal_with, seal_at, seal_block, seal_all}
 
 -- ---- where content lies
@@ -210,40 +211,38 @@ ok_is s at f g r e p q =
 -- ---- blocks
 
 module _ (s : List ℕ) (k n : ℕ) (e : n ≡ word_in s (k * 512)) where
-  pub fault_number : (n ≡ k → ⊥) → WrongNumber ≡ block_fault s k
+  pub fault_number : (n ≡ k → ⊥) → Err WrongNumber ≡ block_fault s k
   unfolding block_fault
   fault_number h = rw (← e, ne_eqb n k h, block_fault)
 
-  pub fault_none : (q : Bool) → n ≡ k → q ≡ ok_at s (k * 512) → q ≡ true → NoFault ≡ block_fault s k
+  pub fault_none : (q : Bool) → n ≡ k → q ≡ ok_at s (k * 512) → q ≡ true → Ok tt ≡ block_fault s k
   unfolding block_fault
   fault_none q h f g = rw (← e, eq-eqb n k h, ← f, g, block_fault)
 
-  pub fault_check : (q : Bool) → n ≡ k → q ≡ ok_at s (k * 512) → q ≡ false → WrongCheck ≡ block_fault s k
+  pub fault_check : (q : Bool) → n ≡ k → q ≡ ok_at s (k * 512) → q ≡ false → Err WrongCheck ≡ block_fault s k
   unfolding block_fault
   fault_check q h f g = rw (← e, eq-eqb n k h, ← f, g, block_fault)
 
 -- the first fault of blocks, where there is none before block k
-module _ (s : List ℕ) (k : ℕ) (f : BlockFault) (inv : first_fault k s ≡ NoFault) (e : f ≡ block_fault s k) where
-  pub first_on : f ≡ NoFault → first_fault (k + 1) s ≡ NoFault
+module _ (s : List ℕ) (k : ℕ) (f : Result (Unit {0}) BlockFault) (inv : first_fault k s ≡ Ok tt) (e : f ≡ block_fault s k) where
+  pub first_on : f ≡ Ok tt → first_fault (k + 1) s ≡ Ok tt
   unfolding first_fault
   first_on h = rw (add-one k, first_fault, inv) (sym e ∙ h)
 
-  first_at : (n : ℕ) → ((g : BlockFault) → or_else f g ≡ f) → k < n → f ≡ first_fault n s
+  first_at : (n : ℕ) → ((g : Result (Unit {0}) BlockFault) → or_else f g ≡ f) → k < n → f ≡ first_fault n s
   unfolding first_fault
   first_at zero all h = absurd (omega arith)
   first_at (suc n) all h = go (ℕ_discrete k n) (first_at n all)
     where
       go : Dec (k ≡ n) → (k < n → f ≡ first_fault n s) → f ≡ or_else (first_fault n s) (block_fault s n)
       go (yes q) x = rw (← q, inv) e
-      go (no q) x = sym (all (block_fault s n)) ∙ ap (λ (y : BlockFault). or_else y (block_fault s n)) (x (omega arith))
+      go (no q) x = sym (all (block_fault s n)) ∙ ap (λ (y : Result (Unit {0}) BlockFault). or_else y (block_fault s n)) (x (omega arith))
 
-  pub first_number : (n : ℕ) → k < n → f ≡ WrongNumber → WrongNumber ≡ first_fault n s
-  first_number n h q = sym q ∙ first_at n (λ g. rw q) h
+  pub first_err : (n : ℕ) (x : BlockFault) → k < n → f ≡ Err x → Err x ≡ first_fault n s
+  first_err n WrongNumber h q = sym q ∙ first_at n (λ g. rw q) h
+  first_err n WrongCheck h q = sym q ∙ first_at n (λ g. rw q) h
 
-  pub first_check : (n : ℕ) → k < n → f ≡ WrongCheck → WrongCheck ≡ first_fault n s
-  first_check n h q = sym q ∙ first_at n (λ g. rw q) h
-
-pub first_none : (s : List ℕ) → first_fault 0 s ≡ NoFault
+pub first_none : (s : List ℕ) → first_fault 0 s ≡ Ok tt
 unfolding first_fault
 first_none s = refl
 

@@ -1,4 +1,5 @@
 -- Blocks that hold a content: what is written is such, and there is one such of each length. Assumes nothing.
+use Rattle.std.specs.Prelude.{Ok}
 use Prim.Native.Nat.{ℕ, zero, suc, ◌+◌, ◌*◌, ◌/◌, ◌%◌, ◌-◌, ◌≤◌, ◌<◌}
 use mathlib.Core.Path.{◌≡◌, refl, sym, ap, ◌∙◌}
 use mathlib.Core.List.{List, [], ◌∷◌, ◌++◌, append_assoc}
@@ -11,7 +12,6 @@ use Rattle.tables.specs.Table.{put}
 use Rattle.tables.proofs.Laws.{put_length as cells_length}
 use Rattle.tables.proofs.Rows.{put_eq}
 use Rattle.blocks.specs.declared.Sums.{Sums}
-use Rattle.blocks.specs.declared.BlockFault.TheVariants.{NoFault}
 use Rattle.blocks.specs.Blocks.{bytes_of, bytes_of_all, word_in, content_at, content_to, put_content, sums_of, pair_at, seal_at, seal_block, seal_all, blocks_for, blocks_of, BlockHas, Stored}
 use Rattle.blocks.proofs.Content.{at_one, at_inside, at_below, at_back, content_length, content_is, put_length, put_else, put_at, zeros_at, behind_at, zeros_iff, bytes_low, number_back}
 use Rattle.blocks.proofs.Altered.{Same, set_each, number_same, number_one, sums_same, sums_low, ok_iff, check_of, check_one}
@@ -104,7 +104,7 @@ module _ (s : List ℕ) (k : ℕ) where
       rw seal_put (cells_low (check_of (sums_of numbered (k * 512))) numbered (k * 512 + 508) (check_low (sums_of numbered (k * 512)) l.0 l.1) (cells_low (bytes_of k) s (k * 512) (number_low k h) q))
 
   -- and the block is right
-  pub seal_right : k < 4294967296 → k * 512 + 512 ≤ length s → BlockHas NoFault (seal_block s k) k
+  pub seal_right : k < 4294967296 → k * 512 + 512 ≤ length s → BlockHas (Ok tt) (seal_block s k) k
   unfolding numbered
   seal_right h l =
       let c = sums_of numbered (k * 512) in
@@ -137,7 +137,7 @@ unfolding seal_all
 all_low zero s h q = q
 all_low (suc n) s h q = seal_low (seal_all n s) n h (all_low n s (omega arith) q)
 
-pub all_right : (n : ℕ) (s : List ℕ) → n ≤ 4294967296 → n * 512 ≤ length s → (k : ℕ) → k < n → BlockHas NoFault (seal_all n s) k
+pub all_right : (n : ℕ) (s : List ℕ) → n ≤ 4294967296 → n * 512 ≤ length s → (k : ℕ) → k < n → BlockHas (Ok tt) (seal_all n s) k
 unfolding seal_all
 all_right zero s h l k m = absurd (omega arith)
 all_right (suc n) s h l k m =

@@ -1,10 +1,10 @@
 -- Request Twelve: "A block has 512 bytes: number from 0 (4 bytes, low first), 504 of content, 4 of check." The numbers 512, 504 and 65,535 stand as they are, for arithmetic to see them.
-use Rattle.std.specs.Prelude.{ℕ, zero, suc, ◌+◌, ◌*◌, ◌/◌, ◌%◌, ◌-◌, ◌≤◌, ◌<◌, ◌≡◌, List, [], ◌∷◌, ◌++◌, Bool, true, false, ◌&&◌, eqb, length, get_or, set, drop, replicate}
+use Rattle.std.specs.Prelude.{ℕ, zero, suc, ◌+◌, ◌*◌, ◌/◌, ◌%◌, ◌-◌, ◌≤◌, ◌<◌, ◌≡◌, List, [], ◌∷◌, ◌++◌, Bool, true, false, ◌&&◌, eqb, length, get_or, set, drop, replicate, Result, Ok, Err}
 use Rattle.tables.specs.Below.{below}
 use Rattle.tables.specs.Table.{put}
 use Rattle.blocks.specs.declared.Sums.{Sums}
 use Rattle.blocks.specs.declared.BlockFault.{BlockFault}
-use Rattle.blocks.specs.declared.BlockFault.TheVariants.{NoFault, WrongNumber, WrongCheck}
+use Rattle.blocks.specs.declared.BlockFault.TheVariants.{WrongNumber, WrongCheck}
 
 -- ---- numbers as bytes
 
@@ -78,30 +78,30 @@ unfoldable pub ok_at : List ℕ → ℕ → Bool
 ok_at s at = eqb (pair_at s (at + 508)) (sums_of s at).first && eqb (pair_at s (at + 510)) (sums_of s at).second
 
 -- "block by block 61 wrong number and 62 wrong check"
-unfoldable pub block_fault : List ℕ → ℕ → BlockFault
-block_fault s k = elim (eqb (word_in s (k * 512)) k) [ true ↦ elim (ok_at s (k * 512)) [ true ↦ NoFault | false ↦ WrongCheck ] | false ↦ WrongNumber ]
+unfoldable pub block_fault : List ℕ → ℕ → Result (Unit {0}) BlockFault
+block_fault s k = elim (eqb (word_in s (k * 512)) k) [ true ↦ elim (ok_at s (k * 512)) [ true ↦ Ok tt | false ↦ Err WrongCheck ] | false ↦ Err WrongNumber ]
 
 -- the first fault of n blocks
-abbrev pub or_else : BlockFault → BlockFault → BlockFault
-or_else NoFault f = f
-or_else WrongNumber f = WrongNumber
-or_else WrongCheck f = WrongCheck
+abbrev pub or_else : Result (Unit {0}) BlockFault → Result (Unit {0}) BlockFault → Result (Unit {0}) BlockFault
+or_else (Ok _) f = f
+or_else (Err WrongNumber) f = Err WrongNumber
+or_else (Err WrongCheck) f = Err WrongCheck
 
-unfoldable pub first_fault : ℕ → List ℕ → BlockFault
-first_fault zero s = NoFault
+unfoldable pub first_fault : ℕ → List ℕ → Result (Unit {0}) BlockFault
+first_fault zero s = Ok tt
 first_fault (suc n) s = or_else (first_fault n s) (block_fault s n)
 
 -- What each answer says of block k. A wrong check is told only where the number is right.
-abbrev pub BlockHas : BlockFault → List ℕ → ℕ → Type 0
-BlockHas NoFault s k = (word_in s (k * 512) ≡ k) × (ok_at s (k * 512) ≡ true)
-BlockHas WrongNumber s k = word_in s (k * 512) ≡ k → ⊥
-BlockHas WrongCheck s k = (word_in s (k * 512) ≡ k) × (ok_at s (k * 512) ≡ false)
+abbrev pub BlockHas : Result (Unit {0}) BlockFault → List ℕ → ℕ → Type 0
+BlockHas (Ok _) s k = (word_in s (k * 512) ≡ k) × (ok_at s (k * 512) ≡ true)
+BlockHas (Err WrongNumber) s k = word_in s (k * 512) ≡ k → ⊥
+BlockHas (Err WrongCheck) s k = (word_in s (k * 512) ≡ k) × (ok_at s (k * 512) ≡ false)
 
 -- The first fault of n blocks, without a search: one of them has it, where every earlier block is right.
-pub record FaultAt (n : ℕ) (s : List ℕ) (f : BlockFault) : Type 0 where
+pub record FaultAt (n : ℕ) (s : List ℕ) (f : Result (Unit {0}) BlockFault) : Type 0 where
   pub block : ℕ
   pub inside : block < n
-  pub earlier : (j : ℕ) → j < block → BlockHas NoFault s j
+  pub earlier : (j : ℕ) → j < block → BlockHas (Ok tt) s j
   pub here : BlockHas f s block
 
 -- ---- what a block is closed with: its number, and then its check
@@ -132,13 +132,13 @@ blocks_of b out = seal_all (blocks_for (length b)) (put_content (replicate (leng
 pub record Stored (b out : List ℕ) : Type 0 where
   pub room : blocks_for (length b) * 512 ≤ length out
   pub content : content_to (blocks_for (length b) * 504) out ≡ b ++ replicate (blocks_for (length b) * 504 - length b) 0
-  pub right : first_fault (blocks_for (length b)) out ≡ NoFault
+  pub right : first_fault (blocks_for (length b)) out ≡ Ok tt
   -- "bytes past them are zero"
   pub behind : drop (blocks_for (length b) * 512) out ≡ replicate (length out - blocks_for (length b) * 512) 0
   pub bytes : (i : ℕ) → get_or out i 0 < 256
 
 -- document 02's numbers
-abbrev pub block_fault_number : BlockFault → ℕ
-block_fault_number NoFault = 0
-block_fault_number WrongNumber = 61
-block_fault_number WrongCheck = 62
+abbrev pub block_fault_number : Result (Unit {0}) BlockFault → ℕ
+block_fault_number (Ok _) = 0
+block_fault_number (Err WrongNumber) = 61
+block_fault_number (Err WrongCheck) = 62

@@ -15,7 +15,6 @@ pub struct Sums {
 
 #[derive(Clone, Copy)]
 pub enum BlockFault {
-    NoFault,
     WrongNumber,
     WrongCheck,
 }
@@ -61,12 +60,8 @@ pub fn put_numbers(out: &mut [u8], i: usize, t: &[u32], n: usize)
     requires { (i % 4 ≡ 0) × (i + 4 * n ≤ capacity out.old) × (i + 4 * n < 1152921504606846976) × (n ≤ length t.now) }
     ensures { out.new ≡ put_content out.old i (bytes_of_all (take n t.now)) }
 {
-    let mut at = i;
-    let mut j = 0;
-    while j < n {
-        put_number(out, content_at(at), t[j]);
-        at += 4;
-        j += 1;
+    for j in 0..n {
+        put_number(out, content_at(i + 4 * j), t[j]);
     }
 }
 
@@ -75,11 +70,9 @@ pub fn put_bytes(out: &mut [u8], i: usize, text: &[u8])
     requires { (i + length text.now ≤ capacity out.old) × (i + length text.now < 1152921504606846976) }
     ensures { out.new ≡ put_content out.old i text.now }
 {
-    let mut j = 0;
-    while j < text.len() {
+    for (j, v) in text.iter().enumerate() {
         let k = content_at(i + j);
-        out[k] = text[j];
-        j += 1;
+        out[k] = *v;
     }
 }
 
@@ -88,12 +81,8 @@ pub fn get_numbers(t: &mut [u32], s: &[u8], i: usize, n: usize)
     requires { (i % 4 ≡ 0) × (i + 4 * n ≤ capacity s.now) × (i + 4 * n < 1152921504606846976) × (n ≤ length t.old) }
     ensures { t.new ≡ words_in (content_of s.now) i n ++ drop n t.old }
 {
-    let mut at = i;
-    let mut j = 0;
-    while j < n {
-        t[j] = number_at(s, content_at(at));
-        at += 4;
-        j += 1;
+    for j in 0..n {
+        t[j] = number_at(s, content_at(i + 4 * j));
     }
 }
 
@@ -102,11 +91,9 @@ pub fn get_bytes(text: &mut [u8], s: &[u8], i: usize, n: usize)
     requires { (i + n ≤ capacity s.now) × (i + n < 1152921504606846976) × (n ≤ length text.old) }
     ensures { text.new ≡ slice i (i + n) (content_of s.now) ++ drop n text.old }
 {
-    let mut j = 0;
-    while j < n {
+    for j in 0..n {
         let k = content_at(i + j);
         text[j] = s[k];
-        j += 1;
     }
 }
 
@@ -115,13 +102,11 @@ pub fn zero_bytes(s: &[u8], i: usize, n: usize) -> bool
     requires { (i + n ≤ capacity s.now) × (i + n < 1152921504606846976) }
     ensures { result ≡ zero_bytes (content_of s.now) i n }
 {
-    let mut j = 0;
-    while j < n {
+    for j in 0..n {
         let k = content_at(i + j);
         if s[k] != 0 {
             return false;
         }
-        j += 1;
     }
     true
 }
@@ -135,13 +120,10 @@ fn check_sums(s: &[u8], at: usize) -> Sums
 {
     let mut first: u32 = 1;
     let mut second: u32 = 0;
-    let mut i: u32 = 0;
-    let mut j = at;
-    while i < 254 {
+    for i in 0..254 {
+        let j = at + 2 * i;
         first += wide(s[j]) + 256 * wide(s[j + 1]);
         second += first;
-        i += 1;
-        j += 2;
     }
     Sums {
         first: first % 65535,
@@ -166,41 +148,30 @@ fn block_ok(s: &[u8], at: usize) -> bool
     (first == c.first) & (second == c.second)
 }
 
-fn block_fault(s: &[u8], k: usize) -> BlockFault
+fn block_fault(s: &[u8], k: usize) -> Result<(), BlockFault>
     requires { k * 512 + 512 ≤ length s.now }
     ensures { result ≡ block_fault s.now k }
 {
     let at = k * 512;
     let number = number_at(s, at) as usize;
     if number != k {
-        return BlockFault::WrongNumber;
+        return Err(BlockFault::WrongNumber);
     }
     if block_ok(s, at) {
-        return BlockFault::NoFault;
+        return Ok(());
     }
-    BlockFault::WrongCheck
+    Err(BlockFault::WrongCheck)
 }
 
 // The first fault, block by block.
-pub fn first_fault(s: &[u8]) -> BlockFault
+pub fn first_fault(s: &[u8]) -> Result<(), BlockFault>
     ensures { result ≡ first_fault (length s.now / 512) s.now }
 {
     let n = s.len() / 512;
-    let mut k = 0;
-    while k < n {
-        match block_fault(s, k) {
-            BlockFault::NoFault => {
-                k += 1;
-            }
-            BlockFault::WrongNumber => {
-                return BlockFault::WrongNumber;
-            }
-            BlockFault::WrongCheck => {
-                return BlockFault::WrongCheck;
-            }
-        }
+    for k in 0..n {
+        block_fault(s, k)?;
     }
-    BlockFault::NoFault
+    Ok(())
 }
 
 // Block `k` gets its number and its check.
@@ -223,9 +194,7 @@ pub fn seal_all(out: &mut [u8], n: u32)
     requires { n * 512 ≤ length out.old }
     ensures { out.new ≡ seal_all n out.old }
 {
-    let mut k: u32 = 0;
-    while k < n {
+    for k in 0..n {
         seal(out, k);
-        k += 1;
     }
 }

@@ -1,4 +1,5 @@
 -- Bodies keep soundness so far, whatever their answer. Assumes nothing.
+use Rattle.std.specs.Prelude.{Option, Some, None, Result, Ok, Err}
 use Prim.Native.Nat.{ℕ, ◌+◌, ◌≤◌}
 use mathlib.Core.Path.{◌≡◌, refl}
 use mathlib.Core.List.{List}
@@ -7,15 +8,12 @@ use native.Mathlib.Omega.{arith}
 use lib.ListN.{length}
 use Rattle.scan.specs.Scan.{is_at}
 use Rattle.scan.proofs.Bytes.{at_below}
-use Rattle.texts.specs.declared.Brace.{Brace}
-use Rattle.texts.specs.declared.Brace.TheVariants.{Closes, NeverCloses}
 use Rattle.texts.specs.Action.{braced_at, Braced}
 use Rattle.texts.specs.Mark.{marked_at, Marked}
 use Rattle.texts.proofs.Laws.{mark_placed, braces}
 use Rattle.tables.specs.Layout.{bodies}
 use Rattle.grammar.specs.declared.State.{State}
-use Rattle.grammar.specs.declared.Gap.{Gap}
-use Rattle.grammar.specs.declared.Gap.TheVariants.{GapTo, GapRefused}
+use Rattle.grammar.specs.declared.Refusal.{Refusal}
 use Rattle.grammar.specs.Cells.{body_cells}
 use Rattle.grammar.specs.State.{Passed, gap_at, Gapped}
 use Rattle.grammar.specs.Sound.{AllTables, Far}
@@ -34,31 +32,31 @@ module _ {src : List ℕ} {done : ℕ} {s : State} {T : AllTables} (f : Far src 
   unfolding prologue_decl
   prologue_far at = go (marked_at src s.at) (mark_placed src s.at (marked_at src s.at) refl).1
     where
-      go : (b : Brace) → Marked src s.at b → Far1 src done T bodies (prologue_closed b src s at T.t17)
-      go (Closes to n) x =
-          let y = mark_inside src s.at (Closes to n) to n x refl in
+      go : (b : Option (ℕ × ℕ)) → Marked src s.at b → Far1 src done T bodies (prologue_closed b src s at T.t17)
+      go (Some (to, n)) x =
+          let y = mark_inside src s.at (Some (to, n)) to n x refl in
           let a = y.0 in
           let b = y.1 in
           row_far 1 s.at to (to + 2) (omega arith) (omega arith) (record { onward = a; inside = omega arith }) (omega arith) b
-      go NeverCloses x = f
+      go None x = f
 
   -- `%union`
   pub union_far : (at : ℕ) → Far1 src done T bodies (union_decl src s at T.t17)
   unfolding union_decl union_body
   union_far at = gap (gap_at s.kind false src s.at) (gapped s.kind false src s.at f.here)
     where
-      brace : (i : ℕ) → s.at ≤ i → (b : Brace) → Braced src (i + 1) b → Far1 src done T bodies (union_closed b src s at i T.t17)
-      brace i h (Closes to n) x =
-          let y = brace_inside src (i + 1) (Closes to n) to n x refl in
+      brace : (i : ℕ) → s.at ≤ i → (b : Option (ℕ × ℕ)) → Braced src (i + 1) b → Far1 src done T bodies (union_closed b src s at i T.t17)
+      brace i h (Some (to, n)) x =
+          let y = brace_inside src (i + 1) (Some (to, n)) to n x refl in
           let a = y.0 in
           let b = y.1 in
           row_far 2 (i + 1) to (to + 1) (omega arith) (omega arith) (record { onward = a; inside = omega arith }) (omega arith) (omega arith)
-      brace i h NeverCloses x = f
+      brace i h None x = f
 
       open_at : (i : ℕ) → s.at ≤ i → (b : Bool) → is_at 123 src i ≡ b → Far1 src done T bodies (union_opened b src s at i T.t17)
       open_at i h true e = let l = at_below src i 123 e in brace i h (braced_at src (i + 1)) (braces src (i + 1) (omega arith))
       open_at i h false e = f
 
-      gap : (g : Gap) → Gapped src s.at g → Far1 src done T bodies (union_from g src s at T.t17)
-      gap (GapTo i n) x = let a = x.0 in open_at i (omega arith) (is_at 123 src i) refl
-      gap (GapRefused e) x = f
+      gap : (g : Result (ℕ × ℕ) Refusal) → Gapped src s.at g → Far1 src done T bodies (union_from g src s at T.t17)
+      gap (Ok (i, n)) x = let a = x.0 in open_at i (omega arith) (is_at 123 src i) refl
+      gap (Err e) x = f

@@ -5,8 +5,7 @@ ghost use Rattle.std.specs.Prelude.{◌≡◌};
 ghost use Rattle.grammar.specs.State.{Out1, Here, Passed, Onward};
 ghost use Rattle.bodies.specs.Bodies.{body_row, prologue_decl, union_body, union_decl};
 
-use grammar::{Answer, Cause, Gap, Refusal, State, Step};
-use texts::Brace;
+use grammar::{Answer, Cause, Refusal, State, Step};
 
 // The sorts of a body.
 pub const PROLOGUE: u32 = 1;
@@ -42,8 +41,8 @@ pub fn prologue_decl(src: &[u8], s: State, at: u32, t17: &mut [u32]) -> Step
 {
     let from = s.at;
     match texts::closing_mark(src, from) {
-        Brace::Closes(to, _) => { body_row(src, s, PROLOGUE, from as u32, to as u32, to + 2, t17) }
-        Brace::NeverCloses => Step {
+        Some((to, _)) => { body_row(src, s, PROLOGUE, from as u32, to as u32, to + 2, t17) }
+        None => Step {
             answer: Answer::Refused(Refusal::Fault(Cause::PrologueNotClosed, at)),
             state: s,
         },
@@ -60,10 +59,10 @@ pub fn union_body(src: &[u8], s: State, at: u32, i: usize, t17: &mut [u32]) -> S
     if scan::is_at(src, i, b'{') {
         let from = i + 1;
         match texts::closing_brace(src, from) {
-            Brace::Closes(to, _) => {
+            Some((to, _)) => {
                 return body_row(src, s, UNION, from as u32, to as u32, to + 1, t17);
             }
-            Brace::NeverCloses => {
+            None => {
                 return Step {
                     answer: Answer::Refused(Refusal::Fault(Cause::UnionNotClosed, at)),
                     state: s,
@@ -86,8 +85,8 @@ pub fn union_decl(src: &[u8], s: State, at: u32, t17: &mut [u32]) -> Step
 {
     let behind = s.at;
     match grammar::pass_gap(src, s.kind, behind, false) {
-        Gap::GapTo(i, _) => union_body(src, s, at, i, t17),
-        Gap::GapRefused(f) => Step {
+        Ok((i, _)) => union_body(src, s, at, i, t17),
+        Err(f) => Step {
             answer: Answer::Refused(f),
             state: s,
         },

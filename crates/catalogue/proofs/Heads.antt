@@ -1,4 +1,5 @@
 -- The head as numbers, and back: which numbers are a head. Assumes nothing.
+use Rattle.std.specs.Prelude.{Option, Some, None}
 use Prim.Native.Nat.{ℕ, zero, suc, ◌+◌, ◌*◌, ◌/◌, ◌%◌, ◌≤◌, ◌<◌}
 use mathlib.Core.Path.{◌≡◌, refl, sym, ap, ◌∙◌}
 use mathlib.Core.List.{List, [], ◌∷◌, ◌++◌}
@@ -10,12 +11,6 @@ use native.Mathlib.Nat.{add-zero}
 use lib.ListN.{length, get_or, drop, length-append, drop_of_length-le}
 use lib.Seq.{drop-cons, get_or_at}
 use Rattle.tables.proofs.Tells.{both_iff, either_iff, le_iff, eq_iff}
-use Rattle.grammar.specs.declared.Part.{Part}
-use Rattle.grammar.specs.declared.Part.TheVariants.{Absent, At}
-use Rattle.grammar.specs.declared.Expect.{Expect}
-use Rattle.grammar.specs.declared.Expect.TheVariants.{NotExpected, Expected}
-use Rattle.grammar.specs.declared.Param.{Param}
-use Rattle.grammar.specs.declared.Param.TheVariants.{NoParam, ParamAt}
 use Rattle.grammar.specs.Numbers.{part_numbers, param_numbers}
 use Rattle.singles.specs.Singles.{expect_cells, singles_cells, counts_cells, posix_cells, part_from, expect_from, param_from}
 use Rattle.singles.proofs.Laws.{three, five, fourteen, part_three, expect_five, param_five, singles_length, cells_back}
@@ -85,20 +80,20 @@ param_again f a b c d e =
     ⊎_elim (λ h. rw h) (λ h. rw (h 0 (omega arith), h 1 (omega arith), h 2 (omega arith), h 3 (omega arith), h 4 (omega arith))) (lead_cases (f ∷ a ∷ b ∷ c ∷ d ∷ []) 0 4 e)
 
 -- and a single's cells have such a lead
-part_lead : (p : Part) → lead_test (part_numbers p) 0 2 ≡ true
+part_lead : (p : Option (ℕ × ℕ)) → lead_test (part_numbers p) 0 2 ≡ true
 unfolding lead_test zero_cells
-part_lead Absent = refl
-part_lead (At a b) = refl
+part_lead None = refl
+part_lead (Some (a, b)) = refl
 
-expect_lead : (e : Expect) → lead_test (expect_cells e) 0 4 ≡ true
+expect_lead : (e : Option (ℕ × ℕ × ℕ)) → lead_test (expect_cells e) 0 4 ≡ true
 unfolding lead_test zero_cells
-expect_lead NotExpected = refl
-expect_lead (Expected v a b) = refl
+expect_lead None = refl
+expect_lead (Some (v, a, b)) = refl
 
-param_lead : (p : Param) → lead_test (param_numbers p) 0 4 ≡ true
+param_lead : (p : Option (ℕ × ℕ × ℕ × ℕ)) → lead_test (param_numbers p) 0 4 ≡ true
 unfolding lead_test zero_cells
-param_lead NoParam = refl
-param_lead (ParamAt a b c d) = refl
+param_lead None = refl
+param_lead (Some (a, b, c, d)) = refl
 
 -- the six leads
 abbrev leads : List ℕ → Bool

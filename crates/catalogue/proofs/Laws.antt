@@ -1,4 +1,5 @@
 -- What the functions' proofs cite: counts and cells of the thirteen tables, the head as cells and back, its tests, and what is left of a definition behind each test. Assumes nothing.
+use Rattle.std.specs.Prelude.{Result, Ok, Err}
 use Prim.Native.Nat.{ℕ, zero, suc, ◌+◌, ◌*◌, ◌/◌, ◌-◌, ◌≤◌, ◌<◌}
 use mathlib.Core.Path.{◌≡◌, refl, sym, ap, ◌∙◌}
 use mathlib.Core.List.{List, [], ◌∷◌, ◌++◌, append-nil}
@@ -7,13 +8,15 @@ use native.Mathlib.Omega.{arith}
 use native.Mathlib.Numerals.{add-one}
 use native.Mathlib.Nat.{mul-le-mul_left, mul-le-mul_right}
 use borrow.Author.Tests.{eq-eqb, ne_eqb, le-leb, lt-leb, lt-ltb, not-true, not-false}
-use lib.Dec.{leb, ltb}
-use lib.ListN.{length, get_or, set, drop, replicate}
+use lib.Dec.{eqb, leb, ltb}
+use lib.ListN.{length, get_or, set, take, drop, replicate}
 use lib.Seq.{set_at}
+use Rattle.std.specs.List.{list_all}
+use Rattle.scan.proofs.Bytes.{drop_at}
 use Rattle.tables.specs.Layout.{width, table_number}
 use Rattle.tables.specs.Table.{put}
 use Rattle.blocks.specs.declared.BlockFault.{BlockFault}
-use Rattle.blocks.specs.declared.BlockFault.TheVariants.{NoFault, WrongNumber, WrongCheck}
+use Rattle.blocks.specs.declared.BlockFault.TheVariants.{WrongNumber, WrongCheck}
 use Rattle.blocks.specs.Blocks.{words_in, content_of, zero_bytes, capacity, blocks_for, first_fault}
 use Rattle.blocks.proofs.Laws.{of_length}
 use Rattle.grammar.specs.declared.Counts.{Counts}
@@ -22,7 +25,7 @@ use Rattle.grammar.specs.declared.Singles.{Singles}
 use Rattle.singles.specs.Singles.{singles_cells, counts_cells, posix_cells, singles_of}
 use Rattle.singles.proofs.Laws.{put_over, put_behind, singles_length}
 use Rattle.catalogue.specs.declared.Head.{Head}
-use Rattle.catalogue.specs.declared.Finding.TheVariants.{Holds, NoWholeBlocks, FaultyNumber, FaultyCheck, Unfilled, WrongSize, NoRoom}
+use Rattle.catalogue.specs.declared.FindingError.TheVariants.{NoWholeBlocks, FaultyNumber, FaultyCheck, Unfilled, WrongSize, NoRoom}
 use Rattle.catalogue.specs.Catalogue.{rows_at, head_cells, cells_at, cells_before, content_size, head_of, zero_cells, lead_test, head_test, filled_test, first_short, short_table, no_room, roomed, sized_head, good_head, held_in, right_blocks, whole_test, examined}
 
 -- ---- counts and cells
@@ -116,25 +119,11 @@ head_is m g e = ap (λ (x : Singles). record { kind = (head_of m).kind; counts =
 
 -- ---- its tests
 
--- cells that are zero, one by one: what is still to be tested gives the whole
-module _ (m : List ℕ) (i l : ℕ) (r : Bool) (inv : zero_cells m i l ≡ r) where
-  pub zero_on : 0 < l → get_or m i 0 ≡ 0 → zero_cells m (i + 1) (l - 1) ≡ r
-  unfolding zero_cells
-  zero_on h e =
-      let z : l ≡ suc (l - 1) = omega arith in
-      rw (z, eq-eqb (get_or m i 0) 0 e, zero_cells) at inv
-
-  pub zero_not : 0 < l → (get_or m i 0 ≡ 0 → ⊥) → false ≡ r
-  unfolding zero_cells
-  zero_not h e =
-      let z : l ≡ suc (l - 1) = omega arith in
-      rw (z, ne_eqb (get_or m i 0) 0 e, zero_cells) at inv
-
-  pub zero_end : l ≤ 0 → true ≡ r
-  unfolding zero_cells
-  zero_end h =
-      let z : l ≡ 0 = omega arith in
-      rw z at inv
+-- cells that are zero, as a part of them all
+pub zero_all : (m : List ℕ) (k n : ℕ) → k + n ≤ length m → list_all (λ x. eqb x 0) (take n (drop k m)) ≡ zero_cells m k n
+unfolding zero_cells
+zero_all m k zero h = refl
+zero_all m k (suc n) h = rw (drop_at m k (omega arith)) (ap (λ b. eqb (get_or m k 0) 0 && b) (zero_all m (k + 1) n (omega arith)))
 
 module _ (m : List ℕ) (k n : ℕ) where
   pub lead_one : get_or m k 0 ≡ 1 → true ≡ lead_test m k n
@@ -215,13 +204,13 @@ module _ (h : Head) (ls : List ℕ) (l k : ℕ) (e : k ≡ first_short h.counts 
 pub read_head : (b m : List ℕ) → m ≡ words_in b 0 39 ++ drop 39 (replicate 39 0) → m ≡ words_in b 0 39
 read_head b m e = e ∙ append-nil (words_in b 0 39)
 
-roomed_short : (k : ℕ) → (k ≡ 0 → ⊥) → NoRoom k ≡ roomed k
+roomed_short : (k : ℕ) → (k ≡ 0 → ⊥) → Err (NoRoom k) ≡ roomed k
 roomed_short zero f = absurd (f refl)
 roomed_short (suc k) f = refl
 
 -- right blocks: the head's tests, then size and room
 module _ (b ls : List ℕ) (sized : Bool) (l : ℕ) (m : List ℕ) (q : Bool) (hm : m ≡ words_in b 0 39) (hq : q ≡ head_test m) where
-  pub held_bad : not q ≡ true → Unfilled ≡ held_in b sized ls l
+  pub held_bad : not q ≡ true → Err Unfilled ≡ held_in b sized ls l
   unfolding held_in
   held_bad f = rw (held_in, ← hm, ← hq, not-true q f)
 
@@ -232,14 +221,14 @@ module _ (b ls : List ℕ) (sized : Bool) (l : ℕ) (m : List ℕ) (q : Bool) (h
         let u : t ≡ filled_test b (content_size (head_of m).counts (head_of m).posix (head_of m).length) = ht ∙ ap (λ (x : ℕ). filled_test b x) (hn ∙ ap (λ (x : Head). content_size x.counts x.posix x.length) hh) in
         ap (λ (x : Bool). good_head x sized m ls l) u ∙ rw (held_in, ← hm, ← hq, not-false q good)
 
-    pub held_unfilled : not t ≡ true → Unfilled ≡ held_in b sized ls l
+    pub held_unfilled : not t ≡ true → Err Unfilled ≡ held_in b sized ls l
     held_unfilled f = ap (λ (x : Bool). good_head x sized m ls l) (sym (not-true t f)) ∙ held_good
 
     module _ (filled : not t ≡ false) where
       held_filled : sized_head sized (head_of m) ls l ≡ held_in b sized ls l
       held_filled = ap (λ (x : Bool). good_head x sized m ls l) (sym (not-false t filled)) ∙ held_good
 
-      pub held_unsized : not sized ≡ true → WrongSize ≡ held_in b sized ls l
+      pub held_unsized : not sized ≡ true → Err WrongSize ≡ held_in b sized ls l
       held_unsized f = ap (λ (x : Bool). sized_head x (head_of m) ls l) (sym (not-true sized f)) ∙ held_filled
 
       module _ (fits : not sized ≡ false) (k : ℕ) (hk : k ≡ no_room h ls l) where
@@ -247,35 +236,35 @@ module _ (b ls : List ℕ) (sized : Bool) (l : ℕ) (m : List ℕ) (q : Bool) (h
         held_sized =
             ap roomed hk ∙ ap (λ (x : Head). roomed (no_room x ls l)) hh ∙ ap (λ (x : Bool). sized_head x (head_of m) ls l) (sym (not-false sized fits)) ∙ held_filled
 
-        pub held_short : (k ≡ 0 → ⊥) → NoRoom k ≡ held_in b sized ls l
+        pub held_short : (k ≡ 0 → ⊥) → Err (NoRoom k) ≡ held_in b sized ls l
         held_short f = roomed_short k f ∙ held_sized
 
-        pub held_right : k ≡ 0 → Holds ≡ held_in b sized ls l
+        pub held_right : k ≡ 0 → Ok tt ≡ held_in b sized ls l
         held_right f = ap roomed (sym f) ∙ held_sized
 
 -- all blocks
 module _ (s ls : List ℕ) (sized : Bool) (l : ℕ) where
-  pub none_whole : length s ≡ 0 → NoWholeBlocks ≡ examined s sized ls l
+  pub none_whole : length s ≡ 0 → Err NoWholeBlocks ≡ examined s sized ls l
   unfolding examined whole_test
   none_whole e = rw (examined, whole_test, e)
 
-  pub part_whole : (length s / 512 * 512 ≡ length s → ⊥) → NoWholeBlocks ≡ examined s sized ls l
+  pub part_whole : (length s / 512 * 512 ≡ length s → ⊥) → Err NoWholeBlocks ≡ examined s sized ls l
   unfolding examined whole_test
   part_whole f = rw (examined, whole_test, ne_eqb (length s / 512 * 512) (length s) f, and-false (ltb 0 (length s)))
 
-  module _ (some : length s ≡ 0 → ⊥) (whole : length s / 512 * 512 ≡ length s) (f : BlockFault) (hf : f ≡ first_fault (length s / 512) s) where
+  module _ (some : length s ≡ 0 → ⊥) (whole : length s / 512 * 512 ≡ length s) (f : Result (Unit {0}) BlockFault) (hf : f ≡ first_fault (length s / 512) s) where
     all_whole : right_blocks f (content_of s) sized ls l ≡ examined s sized ls l
     unfolding examined whole_test
     all_whole = rw (examined, whole_test, eq-eqb (length s / 512 * 512) (length s) whole, lt-ltb 0 (length s) (omega arith), ← hf)
 
-    pub right_held : f ≡ NoFault → held_in (content_of s) sized ls l ≡ examined s sized ls l
-    right_held e = ap (λ (x : BlockFault). right_blocks x (content_of s) sized ls l) (sym e) ∙ all_whole
+    pub right_held : f ≡ Ok tt → held_in (content_of s) sized ls l ≡ examined s sized ls l
+    right_held e = ap (λ (x : Result (Unit {0}) BlockFault). right_blocks x (content_of s) sized ls l) (sym e) ∙ all_whole
 
-    pub wrong_number : f ≡ WrongNumber → FaultyNumber ≡ examined s sized ls l
-    wrong_number e = ap (λ (x : BlockFault). right_blocks x (content_of s) sized ls l) (sym e) ∙ all_whole
+    pub wrong_number : f ≡ Err WrongNumber → Err FaultyNumber ≡ examined s sized ls l
+    wrong_number e = ap (λ (x : Result (Unit {0}) BlockFault). right_blocks x (content_of s) sized ls l) (sym e) ∙ all_whole
 
-    pub wrong_check : f ≡ WrongCheck → FaultyCheck ≡ examined s sized ls l
-    wrong_check e = ap (λ (x : BlockFault). right_blocks x (content_of s) sized ls l) (sym e) ∙ all_whole
+    pub wrong_check : f ≡ Err WrongCheck → Err FaultyCheck ≡ examined s sized ls l
+    wrong_check e = ap (λ (x : Result (Unit {0}) BlockFault). right_blocks x (content_of s) sized ls l) (sym e) ∙ all_whole
 
 -- one test behind another
 module _ (a b q : Bool) (e : q ≡ a) where

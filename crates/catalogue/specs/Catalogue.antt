@@ -1,7 +1,7 @@
 -- Request Twelve: what the catalogue's blocks hold, as numbers and bytes one behind the other. "counts, source length, singles, kind, the rows of the tables that a read fills in number order, and the source".
-use Rattle.std.specs.Prelude.{ℕ, zero, suc, ◌+◌, ◌*◌, ◌/◌, ◌-◌, ◌≤◌, ◌<◌, ◌≡◌, List, [], ◌∷◌, ◌++◌, Bool, true, false, ◌&&◌, ◌||◌, eqb, leb, ltb, length, get_or, take}
+use Rattle.std.specs.Prelude.{ℕ, zero, suc, ◌+◌, ◌*◌, ◌/◌, ◌-◌, ◌≤◌, ◌<◌, ◌≡◌, List, [], ◌∷◌, ◌++◌, Bool, true, false, ◌&&◌, ◌||◌, eqb, leb, ltb, length, get_or, take, Result, Ok, Err}
 use Rattle.blocks.specs.declared.BlockFault.{BlockFault}
-use Rattle.blocks.specs.declared.BlockFault.TheVariants.{NoFault, WrongNumber, WrongCheck}
+use Rattle.blocks.specs.declared.BlockFault.TheVariants.{WrongNumber, WrongCheck}
 use Rattle.blocks.specs.Blocks.{bytes_of_all, words_in, content_of, zero_bytes, first_fault, blocks_for}
 use Rattle.tables.specs.Layout.{width, table_number}
 use Rattle.grammar.specs.declared.Counts.{Counts}
@@ -11,8 +11,8 @@ use Rattle.grammar.specs.Sound.{AllTables, ten_of, Indexes, cells_of}
 use Rattle.sound.specs.Test.{posix_test, sound_test}
 use Rattle.singles.specs.Singles.{singles_cells, counts_cells, posix_cells, singles_of}
 use Rattle.catalogue.specs.declared.Head.{Head}
-use Rattle.catalogue.specs.declared.Finding.{Finding}
-use Rattle.catalogue.specs.declared.Finding.TheVariants.{Holds, NoWholeBlocks, FaultyNumber, FaultyCheck, Unfilled, WrongSize, NoRoom}
+use Rattle.catalogue.specs.declared.FindingError.{FindingError}
+use Rattle.catalogue.specs.declared.FindingError.TheVariants.{NoWholeBlocks, FaultyNumber, FaultyCheck, Unfilled, WrongSize, NoRoom}
 
 -- numbers of 32 bits each
 abbrev pub Fit32 : List ℕ → Type 0
@@ -118,35 +118,35 @@ abbrev pub lengths_of : AllTables → List ℕ
 lengths_of T = length T.t1 ∷ length T.t2 ∷ length T.t3 ∷ length T.t4 ∷ length T.t5 ∷ length T.t6 ∷ length T.t7 ∷ length T.t8 ∷ length T.t9 ∷ length T.t10 ∷ length T.t15 ∷ length T.t16 ∷ length T.t17 ∷ []
 
 -- what blocks come to before anything is filled: the refusals in document 02's order
-abbrev pub roomed : ℕ → Finding
-roomed zero = Holds
-roomed (suc k) = NoRoom (suc k)
+abbrev pub roomed : ℕ → Result (Unit {0}) FindingError
+roomed zero = Ok tt
+roomed (suc k) = Err (NoRoom (suc k))
 
-abbrev pub sized_head : Bool → Head → List ℕ → ℕ → Finding
+abbrev pub sized_head : Bool → Head → List ℕ → ℕ → Result (Unit {0}) FindingError
 sized_head true h ls l = roomed (no_room h ls l)
-sized_head false h ls l = WrongSize
+sized_head false h ls l = Err WrongSize
 
-abbrev pub good_head : Bool → Bool → List ℕ → List ℕ → ℕ → Finding
+abbrev pub good_head : Bool → Bool → List ℕ → List ℕ → ℕ → Result (Unit {0}) FindingError
 good_head true sized m ls l = sized_head sized (head_of m) ls l
-good_head false sized m ls l = Unfilled
+good_head false sized m ls l = Err Unfilled
 
-unfoldable pub held_in : List ℕ → Bool → List ℕ → ℕ → Finding
+unfoldable pub held_in : List ℕ → Bool → List ℕ → ℕ → Result (Unit {0}) FindingError
 held_in b sized ls l = let m = words_in b 0 39 in good_head (head_test m && filled_test b (content_size (head_of m).counts (head_of m).posix (head_of m).length)) sized m ls l
 
-abbrev pub right_blocks : BlockFault → List ℕ → Bool → List ℕ → ℕ → Finding
-right_blocks NoFault b sized ls l = held_in b sized ls l
-right_blocks WrongNumber b sized ls l = FaultyNumber
-right_blocks WrongCheck b sized ls l = FaultyCheck
+abbrev pub right_blocks : Result (Unit {0}) BlockFault → List ℕ → Bool → List ℕ → ℕ → Result (Unit {0}) FindingError
+right_blocks (Ok _) b sized ls l = held_in b sized ls l
+right_blocks (Err WrongNumber) b sized ls l = Err FaultyNumber
+right_blocks (Err WrongCheck) b sized ls l = Err FaultyCheck
 
 -- "60 length zero or no multiple of 512"
 unfoldable pub whole_test : List ℕ → Bool
 whole_test s = ltb 0 (length s) && eqb (length s / 512 * 512) (length s)
 
-abbrev pub whole_blocks : Bool → List ℕ → Bool → List ℕ → ℕ → Finding
+abbrev pub whole_blocks : Bool → List ℕ → Bool → List ℕ → ℕ → Result (Unit {0}) FindingError
 whole_blocks true s sized ls l = right_blocks (first_fault (length s / 512) s) (content_of s) sized ls l
-whole_blocks false s sized ls l = NoWholeBlocks
+whole_blocks false s sized ls l = Err NoWholeBlocks
 
-unfoldable pub examined : List ℕ → Bool → List ℕ → ℕ → Finding
+unfoldable pub examined : List ℕ → Bool → List ℕ → ℕ → Result (Unit {0}) FindingError
 examined s sized ls l = whole_blocks (whole_test s) s sized ls l
 
 -- "44": of all thirteen tables

@@ -41,8 +41,7 @@ pub struct Rooms {
 
 // What blocks come to before anything is filled.
 #[derive(Clone, Copy)]
-pub enum Finding {
-    Holds,
+pub enum FindingError {
     NoWholeBlocks,
     FaultyNumber,
     FaultyCheck,
@@ -80,10 +79,8 @@ fn cells_before(c: Counts, p: PosixCounts, k: u8) -> usize
     ensures upper_bound { result ≤ k * (13 * 4294967295) }
 {
     let mut n = 0;
-    let mut i: u8 = 0;
-    while i < k {
+    for i in 0..k {
         n += cells_at(c, p, i);
-        i += 1;
     }
     n
 }
@@ -148,16 +145,7 @@ fn zero_cells(m: &[u32; 39], k: usize, n: usize) -> bool
     requires { k + n ≤ 39 }
     ensures { result ≡ zero_cells m.now k n }
 {
-    let mut i = k;
-    let mut left = n;
-    while 0 < left {
-        if m[i] != 0 {
-            return false;
-        }
-        i += 1;
-        left -= 1;
-    }
-    true
+    m[k..k + n].iter().all(|x| *x == 0)
 }
 
 // A single from cell `k` on, with `n` fields: led by 1, or by 0 and then zero.
@@ -202,13 +190,11 @@ fn is_filled(s: &[u8], n: usize) -> bool
 fn first_short(c: Counts, p: PosixCounts, rooms: Rooms) -> u32
     ensures { result ≡ first_short c p rooms.n 0 13 }
 {
-    let mut k: u8 = 0;
-    while k < 13 {
+    for k in 0u8..13 {
         let i = k as usize;
         if rooms.n[i] < cells_at(c, p, k) {
             return tables::table_number(k);
         }
-        k += 1;
     }
     0
 }
@@ -240,7 +226,7 @@ pub fn head_in(s: &[u8]) -> Head
 }
 
 // What right blocks hold: 63, 45 and 42, in that order.
-fn held_in(s: &[u8], sized: bool, rooms: Rooms, source: usize) -> Finding
+fn held_in(s: &[u8], sized: bool, rooms: Rooms, source: usize) -> Result<(), FindingError>
     requires { 512 ≤ length s.now }
     ensures { result ≡ held_in (content_of s.now) sized rooms.n source }
 {
@@ -250,36 +236,36 @@ fn held_in(s: &[u8], sized: bool, rooms: Rooms, source: usize) -> Finding
     let c = h.counts;
     let p = h.posix;
     if !head_good(&m) {
-        return Finding::Unfilled;
+        return Err(FindingError::Unfilled);
     }
     if !is_filled(s, content_size(c, p, h.length as usize)) {
-        return Finding::Unfilled;
+        return Err(FindingError::Unfilled);
     }
     if !sized {
-        return Finding::WrongSize;
+        return Err(FindingError::WrongSize);
     }
     let k = no_room(h, rooms, source);
     if k != 0 {
-        return Finding::NoRoom(k);
+        return Err(FindingError::NoRoom(k));
     }
-    Finding::Holds
+    Ok(())
 }
 
 // What blocks come to: 60, then 61 and 62 block by block, then what they hold.
-pub fn examine(s: &[u8], sized: bool, rooms: Rooms, source: usize) -> Finding
+pub fn examine(s: &[u8], sized: bool, rooms: Rooms, source: usize) -> Result<(), FindingError>
     ensures { result ≡ examined s.now sized rooms.n source }
 {
     let n = s.len();
     if n == 0 {
-        return Finding::NoWholeBlocks;
+        return Err(FindingError::NoWholeBlocks);
     }
     if n / 512 * 512 != n {
-        return Finding::NoWholeBlocks;
+        return Err(FindingError::NoWholeBlocks);
     }
     match blocks::first_fault(s) {
-        BlockFault::NoFault => held_in(s, sized, rooms, source),
-        BlockFault::WrongNumber => Finding::FaultyNumber,
-        BlockFault::WrongCheck => Finding::FaultyCheck,
+        Ok(()) => held_in(s, sized, rooms, source),
+        Err(BlockFault::WrongNumber) => Err(FindingError::FaultyNumber),
+        Err(BlockFault::WrongCheck) => Err(FindingError::FaultyCheck),
     }
 }
 
@@ -305,7 +291,7 @@ pub fn is_sound(
     t16: &[u32],
     t17: &[u32],
 ) -> bool
-    ensures { result ≡ sound_reading src.now c p g (record { t1 = t1.entry.now; t2 = t2.now; t3 = t3.now; t4 = t4.now; t5 = t5.now; t6 = t6.now; t7 = t7.now; t8 = t8.now; t9 = t9.now; t10 = t10.now; t15 = t15.now; t16 = t16.now; t17 = t17.now }) (record { tokens = i1.now; rules = i7.now }) }
+    ensures { result ≡ sound_reading src.now c p g (record { t1 = t1.now; t2 = t2.now; t3 = t3.now; t4 = t4.now; t5 = t5.now; t6 = t6.now; t7 = t7.now; t8 = t8.now; t9 = t9.now; t10 = t10.now; t15 = t15.now; t16 = t16.now; t17 = t17.now }) (record { tokens = i1.now; rules = i7.now }) }
 {
     if !sound::sound(src, c, g, t1, t2, t3, t4, t5, t6, t7, t8, t9, t10, i1, i7) {
         return false;

@@ -1,14 +1,13 @@
 -- Rows that stay close up: one law for each row read; where the loop ends it is the rows that stay and then zeros. What becomes of a row's number. Assumes nothing.
-use Prim.Native.Nat.{ℕ, suc, ◌+◌, ◌*◌, ◌-◌, ◌≤◌, ◌<◌}
+use Prim.Native.Nat.{ℕ, suc, ◌+◌, ◌*◌, ◌≤◌, ◌<◌}
 use mathlib.Core.Path.{◌≡◌, refl, sym, ap, ◌∙◌}
 use mathlib.Core.List.{List, [], ◌∷◌, ◌++◌, append_assoc, append-nil}
 use mathlib.Core.Bool.{Bool, true, false}
 use native.Mathlib.Omega.{arith}
 use native.Mathlib.Numerals.{add-one}
 use native.Mathlib.Nat.{suc-mul, mul-le-mul_right, zero-mul}
-use lib.ListN.{length, get_or, set, take, drop, replicate, length-append, length-replicate, take-append-drop, drop_of_length-le, replicate-append-replicate}
-use lib.Seq.{drop-drop, length-take-le, drop-set-lt, set_at, take_all, get_or-set_other}
-use Rattle.scan.proofs.Bytes.{drop_at as drop-index}
+use lib.ListN.{length, get_or, set, take, drop, length-append, length-replicate}
+use lib.Seq.{drop-drop, length-take-le, drop-set-lt, take_all, get_or-set_other}
 use Rattle.tables.specs.Table.{put}
 use Rattle.tables.specs.Rows.{row_at}
 use Rattle.tables.proofs.Laws.{put_length, put_snoc}
@@ -112,24 +111,6 @@ move_more w from b i t₀ t h k l e =
 pub move_all : (w from to i : ℕ) (t : List ℕ) → from * w + w ≤ length t → w ≤ i → put t (to * w) (take i (row_at w t from)) ≡ moved w from to t
 unfolding moved
 move_all w from to i t h k = let wide = row_length w t from h in rw (take_all i (row_at w t from) (omega arith))
-
--- zeros from an index on
-abbrev pub Zeroing : ℕ → ℕ → List ℕ → List ℕ → Type 0
-Zeroing at i t₀ t = t ≡ (take at t₀ ++ replicate (i - at) 0) ++ drop i t₀
-
-pub zero_none : (at : ℕ) (t : List ℕ) → Zeroing at at t t
-zero_none at t = let e : at - at ≡ 0 = omega arith in rw (e, append-nil, take-append-drop)
-
-pub zero_more : (at i : ℕ) (t₀ t : List ℕ) → at ≤ i → i < length t₀ → Zeroing at i t₀ t → Zeroing at (i + 1) t₀ (set t i 0)
-zero_more at i t₀ t h k e =
-    let a : length (take at t₀) ≡ at = length-take-le at t₀ (omega arith) in
-    let b : length (take at t₀ ++ replicate {A = ℕ} (i - at) 0) ≡ i = rw (length-append, length-replicate) (omega arith) in
-    let n : i + 1 - at ≡ (i - at) + 1 = omega arith in
-    let s : ◌≡◌ {A = List ℕ} (replicate (i + 1 - at) 0) (replicate (i - at) 0 ++ (0 ∷ [])) = rw n (sym (replicate-append-replicate (i - at) 1 0)) in
-    rw (e, drop-index t₀ i k, set_at (take at t₀ ++ replicate (i - at) 0) (get_or t₀ i 0) (drop (i + 1) t₀) 0 i b, s) (simp append_assoc)
-
-pub zero_all_lem : (at i : ℕ) (t₀ t : List ℕ) → at ≤ i → i ≤ length t₀ → length t₀ ≤ i → Zeroing at i t₀ t → t ≡ zero_from at t₀
-zero_all_lem at i t₀ t h k l e = let n : i - at ≡ length t₀ - at = omega arith in e ∙ rw (drop_of_length-le t₀ l, append-nil, n)
 
 -- a row read
 pub keep_no : (w : ℕ) (b : Bool) (from to : ℕ) (t : List ℕ) → b ≡ false → record { count = to; cells = t } ≡ step w b from to t

@@ -14,10 +14,8 @@ pub fn move_row(t: &mut [u32], w: u32, from: u32, to: u32)
     let n = w as usize;
     let a = (from as usize) * n;
     let b = (to as usize) * n;
-    let mut i = 0;
-    while i < n {
+    for i in 0..n {
         t[b + i] = t[a + i];
-        i += 1;
     }
 }
 
@@ -38,11 +36,7 @@ pub fn zero_from(t: &mut [u32], at: usize)
     requires { at ≤ length t.old }
     ensures { t.new ≡ zero_from at t.old }
 {
-    let mut i = at;
-    while i < t.len() {
-        t[i] = 0;
-        i += 1;
-    }
+    t[at..].fill(0);
 }
 
 // Of `n` rows those stay whose bit is 1, row 0 having bit `base`. Answers how many.
@@ -50,12 +44,10 @@ pub fn close_up(t: &mut [u32], w: u32, n: u32, keep: &[u32], base: usize) -> u32
     requires { (n * w ≤ length t.old) × (base < 2 ^ 40) }
     ensures { ◌≡◌ {A = Step} (record { count = result; cells = t.new }) (close_up keep.now base w n t.old) }
 {
-    let mut r = 0;
     let mut m = 0;
-    while r < n {
+    for r in 0..n {
         let stays = test_bit(keep, base + (r as usize));
         m = keep_row(t, w, stays, r, m);
-        r += 1;
     }
     zero_from(t, (m as usize) * (w as usize));
     m

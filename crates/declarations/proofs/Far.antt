@@ -1,4 +1,5 @@
 -- Every declaration keeps soundness so far, and so does the section. Assumes nothing.
+use Rattle.std.specs.Prelude.{Result, Ok, Err}
 use Prim.Native.Nat.{ℕ, suc, ◌+◌, ◌≤◌, ◌<◌}
 use mathlib.Core.Path.{◌≡◌}
 use mathlib.Core.List.{List}
@@ -13,8 +14,7 @@ use Rattle.keywords.specs.Keywords.{seen_at}
 use Rattle.keywords.proofs.Laws.{sees}
 use Rattle.grammar.specs.declared.State.{State}
 use Rattle.grammar.specs.declared.Repeat.TheVariants.{RepeatedAvoidInsert, RepeatedImplicitTokens}
-use Rattle.grammar.specs.declared.Gap.{Gap}
-use Rattle.grammar.specs.declared.Gap.TheVariants.{GapTo, GapRefused}
+use Rattle.grammar.specs.declared.Refusal.{Refusal}
 use Rattle.grammar.specs.State.{with_at, gap_at, Gapped}
 use Rattle.grammar.specs.Sound.{AllTables, Far}
 use Rattle.grammar.proofs.Far.{far_at}
@@ -74,6 +74,6 @@ pub declarations_far : (src : List ℕ) (done : ℕ) (s : State) (D : Declared) 
 unfolding decl_all decl_run
 declarations_far src done s D T f = go (gap_at s.kind true src s.at) (gapped s.kind true src s.at f.here)
   where
-    go : (g : Gap) → Gapped src s.at g → FarAll src done T (all_from g src s D)
-    go (GapTo i n) x = let a = x.0 in turns_keep (FarAll src done T) (decl_turn src) (turn_far src done T) (suc (length src)) _ (far_at f i (omega arith) x.1)
-    go (GapRefused e) x = f
+    go : (g : Result (ℕ × ℕ) Refusal) → Gapped src s.at g → FarAll src done T (all_from g src s D)
+    go (Ok (i, n)) x = let a = x.0 in turns_keep (FarAll src done T) (decl_turn src) (turn_far src done T) (suc (length src)) _ (far_at f i (omega arith) x.1)
+    go (Err e) x = f

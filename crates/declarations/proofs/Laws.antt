@@ -1,4 +1,5 @@
 -- One declaration: what the keyword's arm gives is what the step gives, and the reading moves on. Assumes nothing.
+use Rattle.std.specs.Prelude.{Result, Ok, Err}
 use Prim.Native.Nat.{ℕ, ◌≤◌, ◌<◌}
 use mathlib.Core.Path.{◌≡◌, sym, ◌∙◌, ap}
 use mathlib.Core.List.{List}
@@ -15,8 +16,6 @@ use Rattle.grammar.specs.declared.Answer.TheVariants.{Going, Done, Refused}
 use Rattle.grammar.specs.declared.Cause.TheVariants.{PrematureEnd}
 use Rattle.grammar.specs.declared.Refusal.{Refusal}
 use Rattle.grammar.specs.declared.Refusal.TheVariants.{Fault}
-use Rattle.grammar.specs.declared.Gap.{Gap}
-use Rattle.grammar.specs.declared.Gap.TheVariants.{GapTo, GapRefused}
 use Rattle.scan.specs.Loop.{more, stop}
 use borrow.Author.Tests.{le-leb, lt-leb}
 use Rattle.grammar.specs.State.{with_at, gap_at, Passed, Moves}
@@ -57,11 +56,11 @@ module _ (src : List ℕ) (s : State) (D : Declared) where
     turn_refused f e = rw (lt-leb (length src) s.at h, ← q, e)
 
 -- spacing, then the declarations
-module _ (src : List ℕ) (s : State) (D : Declared) (g : Gap) (q : g ≡ gap_at s.kind true src s.at) where
-  pub all_from : (i n : ℕ) (o : Out) → g ≡ GapTo i n → o ≡ decl_run src (with_at s i) D → o ≡ decl_all src s D
+module _ (src : List ℕ) (s : State) (D : Declared) (g : Result (ℕ × ℕ) Refusal) (q : g ≡ gap_at s.kind true src s.at) where
+  pub all_from : (i n : ℕ) (o : Out) → g ≡ Ok (i, n) → o ≡ decl_run src (with_at s i) D → o ≡ decl_all src s D
   unfolding decl_all
   all_from i n o e h = rw (← q, e) h
 
-  pub all_refused : (f : Refusal) → g ≡ GapRefused f → record { answer = Refused f; state = s; tables = D } ≡ decl_all src s D
+  pub all_refused : (f : Refusal) → g ≡ Err f → record { answer = Refused f; state = s; tables = D } ≡ decl_all src s D
   unfolding decl_all
   all_refused f e = rw (← q, e)

@@ -1,27 +1,25 @@
 -- Two precedence lists that a reading comes to one after the other never share a level, and what stands behind a line end that was counted is not in the first.
 -- Assumes nothing.
+use Rattle.std.specs.Prelude.{Option, Ok, None}
 use Prim.Native.Nat.{ℕ, ◌+◌, ◌≤◌, ◌<◌}
 use mathlib.Core.Path.{◌≡◌, refl, sym, ◌∙◌, ap}
 use mathlib.Core.List.{List, [], ◌∷◌}
-use mathlib.Core.Option.{none}
 use mathlib.Core.Bool.{Bool, true, false}
 use mathlib.Core.Logic.{inl, inr}
 use native.Mathlib.Omega.{arith}
 use lib.ListN.{length, get_or}
+use Rattle.scan.proofs.Tuples.{ok_2}
 use Rattle.scan.specs.declared.Place.{Place}
 use Rattle.scan.specs.declared.Class.TheVariants.{LineByte}
 use Rattle.scan.specs.Scan.{in_class, starts_at, Runs}
 use Rattle.scan.proofs.Bytes.{told}
-use Rattle.spacing.specs.declared.Spaced.TheVariants.{To}
 use Rattle.spacing.specs.Spacing.{is_blank, spaces_at}
-use Rattle.words.specs.declared.Token.TheVariants.{Found}
 use Rattle.words.specs.Words.{token_at}
 use Rattle.keywords.specs.declared.Keyword.{Keyword}
 use Rattle.keywords.proofs.Laws.{sees}
 use Rattle.tables.specs.Rows.{row_at}
 use Rattle.tables.specs.Layout.{precedences, width}
 use Rattle.grammar.specs.declared.State.{State}
-use Rattle.grammar.specs.declared.Part.{Part}
 use Rattle.grammar.specs.declared.Answer.TheVariants.{Going}
 use Rattle.grammar.specs.State.{Out4, count, with_at}
 use Rattle.grammar.specs.Sound.{AllTables, Far}
@@ -82,9 +80,9 @@ module _ {src : List ℕ} {done : ℕ} {s : State} {D : Declared} (T : AllTables
         from : {s₁ s₂ : State} {t : List ℕ} → TwoLists src (behind s.kind src s.at) a (behind one.state.kind src one.state.at) b n s₁ s₂ t → TwoLists src (behind s.kind src s.at) a (behind one.state.kind src one.state.at) b s s₁ s₂ t
         from x = record { line = x.line; stops = x.stops; first = x.first; behind = x.behind; second = x.second; levels = x.levels }
 
-    -- A `//` comment that ends with a line end, at the index e, stands behind a word of the first list, with blanks between them or none: that line end is
+    -- A `//` comment that ends with a line end, at the index e, stands behind a word of the first list, with blanks between them or None: that line end is
     -- counted, and the list ends with the spacing that it is part of.
-    pub comment_ends : (w : LineWord) → In w lists_differ.line.words → (c e : ℕ) → w.end ≤ c → ((k : ℕ) → w.end ≤ k → k < c → is_blank (get_or src k 0) ≡ true) → starts_at (47 ∷ 47 ∷ []) src c ≡ true → Runs (in_class LineByte) src c e → e < length src → (n : ℕ) × (0 < n) × (spaces_at s.kind true src w.end ≡ To one.state.at n)
+    pub comment_ends : (w : LineWord) → In w lists_differ.line.words → (c e : ℕ) → w.end ≤ c → ((k : ℕ) → w.end ≤ k → k < c → is_blank (get_or src k 0) ≡ true) → starts_at (47 ∷ 47 ∷ []) src c ≡ true → Runs (in_class LineByte) src c e → e < length src → (n : ℕ) × (0 < n) × (spaces_at s.kind true src w.end ≡ Ok (one.state.at, n))
     comment_ends w x c e h blank starts run low = let y = comment_last s.kind src w.end c e h blank starts run low (prec_words s.kind src) lists_differ.line.line w x refl in (lists_differ.line.counted, y.0, y.1)
 
     -- A first list that is one word, whatever leads it: its rows are that word's, and those of the second list have the next level.
@@ -105,17 +103,17 @@ module _ {src : List ℕ} {done : ℕ} {s : State} {D : Declared} (T : AllTables
         row k = k.is ∙ ap (λ (v : LineWord). prec_row s.level a v.place) (is k.word (rw only at k.listed))
 
     -- `%left 'a' // x`, a line end, and `%left` again: the first list is its one word, and the rows of the two have different levels.
-    pub comment_lists_differ : (i m : ℕ) → spaces_at s.kind false src (behind s.kind src s.at) ≡ To i m → (w : Place) (end : ℕ) (quoted : Bool) → token_at src i ≡ Found w end quoted
+    pub comment_lists_differ : (i m : ℕ) → spaces_at s.kind false src (behind s.kind src s.at) ≡ Ok (i, m) → (w : Place) (end : ℕ) (quoted : Bool) → token_at src i ≡ Ok (w, end, quoted)
         → (c e : ℕ) → end ≤ c → ((k : ℕ) → end ≤ k → k < c → is_blank (get_or src k 0) ≡ true) → starts_at (47 ∷ 47 ∷ []) src c ≡ true → Runs (in_class LineByte) src c e → e < length src
-        → (lists_differ.line.words ≡ record { place = w; number = none; end = end } ∷ [])
+        → (lists_differ.line.words ≡ record { place = w; number = None; end = end } ∷ [])
         × ((r : ℕ) → count s precedences ≤ r → r < count one.state precedences → row_at (width precedences) two.tables.t2 r ≡ prec_row s.level a w)
         × ((r : ℕ) → count one.state precedences ≤ r → r < count two.state precedences → RowFrom src (s.level + 1) b (behind one.state.kind src one.state.at) (row_at (width precedences) two.tables.t2 r))
     comment_lists_differ i m at w end quoted token c e h blank starts run low =
-        one_word (record { place = w; number = none; end = end })
-        (comment_only s.kind src end c e h blank starts run low lists_differ.line w quoted (told (λ (j : ℕ). token_at src j ≡ Found w end quoted) (let x = lists_differ.line.gap in cc) token))
+        one_word (record { place = w; number = None; end = end })
+        (comment_only s.kind src end c e h blank starts run low lists_differ.line w quoted (told (λ (j : ℕ). token_at src j ≡ Ok (w, end, quoted)) (ok_2 (sym at ∙ lists_differ.line.gap)).0 token))
 
     -- The same of a word with its number behind a tag, as kind 4 has them: `%left <t> 'a' 5 // x`.
-    pub comment_marked_differ : (i m : ℕ) → spaces_at s.kind false src (behind s.kind src s.at) ≡ To i m → (j : ℕ) (tag : Part) → Lead s.kind src i j 0 tag → (w : ListWord) (end : ℕ) → Worded s.kind true src j end w
+    pub comment_marked_differ : (i m : ℕ) → spaces_at s.kind false src (behind s.kind src s.at) ≡ Ok (i, m) → (j : ℕ) (tag : Option (ℕ × ℕ)) → Lead s.kind src i j 0 tag → (w : ListWord) (end : ℕ) → Worded s.kind true src j end w
         → (c e : ℕ) → end ≤ c → ((k : ℕ) → end ≤ k → k < c → is_blank (get_or src k 0) ≡ true) → starts_at (47 ∷ 47 ∷ []) src c ≡ true → Runs (in_class LineByte) src c e → e < length src
         → (lists_differ.line.words ≡ line_word w end ∷ [])
         × ((r : ℕ) → count s precedences ≤ r → r < count one.state precedences → row_at (width precedences) two.tables.t2 r ≡ prec_row s.level a w.place)
@@ -123,7 +121,7 @@ module _ {src : List ℕ} {done : ℕ} {s : State} {D : Declared} (T : AllTables
     comment_marked_differ i m at j tag lead w end word c e h blank starts run low =
         let l = lists_differ.line in
         let x = l.gap in
-        let z : i ≡ l.start = cc in
+        let z : i ≡ l.start = (ok_2 (sym at ∙ x)).0 in
         let d = (prec_leads s.kind src).one (told (λ (k : ℕ). Lead s.kind src k j 0 tag) z lead) l.lead in
         one_word (line_word w end)
         (comment_first s.kind src end c e h blank starts run low (prec_words s.kind src)

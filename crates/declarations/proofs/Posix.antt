@@ -1,4 +1,5 @@
 -- In kinds 1 to 3 no declaration touches tables 15 to 17 or their counts: their keywords are seen in kind 4 alone, and no list has a tag or a number. Assumes nothing.
+use Rattle.std.specs.Prelude.{Option, Some, None, Result, Ok, Err}
 use Prim.Native.Nat.{ℕ, suc, ◌+◌, ◌<◌}
 use mathlib.Core.Path.{◌≡◌, refl, sym, ap, ◌∙◌}
 use mathlib.Core.List.{List, [], ◌∷◌}
@@ -10,18 +11,13 @@ use borrow.Author.Tests.{ne_eqb}
 use Rattle.scan.specs.Scan.{starts_at}
 use Rattle.scan.proofs.Bytes.{on_test}
 use Rattle.scan.proofs.Loop.{Either, turns_keep}
-use Rattle.texts.specs.declared.ColonText.{ColonText}
-use Rattle.texts.specs.declared.ColonText.TheVariants.{Upto, NoColon}
+use Rattle.scan.specs.declared.Place.{Place}
 use Rattle.texts.specs.Colon.{colon_text_at}
 use Rattle.texts.specs.Line.{line_end_at}
-use Rattle.words.specs.declared.Token.{Token}
-use Rattle.words.specs.declared.Token.TheVariants.{Found, NoToken}
-use Rattle.words.specs.declared.Name.{Name}
-use Rattle.words.specs.declared.Name.TheVariants.{NameTo, NoName}
-use Rattle.words.specs.declared.Int.{Int}
-use Rattle.words.specs.declared.Int.TheVariants.{Value, NoDigits, TooLarge}
-use Rattle.words.specs.declared.Quote.{Quote}
-use Rattle.words.specs.declared.Quote.TheVariants.{Closed, NotOpened, LineInside, BadEscape, NotClosed}
+use Rattle.words.specs.declared.IntError.{IntError}
+use Rattle.words.specs.declared.IntError.TheVariants.{NoDigits, TooLarge}
+use Rattle.words.specs.declared.QuoteError.{QuoteError}
+use Rattle.words.specs.declared.QuoteError.TheVariants.{NotOpened, LineInside, BadEscape, NotClosed}
 use Rattle.words.specs.Words.{name_at, token_at}
 use Rattle.words.specs.Numbers.{int_at}
 use Rattle.words.specs.Strings.{string_at}
@@ -29,25 +25,15 @@ use Rattle.keywords.specs.declared.Keyword.{Keyword}
 use Rattle.keywords.specs.declared.Keyword.TheVariants.{Percents, TokenWord, ActiontypeWord, StartWord, EppWord, ExpectRrWord, ExpectUnusedWord, ExpectWord, AvoidInsertWord, ParseParamWord, ParseGenericsWord, ImplicitTokensWord, LeftWord, RightWord, NonassocWord, PrologueWord, UnionWord, TypeWord, NoKeyword}
 use Rattle.keywords.specs.declared.Seen.{Seen}
 use Rattle.keywords.specs.Keywords.{Entry, keywords, knows, first_of, seen_at}
-use Rattle.tables.specs.declared.Entered.{Entered}
-use Rattle.tables.specs.declared.Entered.TheVariants.{Rows, Full}
-use Rattle.tables.specs.declared.Found as table
-use Rattle.tables.specs.declared.Found.TheVariants.{RowAt, NoRow}
 use Rattle.tables.specs.Table.{add_row, enter_token, flag, find_name}
 use Rattle.tables.specs.Layout.{tokens, precedences, avoided, implicit, epps, unused, repeats, posix_from, key_name, width}
 use Rattle.grammar.specs.declared.State.{State}
 use Rattle.grammar.specs.declared.PosixCounts.{PosixCounts}
-use Rattle.grammar.specs.declared.Part.{Part}
-use Rattle.grammar.specs.declared.Part.TheVariants.{Absent, At}
-use Rattle.grammar.specs.declared.Expect.{Expect}
-use Rattle.grammar.specs.declared.Expect.TheVariants.{NotExpected, Expected}
-use Rattle.grammar.specs.declared.Param.TheVariants.{ParamAt}
 use Rattle.grammar.specs.declared.Answer.{Answer}
 use Rattle.grammar.specs.declared.Answer.TheVariants.{Going, Done, Refused}
 use Rattle.grammar.specs.declared.Repeat.{Repeat}
 use Rattle.grammar.specs.declared.Repeat.TheVariants.{RepeatedStart, RepeatedActiontype, RepeatedEpp, RepeatedPrecedence, RepeatedAvoidInsert, RepeatedImplicitTokens}
-use Rattle.grammar.specs.declared.Gap.{Gap}
-use Rattle.grammar.specs.declared.Gap.TheVariants.{GapTo, GapRefused}
+use Rattle.grammar.specs.declared.Refusal.{Refusal}
 use Rattle.grammar.specs.Cells.{token_cells, name_cells, kind_cells, precedence_cells, epp_cells}
 use Rattle.grammar.specs.State.{Out0, Out1, Out3, Out4, count, with_at, with_level, with_singles, next_level, gap_at, pushed, push_row, list_repeat, entered, enter_step, once_found, once_step, past, past_gap, pass_on, tied1}
 use Rattle.grammar.proofs.Counting.{with_low}
@@ -56,8 +42,6 @@ use Rattle.marks.specs.Marks.{Leading, lead_tag, tag_row, number_after, behind_w
 use Rattle.marks.proofs.Laws.{lead_none, number_other}
 use Rattle.settings.specs.Singles.{with_param, with_generics, expected_of}
 use Rattle.settings.specs.Settings.{start_given, start_named, start_name, start_from, start_decl, repeated_expect, expect_seen, expect_given, expect_int, expect_from, expect_decl, actiontype_given, actiontype_named, actiontype_from, actiontype_decl, param_given, param_typed, param_text, param_from, param_decl, generics_from, generics_decl}
-use Rattle.lists.specs.declared.Spelling.{Spelling}
-use Rattle.lists.specs.declared.Spelling.TheVariants.{Spelled, Unspelled}
 use Rattle.lists.specs.declared.WordList.TheVariants.{TokenList, UnusedList}
 use Rattle.lists.specs.Lists.{token_found, token_item, spelled_at, unused_row, unused_spelled, unused_item, list_item, ends, after_item, list_turn, percent_list, list_led, list_body, list_from, list_decl}
 use Rattle.lines.specs.Precedences.{prec_found, prec_item, line_end, prec_turn, prec_list, prec_led, prec_body, prec_from, prec_decl}
@@ -94,25 +78,25 @@ module _ (s : State) where
   unfolding enter_step
   enter_side src a b d t = go (enter_token src (count s tokens) a b d t).entered
     where
-      go : (e : Entered) → side (entered e s (token_cells a b (flag d)) (enter_token src (count s tokens) a b d t).cells).state ≡ side s
-      go (Rows m) = refl
-      go Full = refl
+      go : (e : Option ℕ) → side (entered e s (token_cells a b (flag d)) (enter_token src (count s tokens) a b d t).cells).state ≡ side s
+      go (Some m) = refl
+      go None = refl
 
   once_side : (src : List ℕ) (k w name : ℕ) (what : Repeat) (row t t10 : List ℕ) → k < posix_from → side (once_step src s k w name what row t t10).state ≡ side s
   unfolding once_step
   once_side src k w name what row t t10 h = go (find_name src w name (count s k) t (get_or row name 0) (get_or row (name + 1) 0))
     where
-      go : (f : table.Found) → side (once_found f s k w what row t t10).state ≡ side s
-      go (RowAt r) = repeat_side what _ _ _ _ t10
-      go NoRow = push_side k row t h
+      go : (f : Option ℕ) → side (once_found f s k w what row t t10).state ≡ side s
+      go (Some r) = repeat_side what _ _ _ _ t10
+      go None = push_side k row t h
 
   pass_side : (src : List ℕ) (line : Bool) (j : ℕ) (a : Answer) → side (pass_on src line j a s).state ≡ side s
   unfolding past_gap
   pass_side src line j Going = go (gap_at s.kind true src j)
     where
-      go : (g : Gap) → side (past line g s).state ≡ side s
-      go (GapTo i n) = refl
-      go (GapRefused e) = refl
+      go : (g : Result (ℕ × ℕ) Refusal) → side (past line g s).state ≡ side s
+      go (Ok (i, n)) = refl
+      go (Err e) = refl
   pass_side src line j Done = refl
   pass_side src line j (Refused f) = refl
 
@@ -122,98 +106,98 @@ module _ (src : List ℕ) (s : State) where
   unfolding param_decl param_typed
   param_side = go (gap_at s.kind false src s.at)
     where
-      given : (a b : ℕ) (g : Gap) → side (param_given g src s a b).state ≡ side s
-      given a b (GapTo i n) = pass_side (with_singles s (with_param s.singles (ParamAt a b i (line_end_at src i)))) src false (line_end_at src i) Going
-      given a b (GapRefused f) = refl
+      given : (a b : ℕ) (g : Result (ℕ × ℕ) Refusal) → side (param_given g src s a b).state ≡ side s
+      given a b (Ok (i, n)) = pass_side (with_singles s (with_param s.singles (Some (a, b, i, line_end_at src i)))) src false (line_end_at src i) Going
+      given a b (Err f) = refl
 
-      text : (x : ColonText) → side (param_text x src s).state ≡ side s
-      text (Upto j n p) = given p.from p.to (gap_at s.kind false src (j + 1))
-      text (NoColon e) = refl
+      text : (x : Result (ℕ × ℕ × Place) ℕ) → side (param_text x src s).state ≡ side s
+      text (Ok (j, n, p)) = given p.from p.to (gap_at s.kind false src (j + 1))
+      text (Err e) = refl
 
-      go : (g : Gap) → side (param_from g src s).state ≡ side s
-      go (GapTo i n) = text (colon_text_at src i)
-      go (GapRefused f) = refl
+      go : (g : Result (ℕ × ℕ) Refusal) → side (param_from g src s).state ≡ side s
+      go (Ok (i, n)) = text (colon_text_at src i)
+      go (Err f) = refl
 
   generics_side : side (generics_decl src s).state ≡ side s
   unfolding generics_decl
   generics_side = go (gap_at s.kind false src s.at)
     where
-      go : (g : Gap) → side (generics_from g src s).state ≡ side s
-      go (GapTo i n) = pass_side (with_singles s (with_generics s.singles (At i (line_end_at src i)))) src false (line_end_at src i) Going
-      go (GapRefused f) = refl
+      go : (g : Result (ℕ × ℕ) Refusal) → side (generics_from g src s).state ≡ side s
+      go (Ok (i, n)) = pass_side (with_singles s (with_generics s.singles (Some (i, line_end_at src i)))) src false (line_end_at src i) Going
+      go (Err f) = refl
 
   module _ (t10 : List ℕ) where
     start_side : side (start_decl src s t10).state ≡ side s
     unfolding start_decl start_named
     start_side = go (gap_at s.kind false src s.at)
       where
-        given : (i j : ℕ) (p : Part) → side (start_given p s i j t10).state ≡ side s
-        given i j Absent = refl
-        given i j (At a b) = repeat_side s RepeatedStart a b i j t10
+        given : (i j : ℕ) (p : Option (ℕ × ℕ)) → side (start_given p s i j t10).state ≡ side s
+        given i j None = refl
+        given i j (Some (a, b)) = repeat_side s RepeatedStart a b i j t10
 
-        name : (i : ℕ) (x : Name) → side (start_name x i src s t10).state ≡ side s
-        name i (NameTo j) = pass_side (start_named s i j t10).state src false j (start_named s i j t10).answer ∙ given i j s.singles.start
-        name i (NoName e) = refl
+        name : (i : ℕ) (x : Result ℕ ℕ) → side (start_name x i src s t10).state ≡ side s
+        name i (Ok j) = pass_side (start_named s i j t10).state src false j (start_named s i j t10).answer ∙ given i j s.singles.start
+        name i (Err e) = refl
 
-        go : (g : Gap) → side (start_from g src s t10).state ≡ side s
-        go (GapTo i n) = name i (name_at src i)
-        go (GapRefused f) = refl
+        go : (g : Result (ℕ × ℕ) Refusal) → side (start_from g src s t10).state ≡ side s
+        go (Ok (i, n)) = name i (name_at src i)
+        go (Err f) = refl
 
     expect_side : (rr : Bool) → side (expect_decl src s rr t10).state ≡ side s
     unfolding expect_decl expect_given
     expect_side rr = go (gap_at s.kind false src s.at)
       where
-        given : (v i j : ℕ) (e : Expect) → side (expect_seen e s rr v i j t10).state ≡ side s
-        given v i j NotExpected = refl
-        given v i j (Expected w a b) = repeat_side s (repeated_expect rr) a b i j t10
+        given : (v i j : ℕ) (e : Option (ℕ × ℕ × ℕ)) → side (expect_seen e s rr v i j t10).state ≡ side s
+        given v i j None = refl
+        given v i j (Some (w, a, b)) = repeat_side s (repeated_expect rr) a b i j t10
 
-        int : (i : ℕ) (x : Int) → side (expect_int x i src s rr t10).state ≡ side s
-        int i (Value v j) = pass_side (expect_given s rr v i j t10).state src false j (expect_given s rr v i j t10).answer ∙ given v i j (expected_of rr s.singles)
-        int i (NoDigits e) = refl
-        int i (TooLarge e) = refl
+        int : (i : ℕ) (x : Result (ℕ × ℕ) IntError) → side (expect_int x i src s rr t10).state ≡ side s
+        int i (Ok (v, j)) = pass_side (expect_given s rr v i j t10).state src false j (expect_given s rr v i j t10).answer ∙ given v i j (expected_of rr s.singles)
+        int i (Err (NoDigits e)) = refl
+        int i (Err (TooLarge e)) = refl
 
-        go : (g : Gap) → side (expect_from g src s rr t10).state ≡ side s
-        go (GapTo i n) = int i (int_at src i)
-        go (GapRefused f) = refl
+        go : (g : Result (ℕ × ℕ) Refusal) → side (expect_from g src s rr t10).state ≡ side s
+        go (Ok (i, n)) = int i (int_at src i)
+        go (Err f) = refl
 
     actiontype_side : side (actiontype_decl src s t10).state ≡ side s
     unfolding actiontype_decl actiontype_named
     actiontype_side = go (gap_at s.kind false src s.at)
       where
-        given : (i j : ℕ) (p : Part) → side (actiontype_given p s i j t10).state ≡ side s
-        given i j Absent = refl
-        given i j (At a b) = repeat_side s RepeatedActiontype a b i j t10
+        given : (i j : ℕ) (p : Option (ℕ × ℕ)) → side (actiontype_given p s i j t10).state ≡ side s
+        given i j None = refl
+        given i j (Some (a, b)) = repeat_side s RepeatedActiontype a b i j t10
 
-        go : (g : Gap) → side (actiontype_from g src s t10).state ≡ side s
-        go (GapTo i n) =
+        go : (g : Result (ℕ × ℕ) Refusal) → side (actiontype_from g src s t10).state ≡ side s
+        go (Ok (i, n)) =
             let j = line_end_at src i in
             pass_side (actiontype_named s i j t10).state src false j (actiontype_named s i j t10).answer ∙ given i j s.actiontype
-        go (GapRefused f) = refl
+        go (Err f) = refl
 
     epp_side : (t5 : List ℕ) → side (epp_decl src s t5 t10).state ≡ side s
     unfolding epp_decl epp_value epp_text epp_given
     epp_side t5 = go (gap_at s.kind false src s.at)
       where
-        string : (i j from to v : ℕ) (q : Quote) → side (epp_string q src s i j from to v t5 t10).state ≡ side s
-        string i j from to v (Closed e) =
+        string : (i j from to v : ℕ) (q : Result ℕ QuoteError) → side (epp_string q src s i j from to v t5 t10).state ≡ side s
+        string i j from to v (Ok e) =
             let o = once_step src s epps (width epps) key_name RepeatedEpp (epp_cells i j from to v e) t5 t10 in
             pass_side o.state src false e o.answer ∙ once_side s src epps (width epps) key_name RepeatedEpp (epp_cells i j from to v e) t5 t10 (omega arith)
-        string i j from to v (NotOpened e) = refl
-        string i j from to v (LineInside e) = refl
-        string i j from to v (BadEscape e) = refl
-        string i j from to v (NotClosed e) = refl
+        string i j from to v (Err (NotOpened e)) = refl
+        string i j from to v (Err (LineInside e)) = refl
+        string i j from to v (Err (BadEscape e)) = refl
+        string i j from to v (Err (NotClosed e)) = refl
 
-        value : (i j from to : ℕ) (g : Gap) → side (epp_gap g src s i j from to t5 t10).state ≡ side s
-        value i j from to (GapTo v n) = string i j from to v (string_at src v)
-        value i j from to (GapRefused f) = refl
+        value : (i j from to : ℕ) (g : Result (ℕ × ℕ) Refusal) → side (epp_gap g src s i j from to t5 t10).state ≡ side s
+        value i j from to (Ok (v, n)) = string i j from to v (string_at src v)
+        value i j from to (Err f) = refl
 
-        key : (i : ℕ) (x : Token) → side (epp_key x i src s t5 t10).state ≡ side s
-        key i (Found p end q) = value i end p.from p.to (gap_at s.kind false src end)
-        key i (NoToken e) = refl
+        key : (i : ℕ) (x : Result (Place × ℕ × Bool) ℕ) → side (epp_key x i src s t5 t10).state ≡ side s
+        key i (Ok (p, end, q)) = value i end p.from p.to (gap_at s.kind false src end)
+        key i (Err e) = refl
 
-        go : (g : Gap) → side (epp_from g src s t5 t10).state ≡ side s
-        go (GapTo i n) = key i (token_at src i)
-        go (GapRefused f) = refl
+        go : (g : Result (ℕ × ℕ) Refusal) → side (epp_from g src s t5 t10).state ≡ side s
+        go (Ok (i, n)) = key i (token_at src i)
+        go (Err f) = refl
 
 -- avoid and implicit lists
 module _ (src : List ℕ) (k : ℕ) (low : k < posix_from) (what : Repeat) where
@@ -228,11 +212,11 @@ module _ (src : List ℕ) (k : ℕ) (low : k < posix_from) (what : Repeat) where
       named from to end Done o e = e
       named from to end (Refused f) o e = e
 
-      go : (x : Token) → side (avoid_found x src s k what t1 t t10).state ≡ side s
-      go (Found p end q) =
+      go : (x : Result (Place × ℕ × Bool) ℕ) → side (avoid_found x src s k what t1 t t10).state ≡ side s
+      go (Ok (p, end, q)) =
           let o = enter_step src s p.from p.to false t1 in
           named p.from p.to end o.answer o (enter_side s src p.from p.to false t1)
-      go (NoToken i) = refl
+      go (Err i) = refl
 
   abbrev Beside : Side → Out3 → Type 0
   Beside x o = side o.state ≡ x
@@ -250,12 +234,12 @@ module _ (src : List ℕ) (k : ℕ) (low : k < posix_from) (what : Repeat) where
   unfolding avoid_decl avoid_list
   avoid_side s t1 t t10 = on_test (Beside (side s)) (leb (length src) s.at) _ _ (λ e. refl) (λ e. go (gap_at s.kind false src s.at))
     where
-      go : (g : Gap) → Beside (side s) (avoid_from g src s k what t1 t t10)
-      go (GapTo i n) = turns_keep (Beside (side s)) (avoid_turn src k what) (avoid_turn_lem (side s)) (suc (length src)) _ refl
-      go (GapRefused f) = refl
+      go : (g : Result (ℕ × ℕ) Refusal) → Beside (side s) (avoid_from g src s k what t1 t t10)
+      go (Ok (i, n)) = turns_keep (Beside (side s)) (avoid_turn src k what) (avoid_turn_lem (side s)) (suc (length src)) _ refl
+      go (Err f) = refl
 
 -- A word without a tag has no row of table 15, and in kinds 1 to 3 none of table 16.
-tag_absent : (a : Answer) (s : State) (from to : ℕ) (t : List ℕ) → tag_row a s Absent from to t ≡ record { answer = a; state = s; a = t }
+tag_absent : (a : Answer) (s : State) (from to : ℕ) (t : List ℕ) → tag_row a s None from to t ≡ record { answer = a; state = s; a = t }
 unfolding tag_row
 tag_absent Going s from to t = refl
 tag_absent Done s from to t = refl
@@ -286,7 +270,7 @@ abbrev marks4 : Out4 → Marked
 marks4 o = marks o.state o.c o.d
 
 -- a word's rows, and what stands behind it
-word_marks : (src : List ℕ) (line : Bool) (from to end : ℕ) (a : Answer) (s : State) (t15 t16 : List ℕ) → (s.kind ≡ 4 → ⊥) → (o : Out1) → o ≡ tag_row a s Absent from to t15 → (p : Out1) → p ≡ behind_word src line from to end o.answer o.state t16 → marks p.state o.a p.a ≡ marks s t15 t16
+word_marks : (src : List ℕ) (line : Bool) (from to end : ℕ) (a : Answer) (s : State) (t15 t16 : List ℕ) → (s.kind ≡ 4 → ⊥) → (o : Out1) → o ≡ tag_row a s None from to t15 → (p : Out1) → p ≡ behind_word src line from to end o.answer o.state t16 → marks p.state o.a p.a ≡ marks s t15 t16
 word_marks src line from to end a s t15 t16 d o e p f =
     let g = e ∙ tag_absent a s from to t15 in
     let h = f ∙ ap (λ (x : Out1). behind_word src line from to end x.answer x.state t16) g ∙ behind_other src line from to end a s t16 d in
@@ -300,38 +284,38 @@ module _ (src : List ℕ) (s : State) (d : s.kind ≡ 4 → ⊥) where
   kept : (u : State) (t15 t16 : List ℕ) → side u ≡ side s → marks u t15 t16 ≡ marks s t15 t16
   kept u t15 t16 e = ap (λ (x : Side). record { beside = x; tags = t15; numbers = t16 }) e
 
-  token_marks : (t t15 t16 : List ℕ) → marks3 (token_item src s Absent t t15 t16) ≡ marks s t15 t16
+  token_marks : (t t15 t16 : List ℕ) → marks3 (token_item src s None t t15 t16) ≡ marks s t15 t16
   unfolding token_item
   token_marks t t15 t16 = go (token_at src s.at)
     where
-      go : (x : Token) → marks3 (token_found x src s Absent t t15 t16) ≡ marks s t15 t16
-      go (Found p end q) =
+      go : (x : Result (Place × ℕ × Bool) ℕ) → marks3 (token_found x src s None t t15 t16) ≡ marks s t15 t16
+      go (Ok (p, end, q)) =
           let o = enter_step src s p.from p.to true t in
           let e = enter_side s src p.from p.to true t in
           word_marks src false p.from p.to end o.answer o.state t15 t16 (other o.state e) _ refl _ refl ∙ kept o.state t15 t16 e
-      go (NoToken i) = refl
+      go (Err i) = refl
 
   unused_side : (t : List ℕ) → side (unused_item src s t).state ≡ side s
   unfolding unused_item unused_row
   unused_side t = go (spelled_at src s.at)
     where
-      go : (x : Spelling) → side (unused_spelled x src s t).state ≡ side s
-      go (Spelled kind from to end) =
+      go : (x : Result (ℕ × ℕ × ℕ × ℕ) ℕ) → side (unused_spelled x src s t).state ≡ side s
+      go (Ok (kind, from, to, end)) =
           let o = push_row s unused (kind_cells kind from to) t in
           pass_side o.state src false end o.answer ∙ push_side s unused (kind_cells kind from to) t (omega arith)
-      go (Unspelled i) = refl
+      go (Err i) = refl
 
-  prec_marks : (level assoc : ℕ) (t2 t10 t15 t16 : List ℕ) → marks4 (prec_item src s level assoc Absent t2 t10 t15 t16) ≡ marks s t15 t16
+  prec_marks : (level assoc : ℕ) (t2 t10 t15 t16 : List ℕ) → marks4 (prec_item src s level assoc None t2 t10 t15 t16) ≡ marks s t15 t16
   unfolding prec_item
   prec_marks level assoc t2 t10 t15 t16 = go (token_at src s.at)
     where
-      go : (x : Token) → marks4 (prec_found x src s level assoc Absent t2 t10 t15 t16) ≡ marks s t15 t16
-      go (Found p end q) =
+      go : (x : Result (Place × ℕ × Bool) ℕ) → marks4 (prec_found x src s level assoc None t2 t10 t15 t16) ≡ marks s t15 t16
+      go (Ok (p, end, q)) =
           let row = precedence_cells p.from p.to level assoc in
           let o = once_step src s precedences (width precedences) 0 RepeatedPrecedence row t2 t10 in
           let e = once_side s src precedences (width precedences) 0 RepeatedPrecedence row t2 t10 (omega arith) in
           word_marks src true p.from p.to end o.answer o.state t15 t16 (other o.state e) _ refl _ refl ∙ kept o.state t15 t16 e
-      go (NoToken i) = refl
+      go (Err i) = refl
 
 -- the lists: `%token` and `%expect-unused`, then the precedences
 module _ (src : List ℕ) (x : Marked) (d : x.beside.kind ≡ 4 → ⊥) where
@@ -344,41 +328,41 @@ module _ (src : List ℕ) (x : Marked) (d : x.beside.kind ≡ 4 → ⊥) where
   away : (m : Marked) → m ≡ x → m.beside.kind ≡ 4 → ⊥
   away m e z = d (sym (ap (λ (y : Marked). y.beside.kind) e) ∙ z)
 
-  tokens_turn : (o : Out3) → Leaves3 o → Either Leaves3 Leaves3 (list_turn src TokenList Absent o)
+  tokens_turn : (o : Out3) → Leaves3 o → Either Leaves3 Leaves3 (list_turn src TokenList None o)
   unfolding list_turn
   tokens_turn o e = go (ends src o.state.at)
     where
       next : Out3
-      next = token_item src o.state Absent o.a o.b o.c
+      next = token_item src o.state None o.a o.b o.c
 
-      go : (b : Bool) → Either Leaves3 Leaves3 (after_item b o (token_item src o.state Absent o.a o.b o.c))
+      go : (b : Bool) → Either Leaves3 Leaves3 (after_item b o (token_item src o.state None o.a o.b o.c))
       go true = e
       go false = onward_keep Leaves3 next.answer next (token_marks src o.state (away (marks3 o) e) o.a o.b o.c ∙ e)
 
-  unused_turn : (o : Out3) → Leaves3 o → Either Leaves3 Leaves3 (list_turn src UnusedList Absent o)
+  unused_turn : (o : Out3) → Leaves3 o → Either Leaves3 Leaves3 (list_turn src UnusedList None o)
   unfolding list_turn
   unused_turn o e = go (ends src o.state.at)
     where
       next : Out3
-      next = list_item src o.state UnusedList Absent o.a o.b o.c
+      next = list_item src o.state UnusedList None o.a o.b o.c
 
-      go : (b : Bool) → Either Leaves3 Leaves3 (after_item b o (list_item src o.state UnusedList Absent o.a o.b o.c))
+      go : (b : Bool) → Either Leaves3 Leaves3 (after_item b o (list_item src o.state UnusedList None o.a o.b o.c))
       go true = e
       go false = onward_keep Leaves3 next.answer next (kept src o.state (away (marks3 o) e) next.state o.b o.c (unused_side src o.state (away (marks3 o) e) o.a) ∙ e)
 
-  prec_turn_lem : (level assoc : ℕ) (o : Out4) → Leaves4 o → Either Leaves4 Leaves4 (prec_turn src level assoc Absent o)
+  prec_turn_lem : (level assoc : ℕ) (o : Out4) → Leaves4 o → Either Leaves4 Leaves4 (prec_turn src level assoc None o)
   unfolding prec_turn
   prec_turn_lem level assoc o e = go (leb (length src) o.state.at)
     where
       item : Out4
-      item = prec_item src o.state level assoc Absent o.a o.b o.c o.d
+      item = prec_item src o.state level assoc None o.a o.b o.c o.d
 
       next : (a : Answer) (p : Out4) → Leaves4 p → Either Leaves4 Leaves4 (line_end a p)
       next Going p y = y
       next Done p y = y
       next (Refused f) p y = y
 
-      go : (b : Bool) → Either Leaves4 Leaves4 (prec.after_end b o (prec_item src o.state level assoc Absent o.a o.b o.c o.d))
+      go : (b : Bool) → Either Leaves4 Leaves4 (prec.after_end b o (prec_item src o.state level assoc None o.a o.b o.c o.d))
       go true = e
       go false = next item.answer item (prec_marks src o.state (away (marks4 o) e) level assoc o.a o.b o.c o.d ∙ e)
 
@@ -387,37 +371,37 @@ module _ (src : List ℕ) (s : State) (d : s.kind ≡ 4 → ⊥) (t15 t16 : List
   unfolding list_decl list_body percent_list
   tokens_marks t = gap (gap_at s.kind false src s.at)
     where
-      body : (i : ℕ) (l : Leading) → record { answer = Going; state = with_at s i; tag = Absent } ≡ l → marks3 (list_led l.answer l src TokenList t t15 t16) ≡ marks s t15 t16
+      body : (i : ℕ) (l : Leading) → record { answer = Going; state = with_at s i; tag = None } ≡ l → marks3 (list_led l.answer l src TokenList t t15 t16) ≡ marks s t15 t16
       body i l e =
           sym (ap (λ (y : Leading). marks3 (list_led y.answer y src TokenList t t15 t16)) e)
-          ∙ turns_keep (Leaves3 src (marks s t15 t16) d) (list_turn src TokenList Absent) (tokens_turn src (marks s t15 t16) d) (suc (length src)) _ refl
+          ∙ turns_keep (Leaves3 src (marks s t15 t16) d) (list_turn src TokenList None) (tokens_turn src (marks s t15 t16) d) (suc (length src)) _ refl
 
-      gap : (g : Gap) → marks3 (list_from g src s TokenList t t15 t16) ≡ marks s t15 t16
-      gap (GapTo i n) = body i (lead_tag src (with_at s i) false false) (lead_none src (with_at s i) false false d)
-      gap (GapRefused f) = refl
+      gap : (g : Result (ℕ × ℕ) Refusal) → marks3 (list_from g src s TokenList t t15 t16) ≡ marks s t15 t16
+      gap (Ok (i, n)) = body i (lead_tag src (with_at s i) false false) (lead_none src (with_at s i) false false d)
+      gap (Err f) = refl
 
   unused_marks : (t : List ℕ) → marks3 (list_decl src s UnusedList t t15 t16) ≡ marks s t15 t16
   unfolding list_decl list_body percent_list
   unused_marks t = gap (gap_at s.kind false src s.at)
     where
-      gap : (g : Gap) → marks3 (list_from g src s UnusedList t t15 t16) ≡ marks s t15 t16
-      gap (GapTo i n) = turns_keep (Leaves3 src (marks s t15 t16) d) (list_turn src UnusedList Absent) (unused_turn src (marks s t15 t16) d) (suc (length src)) _ refl
-      gap (GapRefused f) = refl
+      gap : (g : Result (ℕ × ℕ) Refusal) → marks3 (list_from g src s UnusedList t t15 t16) ≡ marks s t15 t16
+      gap (Ok (i, n)) = turns_keep (Leaves3 src (marks s t15 t16) d) (list_turn src UnusedList None) (unused_turn src (marks s t15 t16) d) (suc (length src)) _ refl
+      gap (Err f) = refl
 
   line_marks : (assoc : ℕ) (t2 t10 : List ℕ) → marks4 (prec_decl src s assoc t2 t10 t15 t16) ≡ marks s t15 t16
   unfolding prec_decl prec_body prec_list
   line_marks assoc t2 t10 = gap (gap_at s.kind false src s.at)
     where
-      body : (u : State) → side u ≡ side s → (l : Leading) → record { answer = Going; state = u; tag = Absent } ≡ l → marks4 (prec_led l.answer l src s.level assoc t2 t10 t15 t16) ≡ marks s t15 t16
+      body : (u : State) → side u ≡ side s → (l : Leading) → record { answer = Going; state = u; tag = None } ≡ l → marks4 (prec_led l.answer l src s.level assoc t2 t10 t15 t16) ≡ marks s t15 t16
       body u q l e =
           sym (ap (λ (y : Leading). marks4 (prec_led y.answer y src s.level assoc t2 t10 t15 t16)) e)
-          ∙ turns_keep (Leaves4 src (marks s t15 t16) d) (prec_turn src s.level assoc Absent) (prec_turn_lem src (marks s t15 t16) d s.level assoc) (suc (length src)) _ (kept src s d u t15 t16 q)
+          ∙ turns_keep (Leaves4 src (marks s t15 t16) d) (prec_turn src s.level assoc None) (prec_turn_lem src (marks s t15 t16) d s.level assoc) (suc (length src)) _ (kept src s d u t15 t16 q)
 
-      gap : (g : Gap) → marks4 (prec_from g src s assoc t2 t10 t15 t16) ≡ marks s t15 t16
-      gap (GapTo i n) =
+      gap : (g : Result (ℕ × ℕ) Refusal) → marks4 (prec_from g src s assoc t2 t10 t15 t16) ≡ marks s t15 t16
+      gap (Ok (i, n)) =
           let u = with_level (with_at s i) (next_level s.level) in
           body u refl (lead_tag src u false true) (lead_none src u false true d)
-      gap (GapRefused f) = refl
+      gap (Err f) = refl
 
 -- a keyword that kinds 1 to 3 know
 abbrev Known : Keyword → Type 0
@@ -515,6 +499,6 @@ module _ (src : List ℕ) (s : State) (D : Declared) (d : s.kind ≡ 4 → ⊥) 
   unfolding decl_all decl_run
   posix_arms = go (gap_at s.kind true src s.at)
     where
-      go : (g : Gap) → PosixLeft s D (all_from g src s D)
-      go (GapTo i n) = turns_keep (PosixLeft s D) (decl_turn src) turn_left (suc (length src)) _ (record { kind = refl; counts = refl; tags = refl; numbers = refl; bodies = refl })
-      go (GapRefused f) = record { kind = refl; counts = refl; tags = refl; numbers = refl; bodies = refl }
+      go : (g : Result (ℕ × ℕ) Refusal) → PosixLeft s D (all_from g src s D)
+      go (Ok (i, n)) = turns_keep (PosixLeft s D) (decl_turn src) turn_left (suc (length src)) _ (record { kind = refl; counts = refl; tags = refl; numbers = refl; bodies = refl })
+      go (Err f) = record { kind = refl; counts = refl; tags = refl; numbers = refl; bodies = refl }

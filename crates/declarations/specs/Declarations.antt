@@ -1,5 +1,5 @@
 -- Document 01, "Declarations", and the crate's `parse_declarations`: one declaration after another, in the order of its keywords.
-use Rattle.std.specs.Prelude.{ℕ, suc, List, Bool, true, false, leb, length}
+use Rattle.std.specs.Prelude.{ℕ, suc, List, Bool, true, false, leb, length, Result, Ok, Err}
 use Rattle.scan.specs.Loop.{Turn, stop, turns}
 use Rattle.keywords.specs.declared.Keyword.{Keyword}
 use Rattle.keywords.specs.declared.Keyword.TheVariants.{Percents, TokenWord, ActiontypeWord, StartWord, EppWord, ExpectRrWord, ExpectUnusedWord, ExpectWord, AvoidInsertWord, ParseParamWord, ParseGenericsWord, ImplicitTokensWord, LeftWord, RightWord, NonassocWord, PrologueWord, UnionWord, TypeWord, NoKeyword}
@@ -13,8 +13,7 @@ use Rattle.grammar.specs.declared.Refusal.TheVariants.{Fault}
 use Rattle.grammar.specs.declared.Answer.{Answer}
 use Rattle.grammar.specs.declared.Answer.TheVariants.{Going, Done, Refused}
 use Rattle.grammar.specs.declared.Repeat.TheVariants.{RepeatedAvoidInsert, RepeatedImplicitTokens}
-use Rattle.grammar.specs.declared.Gap.{Gap}
-use Rattle.grammar.specs.declared.Gap.TheVariants.{GapTo, GapRefused}
+use Rattle.grammar.specs.declared.Refusal.{Refusal}
 use Rattle.grammar.specs.State.{Out0, Out1, Out2, Out3, Out4, Tracked, with_at, gap_at, onward}
 use Rattle.settings.specs.Settings.{start_decl, expect_decl, actiontype_decl, param_decl, generics_decl}
 use Rattle.lists.specs.declared.WordList.TheVariants.{TokenList, UnusedList, TypeList}
@@ -116,9 +115,9 @@ decl_turn src o = after_end (leb (length src) o.state.at) o (decl_step src o.sta
 unfoldable pub decl_run : List ℕ → State → Declared → Out
 decl_run src s D = turns (suc (length src)) (decl_turn src) (record { answer = Going; state = s; tables = D })
 
-abbrev pub all_from : Gap → List ℕ → State → Declared → Out
-all_from (GapTo i n) src s D = decl_run src (with_at s i) D
-all_from (GapRefused f) src s D = in0 D (record { answer = Refused f; state = s })
+abbrev pub all_from : Result (ℕ × ℕ) Refusal → List ℕ → State → Declared → Out
+all_from (Ok (i, n)) src s D = decl_run src (with_at s i) D
+all_from (Err f) src s D = in0 D (record { answer = Refused f; state = s })
 
 -- spacing, then the declarations
 unfoldable pub decl_all : List ℕ → State → Declared → Out

@@ -5,7 +5,7 @@ ghost use Rattle.std.specs.Prelude.{◌≡◌};
 ghost use Rattle.grammar.specs.State.{Here, Passed, Moves, Tokens};
 ghost use Rattle.declarations.specs.Declarations.{Declared, Givens, Out, decl_step, decl_run, decl_all};
 
-use grammar::{Answer, Cause, Gap, Refusal, Repeat, State, Step};
+use grammar::{Answer, Cause, Refusal, Repeat, State, Step};
 use keywords::Keyword;
 use lists::WordList;
 
@@ -27,7 +27,7 @@ pub fn declaration(
     fx: &mut [u16],
 ) -> Step
     requires { Here src.now s.at × Tokens src.now s.counts t1.old i1.old × Givens src.now s.counts t2.old t3.old t4.old t5.old fx.old }
-    ensures is { ◌≡◌ {A = Out} (record { answer = result.answer; state = result.state; tables = record { t1 = t1.exit.now; t2 = t2.new; t3 = t3.new; t4 = t4.new; t5 = t5.new; t6 = t6.new; t10 = t10.new; t15 = t15.new; t16 = t16.new; t17 = t17.new } }) (decl_step src.now s (record { t1 = t1.entry.now; t2 = t2.old; t3 = t3.old; t4 = t4.old; t5 = t5.old; t6 = t6.old; t10 = t10.old; t15 = t15.old; t16 = t16.old; t17 = t17.old })) }
+    ensures is { ◌≡◌ {A = Out} (record { answer = result.answer; state = result.state; tables = record { t1 = t1.new; t2 = t2.new; t3 = t3.new; t4 = t4.new; t5 = t5.new; t6 = t6.new; t10 = t10.new; t15 = t15.new; t16 = t16.new; t17 = t17.new } }) (decl_step src.now s (record { t1 = t1.old; t2 = t2.old; t3 = t3.old; t4 = t4.old; t5 = t5.old; t6 = t6.old; t10 = t10.old; t15 = t15.old; t16 = t16.old; t17 = t17.old })) }
     ensures moved { Moves src.now s.at result.answer result.state.at }
     ensures indexed { Tokens src.now result.state.counts t1.new i1.new × Givens src.now result.state.counts t2.new t3.new t4.new t5.new fx.new }
 {
@@ -109,7 +109,7 @@ pub fn declaration_run(
     fx: &mut [u16],
 ) -> Step
     requires { Here src.now s.at × Tokens src.now s.counts t1.old i1.old × Givens src.now s.counts t2.old t3.old t4.old t5.old fx.old }
-    ensures is { ◌≡◌ {A = Out} (record { answer = result.answer; state = result.state; tables = record { t1 = t1.exit.now; t2 = t2.new; t3 = t3.new; t4 = t4.new; t5 = t5.new; t6 = t6.new; t10 = t10.new; t15 = t15.new; t16 = t16.new; t17 = t17.new } }) (decl_run src.now s (record { t1 = t1.entry.now; t2 = t2.old; t3 = t3.old; t4 = t4.old; t5 = t5.old; t6 = t6.old; t10 = t10.old; t15 = t15.old; t16 = t16.old; t17 = t17.old })) }
+    ensures is { ◌≡◌ {A = Out} (record { answer = result.answer; state = result.state; tables = record { t1 = t1.new; t2 = t2.new; t3 = t3.new; t4 = t4.new; t5 = t5.new; t6 = t6.new; t10 = t10.new; t15 = t15.new; t16 = t16.new; t17 = t17.new } }) (decl_run src.now s (record { t1 = t1.old; t2 = t2.old; t3 = t3.old; t4 = t4.old; t5 = t5.old; t6 = t6.old; t10 = t10.old; t15 = t15.old; t16 = t16.old; t17 = t17.old })) }
     ensures moved { Passed src.now s.at result.state.at }
     ensures indexed { Tokens src.now result.state.counts t1.new i1.new × Givens src.now result.state.counts t2.new t3.new t4.new t5.new fx.new }
 {
@@ -157,18 +157,18 @@ pub fn declarations(
     fx: &mut [u16],
 ) -> Step
     requires { Here src.now s.at × Tokens src.now s.counts t1.old i1.old × Givens src.now s.counts t2.old t3.old t4.old t5.old fx.old }
-    ensures is { ◌≡◌ {A = Out} (record { answer = result.answer; state = result.state; tables = record { t1 = t1.exit.now; t2 = t2.new; t3 = t3.new; t4 = t4.new; t5 = t5.new; t6 = t6.new; t10 = t10.new; t15 = t15.new; t16 = t16.new; t17 = t17.new } }) (decl_all src.now s (record { t1 = t1.entry.now; t2 = t2.old; t3 = t3.old; t4 = t4.old; t5 = t5.old; t6 = t6.old; t10 = t10.old; t15 = t15.old; t16 = t16.old; t17 = t17.old })) }
+    ensures is { ◌≡◌ {A = Out} (record { answer = result.answer; state = result.state; tables = record { t1 = t1.new; t2 = t2.new; t3 = t3.new; t4 = t4.new; t5 = t5.new; t6 = t6.new; t10 = t10.new; t15 = t15.new; t16 = t16.new; t17 = t17.new } }) (decl_all src.now s (record { t1 = t1.old; t2 = t2.old; t3 = t3.old; t4 = t4.old; t5 = t5.old; t6 = t6.old; t10 = t10.old; t15 = t15.old; t16 = t16.old; t17 = t17.old })) }
     ensures moved { Passed src.now s.at result.state.at }
     ensures indexed { Tokens src.now result.state.counts t1.new i1.new × Givens src.now result.state.counts t2.new t3.new t4.new t5.new fx.new }
 {
     let at = s.at;
     match grammar::pass_gap(src, s.kind, at, true) {
-        Gap::GapTo(i, _) => {
+        Ok((i, _)) => {
             let mut n = s;
             n.at = i;
             declaration_run(src, n, t1, t2, t3, t4, t5, t6, t10, t15, t16, t17, i1, fx)
         }
-        Gap::GapRefused(f) => Step {
+        Err(f) => Step {
             answer: Answer::Refused(f),
             state: s,
         },

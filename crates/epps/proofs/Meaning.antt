@@ -1,4 +1,5 @@
 -- What `%epp` does, by the key and the text that stand there. Assumes nothing.
+use Rattle.std.specs.Prelude.{Option, Result, Ok, Err}
 use Prim.Native.Nat.{ℕ}
 use mathlib.Core.Path.{◌≡◌, refl, sym, ap, ◌∙◌}
 use mathlib.Core.List.{List}
@@ -7,21 +8,17 @@ use mathlib.Core.Logic.{◌⊎◌, inl, inr}
 use native.Mathlib.Omega.{arith}
 use lib.ListN.{length}
 use Rattle.scan.specs.declared.Place.{Place}
-use Rattle.words.specs.declared.Token.{Token}
-use Rattle.words.specs.declared.Token.TheVariants.{Found, NoToken}
-use Rattle.words.specs.declared.Quote.{Quote}
-use Rattle.words.specs.declared.Quote.TheVariants.{Closed, NotOpened, LineInside, BadEscape, NotClosed}
+use Rattle.words.specs.declared.QuoteError.{QuoteError}
+use Rattle.words.specs.declared.QuoteError.TheVariants.{NotOpened, LineInside, BadEscape, NotClosed}
 use Rattle.words.specs.Words.{token_at}
 use Rattle.words.specs.Strings.{string_at}
-use Rattle.tables.specs.declared.Found.{Found as Row}
 use Rattle.tables.specs.Layout.{epps, key_name, repeats, width}
 use Rattle.tables.specs.Table.{cell, room}
 use Rattle.tables.proofs.Cases.{find_cases}
 use Rattle.grammar.specs.declared.State.{State}
 use Rattle.grammar.specs.declared.Answer.{Answer}
 use Rattle.grammar.specs.declared.Answer.TheVariants.{Going}
-use Rattle.grammar.specs.declared.Gap.{Gap}
-use Rattle.grammar.specs.declared.Gap.TheVariants.{GapTo, GapRefused}
+use Rattle.grammar.specs.declared.Refusal.{Refusal}
 use Rattle.grammar.specs.declared.Repeat.TheVariants.{RepeatedEpp}
 use Rattle.grammar.specs.Cells.{epp_cells, repeat_cells}
 use Rattle.grammar.specs.State.{Out0, Out2, count, gap_at, list_repeat, once_found, once_step}
@@ -43,7 +40,7 @@ module _ (src : List ℕ) (s : State) (t5 t10 : List ℕ) (ten : length s.counts
     abbrev again : ℕ → List ℕ
     again r = repeat_cells 27 (cell (width epps) t5 r 0) (cell (width epps) t5 r 1) key.from key.to
 
-    abbrev met : Row → Out2
+    abbrev met : Option ℕ → Out2
     met y = once_found y s epps (width epps) RepeatedEpp row t5 t10
 
     abbrev once : Out2
@@ -52,7 +49,7 @@ module _ (src : List ℕ) (s : State) (t5 t10 : List ℕ) (ten : length s.counts
     once_entry : once.answer ≡ Going → Entry once
     unfolding once_step list_repeat
     once_entry =
-        find_cases (λ (y : Row). (met y).answer ≡ Going → Entry (met y))
+        find_cases (λ (y : Option ℕ). (met y).answer ≡ Going → Entry (met y))
         src (width epps) key_name (count s epps) t5 name.from name.to
         (λ r l e earlier g. inr (record {
           row = r;
@@ -71,7 +68,7 @@ module _ (src : List ℕ) (s : State) (t5 t10 : List ℕ) (ten : length s.counts
     once_goes : room (width epps) (count s epps) t5 ≡ true → room (width repeats) (count s repeats) t10 ≡ true → once.answer ≡ Going
     unfolding once_step list_repeat
     once_goes r q =
-        find_cases (λ (y : Row). (met y).answer ≡ Going) src (width epps) key_name (count s epps) t5 name.from name.to
+        find_cases (λ (y : Option ℕ). (met y).answer ≡ Going) src (width epps) key_name (count s epps) t5 name.from name.to
         (λ i l e earlier. push_goes s repeats (again i) t10 q)
         (λ none. push_goes s epps row t5 r)
 
@@ -105,30 +102,30 @@ module _ (src : List ℕ) (s : State) (t5 t10 : List ℕ) (ten : length s.counts
   unfolding epp_decl epp_value epp_text
   epp_given_lem = from (gap_at s.kind false src s.at) refl
     where
-      text : (i n j m v : ℕ) (p : Place) (b : Bool) → gap_at s.kind false src s.at ≡ GapTo i n → token_at src i ≡ Found p j b → gap_at s.kind false src j ≡ GapTo v m
-          → (w : Quote) → string_at src v ≡ w → Good (epp_string w src s i j p.from p.to v t5 t10)
-      text i n j m v p b f h k (Closed e) q =
+      text : (i n j m v : ℕ) (p : Place) (b : Bool) → gap_at s.kind false src s.at ≡ Ok (i, n) → token_at src i ≡ Ok (p, j, b) → gap_at s.kind false src j ≡ Ok (v, m)
+          → (w : Result ℕ QuoteError) → string_at src v ≡ w → Good (epp_string w src s i j p.from p.to v t5 t10)
+      text i n j m v p b f h k (Ok e) q =
           given (record { from = i; to = j }) p (record { from = v; to = e }) (record { quoted = b; lines = n; more = m; behind_keyword = f; spelled = h; behind_key = k; text = q })
-      text i n j m v p b f h k (NotOpened e) q = λ g. absurd (refused_going _ g)
-      text i n j m v p b f h k (LineInside e) q = λ g. absurd (refused_going _ g)
-      text i n j m v p b f h k (BadEscape e) q = λ g. absurd (refused_going _ g)
-      text i n j m v p b f h k (NotClosed e) q = λ g. absurd (refused_going _ g)
+      text i n j m v p b f h k (Err (NotOpened e)) q = λ g. absurd (refused_going _ g)
+      text i n j m v p b f h k (Err (LineInside e)) q = λ g. absurd (refused_going _ g)
+      text i n j m v p b f h k (Err (BadEscape e)) q = λ g. absurd (refused_going _ g)
+      text i n j m v p b f h k (Err (NotClosed e)) q = λ g. absurd (refused_going _ g)
 
-      value : (i n j : ℕ) (p : Place) (b : Bool) → gap_at s.kind false src s.at ≡ GapTo i n → token_at src i ≡ Found p j b
-          → (w : Gap) → gap_at s.kind false src j ≡ w → Good (epp_gap w src s i j p.from p.to t5 t10)
-      value i n j p b f h (GapTo v m) k = text i n j m v p b f h k (string_at src v) refl
-      value i n j p b f h (GapRefused e) k = λ g. absurd (refused_going _ g)
+      value : (i n j : ℕ) (p : Place) (b : Bool) → gap_at s.kind false src s.at ≡ Ok (i, n) → token_at src i ≡ Ok (p, j, b)
+          → (w : Result (ℕ × ℕ) Refusal) → gap_at s.kind false src j ≡ w → Good (epp_gap w src s i j p.from p.to t5 t10)
+      value i n j p b f h (Ok (v, m)) k = text i n j m v p b f h k (string_at src v) refl
+      value i n j p b f h (Err e) k = λ g. absurd (refused_going _ g)
 
-      key : (i n : ℕ) → gap_at s.kind false src s.at ≡ GapTo i n → (w : Token) → token_at src i ≡ w → Good (epp_key w i src s t5 t10)
-      key i n f (Found p j b) h = value i n j p b f h (gap_at s.kind false src j) refl
-      key i n f (NoToken k) h = λ g. absurd (refused_going _ g)
+      key : (i n : ℕ) → gap_at s.kind false src s.at ≡ Ok (i, n) → (w : Result (Place × ℕ × Bool) ℕ) → token_at src i ≡ w → Good (epp_key w i src s t5 t10)
+      key i n f (Ok (p, j, b)) h = value i n j p b f h (gap_at s.kind false src j) refl
+      key i n f (Err k) h = λ g. absurd (refused_going _ g)
 
-      from : (w : Gap) → gap_at s.kind false src s.at ≡ w → Good (epp_from w src s t5 t10)
-      from (GapTo i n) f = key i n f (token_at src i) refl
-      from (GapRefused e) f = λ g. absurd (refused_going _ g)
+      from : (w : Result (ℕ × ℕ) Refusal) → gap_at s.kind false src s.at ≡ w → Good (epp_from w src s t5 t10)
+      from (Ok (i, n)) f = key i n f (token_at src i) refl
+      from (Err e) f = λ g. absurd (refused_going _ g)
 
   -- And it goes on where a key, a string and spacing stand behind it and tables 5 and 10 have a whole free row.
-  pub epp_goes : (key name value : Place) (to lines : ℕ) → Keyed s.kind src s.at key name value → gap_at s.kind true src value.to ≡ GapTo to lines
+  pub epp_goes : (key name value : Place) (to lines : ℕ) → Keyed s.kind src s.at key name value → gap_at s.kind true src value.to ≡ Ok (to, lines)
       → room (width epps) (count s epps) t5 ≡ true → room (width repeats) (count s repeats) t10 ≡ true → ((epp_decl src s t5 t10).answer ≡ Going) × ((epp_decl src s t5 t10).state.at ≡ to)
   unfolding epp_decl epp_value epp_text epp_given
   epp_goes key name value to lines k g r q =

@@ -1,18 +1,17 @@
 -- `%epp` leaves the count of every table but 5 and 10. Assumes nothing.
+use Rattle.std.specs.Prelude.{Result, Ok, Err, Bool}
 use Prim.Native.Nat.{ℕ}
 use mathlib.Core.Path.{◌≡◌}
 use mathlib.Core.List.{List}
 use mathlib.Core.Bool.{false}
-use Rattle.words.specs.declared.Token.{Token}
-use Rattle.words.specs.declared.Token.TheVariants.{Found, NoToken}
-use Rattle.words.specs.declared.Quote.{Quote}
-use Rattle.words.specs.declared.Quote.TheVariants.{Closed, NotOpened, LineInside, BadEscape, NotClosed}
+use Rattle.scan.specs.declared.Place.{Place}
+use Rattle.words.specs.declared.QuoteError.{QuoteError}
+use Rattle.words.specs.declared.QuoteError.TheVariants.{NotOpened, LineInside, BadEscape, NotClosed}
 use Rattle.words.specs.Words.{token_at}
 use Rattle.words.specs.Strings.{string_at}
 use Rattle.tables.specs.Layout.{epps, repeats, key_name, width}
 use Rattle.grammar.specs.declared.State.{State}
-use Rattle.grammar.specs.declared.Gap.{Gap}
-use Rattle.grammar.specs.declared.Gap.TheVariants.{GapTo, GapRefused}
+use Rattle.grammar.specs.declared.Refusal.{Refusal}
 use Rattle.grammar.specs.declared.Repeat.TheVariants.{RepeatedEpp}
 use Rattle.grammar.specs.Cells.{epp_cells}
 use Rattle.grammar.specs.State.{gap_at, once_step}
@@ -31,29 +30,29 @@ module _ (k : ℕ) (other : epps ≡ k → ⊥) (tenth : repeats ≡ k → ⊥) 
   unfolding epp_text
   text i j from to v = go (string_at src v)
     where
-      go : (q : Quote) → Spares k s.counts (epp_string q src s i j from to v t5 t10).state.counts
-      go (Closed e) = given i j from to v e
-      go (NotOpened e) = spares_none k s.counts
-      go (LineInside e) = spares_none k s.counts
-      go (BadEscape e) = spares_none k s.counts
-      go (NotClosed e) = spares_none k s.counts
+      go : (q : Result ℕ QuoteError) → Spares k s.counts (epp_string q src s i j from to v t5 t10).state.counts
+      go (Ok e) = given i j from to v e
+      go (Err (NotOpened e)) = spares_none k s.counts
+      go (Err (LineInside e)) = spares_none k s.counts
+      go (Err (BadEscape e)) = spares_none k s.counts
+      go (Err (NotClosed e)) = spares_none k s.counts
 
   value : (i j from to : ℕ) → Spares k s.counts (epp_value src s i j from to t5 t10).state.counts
   unfolding epp_value
   value i j from to = go (gap_at s.kind false src j)
     where
-      go : (g : Gap) → Spares k s.counts (epp_gap g src s i j from to t5 t10).state.counts
-      go (GapTo v n) = text i j from to v
-      go (GapRefused f) = spares_none k s.counts
+      go : (g : Result (ℕ × ℕ) Refusal) → Spares k s.counts (epp_gap g src s i j from to t5 t10).state.counts
+      go (Ok (v, n)) = text i j from to v
+      go (Err f) = spares_none k s.counts
 
   pub epp_spares : Spares k s.counts (epp_decl src s t5 t10).state.counts
   unfolding epp_decl
   epp_spares = go (gap_at s.kind false src s.at)
     where
-      key : (i : ℕ) (x : Token) → Spares k s.counts (epp_key x i src s t5 t10).state.counts
-      key i (Found p end q) = value i end p.from p.to
-      key i (NoToken e) = spares_none k s.counts
+      key : (i : ℕ) (x : Result (Place × ℕ × Bool) ℕ) → Spares k s.counts (epp_key x i src s t5 t10).state.counts
+      key i (Ok (p, end, q)) = value i end p.from p.to
+      key i (Err e) = spares_none k s.counts
 
-      go : (g : Gap) → Spares k s.counts (epp_from g src s t5 t10).state.counts
-      go (GapTo i n) = key i (token_at src i)
-      go (GapRefused f) = spares_none k s.counts
+      go : (g : Result (ℕ × ℕ) Refusal) → Spares k s.counts (epp_from g src s t5 t10).state.counts
+      go (Ok (i, n)) = key i (token_at src i)
+      go (Err f) = spares_none k s.counts

@@ -1,15 +1,12 @@
 -- Document 01: what `%epp` gives, by the key and the text that stand there and not by the steps.
-use Rattle.std.specs.Prelude.{ℕ, ◌<◌, ◌≡◌, List, [], ◌∷◌, ◌++◌, Bool, true, false, ◌⊎◌}
+use Rattle.std.specs.Prelude.{ℕ, ◌<◌, ◌≡◌, List, [], ◌∷◌, ◌++◌, Bool, true, false, ◌⊎◌, Ok}
 use Rattle.scan.specs.declared.Place.{Place}
-use Rattle.words.specs.declared.Token.TheVariants.{Found}
-use Rattle.words.specs.declared.Quote.TheVariants.{Closed}
 use Rattle.words.specs.Words.{token_at}
 use Rattle.words.specs.Strings.{string_at}
 use Rattle.tables.specs.Layout.{epps, key_name, repeats, width}
 use Rattle.tables.specs.Table.{cell, has_name, First}
 use Rattle.tables.specs.Rows.{rows_of}
 use Rattle.grammar.specs.declared.State.{State}
-use Rattle.grammar.specs.declared.Gap.TheVariants.{GapTo}
 use Rattle.grammar.specs.Cells.{epp_cells, repeat_cells}
 use Rattle.grammar.specs.State.{Out2, count, gap_at}
 
@@ -19,10 +16,10 @@ pub record Keyed (kind : ℕ) (src : List ℕ) (at : ℕ) (key name value : Plac
   pub quoted : Bool
   pub lines : ℕ
   pub more : ℕ
-  pub behind_keyword : gap_at kind false src at ≡ GapTo key.from lines
-  pub spelled : token_at src key.from ≡ Found name key.to quoted
-  pub behind_key : gap_at kind false src key.to ≡ GapTo value.from more
-  pub text : string_at src value.from ≡ Closed value.to
+  pub behind_keyword : gap_at kind false src at ≡ Ok (key.from, lines)
+  pub spelled : token_at src key.from ≡ Ok (name, key.to, quoted)
+  pub behind_key : gap_at kind false src key.to ≡ Ok (value.from, more)
+  pub text : string_at src value.from ≡ Ok value.to
 
 -- "5 `%epp` (key place as spelled, key name, value with its quotes)": no row has the name; table 5 has this row more, and no other row or count changes
 pub record New (src : List ℕ) (s : State) (t5 t10 : List ℕ) (key name value : Place) (o : Out2) : Type 0 where
@@ -48,4 +45,4 @@ pub record Given (src : List ℕ) (s : State) (t5 t10 : List ℕ) (o : Out2) : T
   pub lines : ℕ
   pub stand : Keyed s.kind src s.at key name value
   pub entry : New src s t5 t10 key name value o ⊎ Again src s t5 t10 key name o
-  pub behind : gap_at s.kind true src value.to ≡ GapTo o.state.at lines
+  pub behind : gap_at s.kind true src value.to ≡ Ok (o.state.at, lines)

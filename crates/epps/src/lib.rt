@@ -6,8 +6,8 @@ ghost use Rattle.tables.specs.Layout.{epps, width};
 ghost use Rattle.grammar.specs.State.{Out2, Here, Passed, Onward, Tracked, Follows};
 ghost use Rattle.epps.specs.Epps.{epp_given, epp_text, epp_value, epp_decl};
 
-use grammar::{Answer, Cause, Gap, Refusal, Repeat, State, Step};
-use words::{Quote, Token};
+use grammar::{Answer, Cause, Refusal, Repeat, State, Step};
+use words::QuoteError;
 
 // The row of a key that is spelled from `i` to `j` and named from `from` to `to`, whose text is from `v` to `e`; and the spacing behind it.
 pub fn epp_given(
@@ -63,20 +63,20 @@ pub fn epp_text(
     ensures indexed { Follows src.now epps (width epps) 2 result.state.counts t5.new fx.old fx.new }
 {
     match words::parse_string(src, v) {
-        Quote::Closed(e) => epp_given(src, s, i, j, from, to, v as u32, e, t5, t10, fx),
-        Quote::NotOpened(k) => Step {
+        Ok(e) => epp_given(src, s, i, j, from, to, v as u32, e, t5, t10, fx),
+        Err(QuoteError::NotOpened(k)) => Step {
             answer: Answer::Refused(Refusal::Fault(Cause::StringNotOpened, k as u32)),
             state: s,
         },
-        Quote::LineInside(k) => Step {
+        Err(QuoteError::LineInside(k)) => Step {
             answer: Answer::Refused(Refusal::Fault(Cause::StringLineEnd, k as u32)),
             state: s,
         },
-        Quote::BadEscape(k) => Step {
+        Err(QuoteError::BadEscape(k)) => Step {
             answer: Answer::Refused(Refusal::Fault(Cause::StringEscape, k as u32)),
             state: s,
         },
-        Quote::NotClosed(k) => Step {
+        Err(QuoteError::NotClosed(k)) => Step {
             answer: Answer::Refused(Refusal::Fault(Cause::StringNotClosed, k as u32)),
             state: s,
         },
@@ -101,8 +101,8 @@ pub fn epp_value(
     ensures indexed { Follows src.now epps (width epps) 2 result.state.counts t5.new fx.old fx.new }
 {
     match grammar::pass_gap(src, s.kind, j, false) {
-        Gap::GapTo(v, _) => epp_text(src, s, i, j as u32, from, to, v, t5, t10, fx),
-        Gap::GapRefused(f) => Step {
+        Ok((v, _)) => epp_text(src, s, i, j as u32, from, to, v, t5, t10, fx),
+        Err(f) => Step {
             answer: Answer::Refused(f),
             state: s,
         },
@@ -117,8 +117,8 @@ pub fn epp_decl(src: &[u8], s: State, t5: &mut [u32], t10: &mut [u32], fx: &mut 
 {
     let at = s.at;
     match grammar::pass_gap(src, s.kind, at, false) {
-        Gap::GapTo(i, _) => match words::parse_token(src, i) {
-            Token::Found(p, end, _) => {
+        Ok((i, _)) => match words::parse_token(src, i) {
+            Ok((p, end, _)) => {
                 epp_value(
                     src,
                     s,
@@ -131,12 +131,12 @@ pub fn epp_decl(src: &[u8], s: State, t5: &mut [u32], t10: &mut [u32], fx: &mut 
                     fx,
                 )
             }
-            Token::NoToken(k) => Step {
+            Err(k) => Step {
                 answer: Answer::Refused(Refusal::Fault(Cause::IllegalString, k as u32)),
                 state: s,
             },
         },
-        Gap::GapRefused(f) => Step {
+        Err(f) => Step {
             answer: Answer::Refused(f),
             state: s,
         },

@@ -1,16 +1,16 @@
 -- What the functions' proofs cite: a name's bytes one by one, a seat among the slots, slots met one by one, rows added. Assumes nothing.
+use Rattle.std.specs.Prelude.{Option, Some, None}
 use Prim.Native.Nat.{ℕ, zero, suc, ◌+◌, ◌*◌, ◌/◌, ◌%◌, ◌-◌, ◌≤◌, ◌<◌}
 use mathlib.Core.Path.{◌≡◌, refl, sym, ap, ◌∙◌}
 use mathlib.Core.List.{List, [], ◌∷◌}
 use mathlib.Core.Bool.{Bool, true, false, not, ◌&&◌, false≢true}
 use mathlib.Core.Logic.{inl, inr, ⊎_elim}
 use native.Mathlib.Omega.{arith}
-use native.Mathlib.Numerals.{add-one}
 use native.Mathlib.Decide.{ℕ_discrete}
 use native.Mathlib.Nat.{mod-lt, div-lt_iff_lt-mul, mul-lt-mul_of_pos_right, mul-zero, mul_comm, zero-lt-suc, min-eq_left, min-eq_right}
 use borrow.Author.Tests.{lt-ltb, le-ltb, ltb-true, not-true, not-false}
 use lib.ListN.{length, get_or, set, length-set}
-use lib.Seq.{slice, slice-cons, slice_empty, get_or-set_other, get_or-set_same}
+use lib.Seq.{slice, get_or-set_other, get_or-set_same}
 use lib.Dec.{ltb}
 use Rattle.scan.proofs.Bytes.{le_or_lt, within_yes, within_true}
 use Rattle.tables.specs.Table.{cell, set_cell, put, Added, add_row, lies, same_part, has_name, find_name}
@@ -18,10 +18,8 @@ use Rattle.tables.proofs.Cases.{add_cases, same_part_iff, same_part_sym, same_pa
 use Rattle.tables.proofs.Laws.{product_fits as product, has_name_lem}
 use Rattle.tables.specs.Rows.{row_at}
 use Rattle.tables.proofs.Rows.{row_cell, row_set, row_else, cell_new, cell_old}
-use Rattle.tables.specs.declared.Found.{Found}
-use Rattle.tables.specs.declared.Found.TheVariants.{RowAt, NoRow}
 use Rattle.index.specs.Index.{next_slot}
-use Rattle.finder.specs.Finder.{stirred, stir_from, number_of, seat_of, mark_of, Leads, out, here, on, LeadsTo, LedOf, Led, Apart, Held, Met, Tells, Grown}
+use Rattle.finder.specs.Finder.{stir_from, number_of, seat_of, mark_of, Leads, out, here, on, LeadsTo, LedOf, Led, Apart, Held, Met, Tells, Grown}
 use Rattle.finder.specs.declared.Sought.{Sought}
 use Rattle.finder.specs.declared.Sought.TheVariants.{Seated, Unseated}
 
@@ -37,15 +35,6 @@ module _ (src : List ℕ) (a b : ℕ) (p : Bool) (e : p ≡ lies src a b) where
       let x : lies src a b ≡ true = sym e ∙ not-false p h in
       let u = within_true a (length src) b x in
       (u.0, u.1, rw (x, number_of))
-
-module _ (src : List ℕ) (b i h o : ℕ) (inv : stir_from h (slice i b src) ≡ o) where
-  pub number_on : (g : ℕ) → i < b → b ≤ length src → g ≡ stirred h (get_or src i 0) → stir_from g (slice (i + 1) b src) ≡ o
-  unfolding stir_from
-  number_on g l m e = rw (e, add-one i) (rw (slice-cons i b src 0 l m) at inv)
-
-  pub number_end : i ≡ b → h ≡ o
-  unfolding stir_from
-  number_end e = rw (e, slice_empty b src) at inv
 
 -- the same bytes have the same number
 pub number_same : (src : List ℕ) (a b c d : ℕ) → same_part src a b c d ≡ true → number_of src a b ≡ number_of src c d
@@ -108,33 +97,33 @@ module _ (src : List ℕ) (w k n : ℕ) (t ix : List ℕ) (a b : ℕ) where
       rw (f, ← g) (L q l y)
 
   module _ (f p : ℕ) (some : 0 < f) (L : Left src w k n t ix a b f p) where
-    pub left_free : get_or ix p 0 ≡ 0 → (asked : ℕ → Bool) → LedOf asked src w k n t ix → Met asked src w k n t a b NoRow
+    pub left_free : get_or ix p 0 ≡ 0 → (asked : ℕ → Bool) → LedOf asked src w k n t ix → Met asked src w k n t a b None
     left_free e asked M q l y = go (has_name src w k t a b q) refl
       where
         go : (c : Bool) → has_name src w k t a b q ≡ c → c ≡ false
         go true h = absurd (leads_free ix (mark_of q) f p some (L asked M q l y h) e (mark_some q))
         go false h = refl
 
-    pub left_on : (get_or ix p 0 ≡ 65535 → ⊥) → (has : Bool) → has ≡ (ltb (get_or ix p 0 - 1) n && has_name src w k t a b (get_or ix p 0 - 1)) → has ≡ false → (r : ℕ) → r ≡ next_slot (length ix) p → Left src w k n t ix a b (f - 1) r
-    left_on d has e none r g asked M q l y h =
-        rw g (leads_on ix (mark_of q) f p some (L asked M q l y h) (λ x. let z : get_or ix p 0 - 1 ≡ q = mark_row q _ x d in false≢true (sym none ∙ e ∙ rw (z, lt-ltb q n l) h)))
+    pub left_on : (get_or ix p 0 ≡ 65535 → ⊥) → (has : Bool) → has ≡ (ltb (get_or ix p 0 - 1) n && has_name src w k t a b (get_or ix p 0 - 1)) → has ≡ false → (r : ℕ) → r ≡ next_slot (length ix) p → (m : ℕ) → m ≡ f - 1 → Left src w k n t ix a b m r
+    left_on d has e none r g m i asked M q l y h =
+        rw (i, g) (leads_on ix (mark_of q) f p some (L asked M q l y h) (λ x. let z : get_or ix p 0 - 1 ≡ q = mark_row q _ x d in false≢true (sym none ∙ e ∙ rw (z, lt-ltb q n l) h)))
 
 module _ (asked : ℕ → Bool) (src : List ℕ) (w k n : ℕ) (t : List ℕ) (a b : ℕ) where
-  pub met_row : (r : ℕ) (has : Bool) → has ≡ (ltb r n && has_name src w k t a b r) → has ≡ true → Met asked src w k n t a b (RowAt r)
+  pub met_row : (r : ℕ) (has : Bool) → has ≡ (ltb r n && has_name src w k t a b r) → has ≡ true → Met asked src w k n t a b (Some r)
   met_row r has e h = go (ltb r n) refl (sym h ∙ e)
     where
       go : (c : Bool) → ltb r n ≡ c → true ≡ (c && has_name src w k t a b r) → (r < n) × (has_name src w k t a b r ≡ true)
       go true x y = (ltb-true r n x, sym y)
       go false x y = absurd (false≢true (sym y))
 
-  pub met_search : (f : Found) → f ≡ find_name src w k n t a b → Met asked src w k n t a b f
+  pub met_search : (f : Option ℕ) → f ≡ find_name src w k n t a b → Met asked src w k n t a b f
   met_search f e = rw e (find_cases (Met asked src w k n t a b) src w k n t a b (λ r l h none. (l, h)) (λ none q l y. none q l))
 
 module _ (src : List ℕ) (w k n : ℕ) (t : List ℕ) (a b : ℕ) where
   -- what is met is what is found, where names are pairwise different and all rows are asked for
-  pub met_first : Apart src w k n t → (f : Found) → Met (λ (q : ℕ). true) src w k n t a b f → f ≡ find_name src w k n t a b
+  pub met_first : Apart src w k n t → (f : Option ℕ) → Met (λ (q : ℕ). true) src w k n t a b f → f ≡ find_name src w k n t a b
   unfolding has_name
-  met_first A (RowAt r) m =
+  met_first A (Some r) m =
       sym
       ((find_iff src w k n t a b r).1
       (record {
@@ -149,7 +138,7 @@ module _ (src : List ℕ) (w k n : ℕ) (t : List ℕ) (a b : ℕ) where
           let v : same_part src a b (cell w t r k) (cell w t r (k + 1)) ≡ true = same_part_sym src a b (cell w t r k) (cell w t r (k + 1)) ∙ u in
           absurd (false≢true (sym (A q r l m.0) ∙ same_part_trans src _ _ a b _ _ h v))
       go q l false h = refl
-  met_first A NoRow m = sym ((none_iff src w k n t a b).1 (λ q l. m q l refl))
+  met_first A None m = sym ((none_iff src w k n t a b).1 (λ q l. m q l refl))
 
 -- slots that were filled
 pub grown_none : (ix : List ℕ) → Grown ix ix
@@ -187,8 +176,8 @@ module _ (ix : List ℕ) (v x : ℕ) where
     one : f ≡ suc (f - 1)
     one = omega arith
 
-    pub behind_on : (get_or ix p 0 ≡ 0 → ⊥) → (q : ℕ) → q ≡ next_slot (length ix) p → Behind ix v x (f - 1) q
-    behind_on d q e jx G l = B jx G (rw one (on {f = f - 1} (λ z. ⊎_elim d (λ y. d (sym y ∙ z)) (G.kept p)) (rw (G.size, ← e) l)))
+    pub behind_on : (get_or ix p 0 ≡ 0 → ⊥) → (q : ℕ) → q ≡ next_slot (length ix) p → (m : ℕ) → m ≡ f - 1 → Behind ix v x m q
+    behind_on d q e m i jx G l = B jx G (rw one (on {f = f - 1} (λ z. ⊎_elim d (λ y. d (sym y ∙ z)) (G.kept p)) (rw (G.size, ← e, ← i) l)))
 
     pub behind_set : p < length ix → get_or ix p 0 ≡ 0 → Leads (set ix p v) v (length (set ix p v)) (seat_of (length (set ix p v)) x)
     behind_set l e = B (set ix p v) (grown_set ix p v e) (rw one (here (get_or-set_same ix p v 0 l)))
@@ -229,7 +218,7 @@ module _ (src : List ℕ) (w k n : ℕ) (t ix : List ℕ) (H : Held src w k n t 
   held_set r c v b l d e = held_same (set t (r * w + c) v) (λ q h. (set_apart w r c v t q k b (omega arith) d, set_apart w r c v t q (k + 1) b l e))
 
   -- a row of a name that is new is added and entered
-  pub held_add : (row : List ℕ) → length row ≡ w → n * w + w ≤ length t → k + 1 < w → find_name src w k n t (get_or row k 0) (get_or row (k + 1) 0) ≡ NoRow → (jx : List ℕ) → Grown ix jx → LeadsTo src w k (put t (n * w) row) jx n → Held src w k (n + 1) (put t (n * w) row) jx
+  pub held_add : (row : List ℕ) → length row ≡ w → n * w + w ≤ length t → k + 1 < w → find_name src w k n t (get_or row k 0) (get_or row (k + 1) 0) ≡ None → (jx : List ℕ) → Grown ix jx → LeadsTo src w k (put t (n * w) row) jx n → Held src w k (n + 1) (put t (n * w) row) jx
   unfolding has_name
   held_add row wide fits l none jx G L =
       record {
@@ -270,7 +259,7 @@ led_number src w k t r a b x e f g = rw (← e, ← f) g
 
 -- a row of any table: new and entered, or without room
 module _ (src : List ℕ) (w k n : ℕ) (t ix : List ℕ) (H : Held src w k n t ix) (row : List ℕ) (wide : length row ≡ w) (q : Bool) (cells : List ℕ) (o : record { ok = q; cells = cells } ≡ add_row n row t) where
-  pub held_new : k + 1 < w → find_name src w k n t (get_or row k 0) (get_or row (k + 1) 0) ≡ NoRow → q ≡ true → (jx : List ℕ) → Grown ix jx → LeadsTo src w k cells jx n → Held src w k (n + 1) cells jx
+  pub held_new : k + 1 < w → find_name src w k n t (get_or row k 0) (get_or row (k + 1) 0) ≡ None → q ≡ true → (jx : List ℕ) → Grown ix jx → LeadsTo src w k cells jx n → Held src w k (n + 1) cells jx
   held_new l none h jx G L =
       add_cases (λ (x : Added). record { ok = q; cells = cells } ≡ x → Held src w k (n + 1) cells jx) n row t
       (λ fits m x. let y : cells ≡ put t (n * w) row = ap (λ (v : Added). v.cells) x ∙ rw wide in rw y (held_add src w k n t ix H row wide (rw wide at fits) l none jx G (rw y at L)))
@@ -288,7 +277,7 @@ module _ (src : List ℕ) (n : ℕ) (t ix : List ℕ) (H : Held src 3 0 n t ix) 
   token_marked r cells e = rw e (held_set src 3 0 n t ix H r 2 1 (omega arith) (omega arith) (λ x. omega arith) (λ x. omega arith))
 
   module _ (a b d : ℕ) (q : Bool) (cells : List ℕ) (o : record { ok = q; cells = cells } ≡ add_row n (a ∷ b ∷ d ∷ []) t) where
-    pub token_new : find_name src 3 0 n t a b ≡ NoRow → q ≡ true → (jx : List ℕ) → Grown ix jx → LeadsTo src 3 0 cells jx n → Held src 3 0 (n + 1) cells jx
+    pub token_new : find_name src 3 0 n t a b ≡ None → q ≡ true → (jx : List ℕ) → Grown ix jx → LeadsTo src 3 0 cells jx n → Held src 3 0 (n + 1) cells jx
     token_new = held_new src 3 0 n t ix H (a ∷ b ∷ d ∷ []) refl q cells o (omega arith)
 
     pub token_full : q ≡ false → Held src 3 0 n cells ix
@@ -306,10 +295,10 @@ module _ (asked : ℕ → Bool) (src : List ℕ) (w k n : ℕ) (t ix : List ℕ)
       (m.0, m.1, rw u (B (mark_of r) ix (grown_none ix) (rw o (here v))))
 
 -- what the slots tell is met
-pub tells_met : (asked : ℕ → Bool) (src : List ℕ) (w k n : ℕ) (t ix : List ℕ) (a b : ℕ) (s : Sought) → Tells asked src w k n t ix a b s → (r : ℕ) → s ≡ Seated r → Met asked src w k n t a b (RowAt r)
+pub tells_met : (asked : ℕ → Bool) (src : List ℕ) (w k n : ℕ) (t ix : List ℕ) (a b : ℕ) (s : Sought) → Tells asked src w k n t ix a b s → (r : ℕ) → s ≡ Seated r → Met asked src w k n t a b (Some r)
 tells_met asked src w k n t ix a b s x r e = let y = rw e at x in (y.0, y.1)
 
-pub tells_none : (asked : ℕ → Bool) (src : List ℕ) (w k n : ℕ) (t ix : List ℕ) (a b : ℕ) (s : Sought) → Tells asked src w k n t ix a b s → s ≡ Unseated → Met asked src w k n t a b NoRow
+pub tells_none : (asked : ℕ → Bool) (src : List ℕ) (w k n : ℕ) (t ix : List ℕ) (a b : ℕ) (s : Sought) → Tells asked src w k n t ix a b s → s ≡ Unseated → Met asked src w k n t a b None
 tells_none asked src w k n t ix a b s x e = rw e at x
 
 -- rows entered one by one

@@ -1,9 +1,7 @@
 -- A finder: a working index beside a table, for the time of one call. No document speaks of it and no answer depends on how it spreads the names: what is found is what the search finds.
-use Rattle.std.specs.Prelude.{ℕ, zero, suc, ◌+◌, ◌*◌, ◌/◌, ◌%◌, ◌<◌, min, ◌≡◌, List, [], ◌∷◌, Bool, true, false, ◌⊎◌, length, get_or}
+use Rattle.std.specs.Prelude.{ℕ, zero, suc, ◌+◌, ◌*◌, ◌/◌, ◌%◌, ◌<◌, min, ◌≡◌, List, [], ◌∷◌, Bool, true, false, ◌⊎◌, length, get_or, Option, Some, None}
 use Rattle.std.proofs.Math.Seq.{slice}
 use Rattle.tables.specs.Table.{cell, lies, has_name}
-use Rattle.tables.specs.declared.Found.{Found}
-use Rattle.tables.specs.declared.Found.TheVariants.{RowAt, NoRow}
 use Rattle.index.specs.Index.{next_slot}
 use Rattle.finder.specs.declared.Sought.{Sought}
 use Rattle.finder.specs.declared.Sought.TheVariants.{Seated, Unseated, Untold}
@@ -58,9 +56,9 @@ pub record Held (src : List ℕ) (w k n : ℕ) (t ix : List ℕ) : Type 0 where
   pub apart : Apart src w k n t
 
 -- a row that has the name, or none of the n rows has it that are asked for
-abbrev pub Met : (ℕ → Bool) → List ℕ → ℕ → ℕ → ℕ → List ℕ → ℕ → ℕ → Found → Type 0
-Met asked src w k n t a b (RowAt r) = (r < n) × (has_name src w k t a b r ≡ true)
-Met asked src w k n t a b NoRow = (q : ℕ) → q < n → asked q ≡ true → has_name src w k t a b q ≡ false
+abbrev pub Met : (ℕ → Bool) → List ℕ → ℕ → ℕ → ℕ → List ℕ → ℕ → ℕ → Option ℕ → Type 0
+Met asked src w k n t a b (Some r) = (r < n) × (has_name src w k t a b r ≡ true)
+Met asked src w k n t a b None = (q : ℕ) → q < n → asked q ≡ true → has_name src w k t a b q ≡ false
 
 -- what the slots tell of a name: a row that has it and to which they lead, or that they lead to no such row of those that are asked for
 abbrev pub Tells : (ℕ → Bool) → List ℕ → ℕ → ℕ → ℕ → List ℕ → List ℕ → ℕ → ℕ → Sought → Type 0

@@ -8,8 +8,6 @@ ghost use Rattle.tables.specs.Table.{has_name, find_name, Inserted, enter_token}
 ghost use Rattle.index.specs.Index.{rows_now};
 ghost use Rattle.finder.specs.Finder.{stirred, number_of, seat_of, mark_of, LeadsTo, LedOf, Led, Held, Met, Tells, Grown};
 
-use tables::{Entered, Found};
-
 // What the slots tell of a name.
 #[derive(Clone, Copy)]
 pub enum Sought {
@@ -40,17 +38,12 @@ fn stir(h: u32, b: u8) -> u32
 pub fn number_of(src: &[u8], a: u32, b: u32) -> u32
     ensures { result ≡ number_of src.now a b }
 {
-    let mut h = 2166136261;
     if !tables::is_place(src, a, b) {
-        return h;
+        return 2166136261;
     }
-    let end = b as usize;
-    let mut i = a as usize;
-    while i < end {
-        h = stir(h, src[i]);
-        i += 1;
-    }
-    h
+    src[a as usize..b as usize]
+        .iter()
+        .fold(2166136261, |h, x| stir(h, *x))
 }
 
 // The seat of a number among `m` slots.
@@ -101,8 +94,7 @@ pub fn seek(src: &[u8], t: &[u32], w: u32, k: u8, n: u32, ix: &[u16], a: u32, b:
     }
     let x = number_of(src, a, b);
     let mut p = seat(m, x);
-    let mut left = m;
-    while 0 < left {
+    for _ in 0..m {
         let v = ix[p];
         if v == 0 {
             return Sought::Unseated;
@@ -115,24 +107,23 @@ pub fn seek(src: &[u8], t: &[u32], w: u32, k: u8, n: u32, ix: &[u16], a: u32, b:
             return Sought::Seated(r);
         }
         p = index::next_slot(m, p);
-        left -= 1;
     }
     Sought::Untold
 }
 
 // A row that has the name; by the search where the slots do not tell.
-pub fn meet(src: &[u8], t: &[u32], w: u32, k: u8, n: u32, ix: &[u16], a: u32, b: u32) -> Found
+pub fn meet(src: &[u8], t: &[u32], w: u32, k: u8, n: u32, ix: &[u16], a: u32, b: u32) -> Option<u32>
     ensures { (asked : ℕ → Bool) → LedOf asked src.now w k n t.now ix.now → Met asked src.now w k n t.now a b result }
 {
     match seek(src, t, w, k, n, ix, a, b) {
-        Sought::Seated(r) => Found::RowAt(r),
-        Sought::Unseated => Found::NoRow,
+        Sought::Seated(r) => Some(r),
+        Sought::Unseated => None,
         Sought::Untold => tables::find(src, t, w, k, n, a, b),
     }
 }
 
 // The row that has the name, where names are pairwise different.
-pub fn find(src: &[u8], t: &[u32], w: u32, k: u8, n: u32, ix: &[u16], a: u32, b: u32) -> Found
+pub fn find(src: &[u8], t: &[u32], w: u32, k: u8, n: u32, ix: &[u16], a: u32, b: u32) -> Option<u32>
     requires { Held src.now w k n t.now ix.now }
     ensures { result ≡ find_name src.now w k n t.now a b }
 {
@@ -154,14 +145,12 @@ pub fn enter(src: &[u8], t: &[u32], w: u32, k: u8, r: u32, ix: &mut [u16])
     let b = tables::cell(t, w, r, first + 1);
     let x = number_of(src, a, b);
     let mut p = seat(m, x);
-    let mut left = m;
-    while 0 < left {
+    for _ in 0..m {
         if ix[p] == 0 {
             ix[p] = v;
             return;
         }
         p = index::next_slot(m, p);
-        left -= 1;
     }
 }
 
@@ -170,14 +159,12 @@ pub fn enter_rows(src: &[u8], t: &[u32], w: u32, k: u8, n: u32, ix: &mut [u16])
     ensures grown { Grown ix.old ix.new }
     ensures led { Led src.now w k n t.now ix.new }
 {
-    let mut r = 0;
-    while r < n {
+    for r in 0..n {
         enter(src, t, w, k, r, ix);
-        r += 1;
     }
 }
 
-// The token is in table 1, and marked as declared if it is; a new row is entered.
+// The token is in table 1, and marked as declared if it is; a new row is entered. How many rows there are now; none where it found no room.
 pub fn enter_token(
     src: &[u8],
     t: &mut [u32],
@@ -186,26 +173,26 @@ pub fn enter_token(
     from: u32,
     to: u32,
     declared: bool,
-) -> Entered
+) -> Option<u32>
     requires { Held src.now (width tokens) 0 n t.old ix.old }
     ensures is { ◌≡◌ {A = Inserted} (record { entered = result; cells = t.new }) (enter_token src.now n from to declared t.old) }
     ensures held { Held src.now (width tokens) 0 (rows_now n result) t.new ix.new × Grown ix.old ix.new }
 {
     match find(src, t, tables::TOKEN_WIDTH, tables::NAME, n, ix, from, to) {
-        Found::RowAt(r) => {
+        Some(r) => {
             if declared {
                 tables::set_cell(t, tables::TOKEN_WIDTH, r, tables::DECLARED, 1);
             }
-            Entered::Rows(n)
+            Some(n)
         }
-        Found::NoRow => {
+        None => {
             let mark = if declared { 1 } else { 0 };
             let row = [from, to, mark];
             if tables::add_row(t, n, &row) {
                 enter(src, t, tables::TOKEN_WIDTH, tables::NAME, n, ix);
-                Entered::Rows(n + 1)
+                Some(n + 1)
             } else {
-                Entered::Full
+                None
             }
         }
     }

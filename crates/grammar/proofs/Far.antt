@@ -1,4 +1,5 @@
 -- Soundness so far under Each change that a step makes, one law for Each; and at the end of a reading it is soundness. Assumes nothing.
+use Rattle.std.specs.Prelude.{Option}
 use Prim.Native.Nat.{ℕ, zero, suc, ◌+◌, ◌*◌, ◌≤◌, ◌<◌}
 use mathlib.Core.Path.{◌≡◌, refl, sym, ap, ◌∙◌}
 use mathlib.Core.List.{List, []}
@@ -11,7 +12,6 @@ use Rattle.tables.specs.Table.{put}
 use Rattle.tables.specs.Rows.{row_at, end_before, Chained}
 use Rattle.tables.specs.Layout.{productions, symbols, rules, symbols_from, symbols_to, posix_from, width}
 use Rattle.tables.proofs.Rows.{rows_zeroed, rows_add, rows_map, rows_as, chain_add}
-use Rattle.grammar.specs.declared.Part.{Part}
 use Rattle.grammar.specs.declared.Singles.{Singles}
 use Rattle.grammar.specs.declared.State.{State}
 use Rattle.grammar.specs.State.{count, with_at, with_level, with_count, with_singles, with_actiontype, fresh}
@@ -87,7 +87,7 @@ module _ {src : List ℕ} {done : ℕ} {s : State} {T : AllTables} (f : Far src 
   pub far_singles : (g : Singles) → Lie src g → Far src done (with_singles s g) T
   far_singles g h = record { here = f.here; short = f.short; ten = f.ten; three = f.three; risen = f.risen; tables = f.tables; ranges = f.ranges; since = f.since; singles = h; actiontype = f.actiontype }
 
-  pub far_actiontype : (p : Part) → Lies src p → Far src done (with_actiontype s p) T
+  pub far_actiontype : (p : Option (ℕ × ℕ)) → Lies src p → Far src done (with_actiontype s p) T
   far_actiontype p h = record { here = f.here; short = f.short; ten = f.ten; three = f.three; risen = f.risen; tables = f.tables; ranges = f.ranges; since = f.since; singles = f.singles; actiontype = h }
 
   -- the cells of a table that is not table 8 are replaced by others that are as good,

@@ -1,4 +1,5 @@
 -- The steps that add a row keep soundness so far, whatever their answer: a row more, a repeat listed, a token entered. Assumes nothing.
+use Rattle.std.specs.Prelude.{Option, Result, Ok, Err}
 use Prim.Native.Nat.{ℕ, ◌+◌, ◌≤◌, ◌<◌}
 use mathlib.Core.Path.{◌≡◌, refl, sym, ap, subst, ◌∙◌}
 use mathlib.Core.List.{List, [], ◌∷◌}
@@ -9,9 +10,8 @@ use Rattle.tables.specs.Table.{Added, Inserted, marked, flag, has_name, cell}
 use Rattle.tables.specs.Rows.{row_at}
 use Rattle.tables.specs.Layout.{tokens, productions, repeats, declared, row_place, width}
 use Rattle.tables.proofs.Cases.{add_cases, find_cases, enter_cases}
-use Rattle.tables.specs.declared.Found.{Found}
-use Rattle.spacing.specs.declared.Spaced.{Spaced}
-use Rattle.spacing.specs.declared.Spaced.TheVariants.{To, LineEnd, OpenComment}
+use Rattle.spacing.specs.declared.SpacingError.{SpacingError}
+use Rattle.spacing.specs.declared.SpacingError.TheVariants.{LineEnd, OpenComment}
 use Rattle.spacing.specs.Spacing.{spaces_at, Spaces}
 use Rattle.spacing.proofs.Places.{spaces}
 use Rattle.scan.proofs.Loop.{Either}
@@ -22,8 +22,7 @@ use Rattle.grammar.specs.Refusals.{number_of_repeat}
 use Rattle.grammar.specs.Cells.{repeat_cells, token_cells}
 use Rattle.grammar.specs.declared.Answer.{Answer}
 use Rattle.grammar.specs.declared.Answer.TheVariants.{Going, Done, Refused}
-use Rattle.grammar.specs.declared.Gap.{Gap}
-use Rattle.grammar.specs.declared.Gap.TheVariants.{GapTo, GapRefused}
+use Rattle.grammar.specs.declared.Refusal.{Refusal}
 use Rattle.grammar.specs.State.{Out1, Out2, Out3, Passed, count, gap_of, gap_at, Gapped, pushed, push_row, list_repeat, entered, enter_step, first2, second2, once_found, once_step, past, past_gap, pass_on, onward, behind1, behind2}
 use Rattle.grammar.specs.Sound.{AllTables, cells_of, set_tab, Each, Pairs, view, Table, TokenRow, Differ, Far}
 use Rattle.grammar.proofs.Repeats.{repeat_least, repeat_most}
@@ -34,10 +33,10 @@ pub gapped : (kind : ℕ) (ok : Bool) (src : List ℕ) (at : ℕ) → at ≤ len
 unfolding gap_at gap_of
 gapped kind ok src at h = go (spaces_at kind ok src at) (spaces kind ok src at h)
   where
-    go : (r : Spaced) → Spaces src at r → Gapped src at (gap_of r)
-    go (To i n) x = x
-    go (LineEnd i) x = tt
-    go (OpenComment i) x = tt
+    go : (r : Result (ℕ × ℕ) SpacingError) → Spaces src at r → Gapped src at (gap_of r)
+    go (Ok (i, n)) x = x
+    go (Err (LineEnd i)) x = tt
+    go (Err (OpenComment i)) x = tt
 
 -- a step on table k keeps soundness so far, on two tables, on three
 abbrev pub Far1 : List ℕ → ℕ → AllTables → ℕ → Out1 → Type 0
@@ -122,7 +121,7 @@ module _ {src : List ℕ} {done : ℕ} {s : State} {T : AllTables} (f : Far src 
   pub once_held : (k : ℕ) → k < repeats → (k ≡ productions → ⊥) → (name : ℕ) (what : Repeat) (row : List ℕ) → length row ≡ width k → Each src (view s) k row → ((r : ℕ) → r < count s k → Pairs src k (row_at (width k) (cells_of T k) r) row) → ((r : ℕ) → r < count s k → Passed src (cell (width k) (cells_of T k) r (row_place k)) (cell (width k) (cells_of T k) r (row_place k + 1))) → Passed src (get_or row (row_place k) 0) (get_or row (row_place k + 1) 0) → Held2 src done T k repeats s (once_step src s k (width k) name what row (cells_of T k) T.t10)
   unfolding once_step
   once_held k h d name what row wide p q first z =
-      find_cases (λ (x : Found). Held2 src done T k repeats s (once_found x s k (width k) what row (cells_of T k) T.t10)) src (width k) name (count s k) (cells_of T k) (get_or row name 0) (get_or row (name + 1) 0)
+      find_cases (λ (x : Option ℕ). Held2 src done T k repeats s (once_found x s k (width k) what row (cells_of T k) T.t10)) src (width k) name (count s k) (cells_of T k) (get_or row name 0) (get_or row (name + 1) 0)
       (λ r l e none. found _ (repeat_held what _ _ _ _ (first r l) z))
       (λ none. new _ (push_held k (omega arith) d row wide p q))
     where
@@ -140,9 +139,9 @@ module _ {src : List ℕ} {done : ℕ} {s : State} {T : AllTables} (f : Far src 
   unfolding past_gap
   past_far line j h k = go (gap_at s.kind true src j) (gapped s.kind true src j k)
     where
-      go : (g : Gap) → Gapped src j g → Far src done (past line g s).state T
-      go (GapTo i n) x = let a = x.0 in far_at f i (omega arith) x.1
-      go (GapRefused e) x = f
+      go : (g : Result (ℕ × ℕ) Refusal) → Gapped src j g → Far src done (past line g s).state T
+      go (Ok (i, n)) x = let a = x.0 in far_at f i (omega arith) x.1
+      go (Err e) x = f
 
   pub pass_far : (line : Bool) (j : ℕ) (a : Answer) → s.at ≤ j → j ≤ length src → Far src done (pass_on src line j a s).state T
   pass_far line j Going h k = past_far line j h k
@@ -167,8 +166,8 @@ pub pass_level : (src : List ℕ) (line : Bool) (j : ℕ) (a : Answer) (s : Stat
 unfolding past_gap
 pass_level src line j Going s = go (gap_at s.kind true src j)
   where
-    go : (g : Gap) → (past line g s).state.level ≡ s.level
-    go (GapTo i n) = refl
-    go (GapRefused e) = refl
+    go : (g : Result (ℕ × ℕ) Refusal) → (past line g s).state.level ≡ s.level
+    go (Ok (i, n)) = refl
+    go (Err e) = refl
 pass_level src line j Done s = refl
 pass_level src line j (Refused f) s = refl

@@ -1,19 +1,15 @@
 -- No step changes the kind of the reading. Assumes nothing.
+use Rattle.std.specs.Prelude.{Option, Some, None, Result, Ok, Err}
 use Prim.Native.Nat.{ℕ}
 use mathlib.Core.Path.{◌≡◌, refl}
 use mathlib.Core.List.{List}
 use mathlib.Core.Bool.{Bool, true, false}
-use Rattle.tables.specs.declared.Entered.{Entered}
-use Rattle.tables.specs.declared.Entered.TheVariants.{Rows, Full}
-use Rattle.tables.specs.declared.Found.{Found}
-use Rattle.tables.specs.declared.Found.TheVariants.{RowAt, NoRow}
 use Rattle.tables.specs.Table.{add_row, enter_token, flag, find_name}
 use Rattle.grammar.specs.declared.State.{State}
 use Rattle.grammar.specs.declared.Answer.{Answer}
 use Rattle.grammar.specs.declared.Answer.TheVariants.{Going, Done, Refused}
 use Rattle.grammar.specs.declared.Repeat.{Repeat}
-use Rattle.grammar.specs.declared.Gap.{Gap}
-use Rattle.grammar.specs.declared.Gap.TheVariants.{GapTo, GapRefused}
+use Rattle.grammar.specs.declared.Refusal.{Refusal}
 use Rattle.tables.specs.Layout.{tokens, repeats}
 use Rattle.grammar.specs.Cells.{token_cells}
 use Rattle.grammar.specs.State.{count, gap_at, pushed, push_row, list_repeat, entered, enter_step, once_found, once_step, past, past_gap, pass_on}
@@ -37,27 +33,27 @@ module _ (s : State) where
   unfolding enter_step
   enter_kind src a b d t = go (enter_token src (count s tokens) a b d t).entered
     where
-      go : (e : Entered) → (entered e s (token_cells a b (flag d)) (enter_token src (count s tokens) a b d t).cells).state.kind ≡ s.kind
-      go (Rows m) = refl
-      go Full = refl
+      go : (e : Option ℕ) → (entered e s (token_cells a b (flag d)) (enter_token src (count s tokens) a b d t).cells).state.kind ≡ s.kind
+      go (Some m) = refl
+      go None = refl
 
   -- nor what may be given once,
   pub once_kind : (src : List ℕ) (k w name : ℕ) (what : Repeat) (row t t10 : List ℕ) → (once_step src s k w name what row t t10).state.kind ≡ s.kind
   unfolding once_step
   once_kind src k w name what row t t10 = go (find_name src w name (count s k) t _ _)
     where
-      go : (f : Found) → (once_found f s k w what row t t10).state.kind ≡ s.kind
-      go (RowAt r) = repeat_kind what _ _ _ _ t10
-      go NoRow = push_kind k row t
+      go : (f : Option ℕ) → (once_found f s k w what row t t10).state.kind ≡ s.kind
+      go (Some r) = repeat_kind what _ _ _ _ t10
+      go None = push_kind k row t
 
   -- nor spacing.
   pub past_kind : (src : List ℕ) (line : Bool) (j : ℕ) → (past_gap src line j s).state.kind ≡ s.kind
   unfolding past_gap
   past_kind src line j = go (gap_at s.kind true src j)
     where
-      go : (g : Gap) → (past line g s).state.kind ≡ s.kind
-      go (GapTo i n) = refl
-      go (GapRefused e) = refl
+      go : (g : Result (ℕ × ℕ) Refusal) → (past line g s).state.kind ≡ s.kind
+      go (Ok (i, n)) = refl
+      go (Err e) = refl
 
   pub pass_kind : (src : List ℕ) (line : Bool) (j : ℕ) (a : Answer) → (pass_on src line j a s).state.kind ≡ s.kind
   pass_kind src line j Going = past_kind src line j

@@ -1,4 +1,5 @@
 -- What leaves the count of a table alone leaves its finder. Assumes nothing.
+use Rattle.std.specs.Prelude.{Option, Some, None}
 use Prim.Native.Nat.{ℕ, ◌+◌, ◌<◌}
 use mathlib.Core.Path.{◌≡◌, refl, sym, ap, subst, ◌∙◌}
 use mathlib.Core.List.{List}
@@ -9,10 +10,6 @@ use lib.ListN.{length, length-set, get_or}
 use lib.Seq.{get_or-set_other}
 use Rattle.scan.proofs.Bytes.{le_or_lt}
 use Rattle.tables.specs.Table.{add_row, enter_token, find_name, flag}
-use Rattle.tables.specs.declared.Found.{Found}
-use Rattle.tables.specs.declared.Found.TheVariants.{RowAt, NoRow}
-use Rattle.tables.specs.declared.Entered.{Entered}
-use Rattle.tables.specs.declared.Entered.TheVariants.{Rows, Full}
 use Rattle.tables.specs.Layout.{tokens, repeats, posix_from}
 use Rattle.grammar.specs.declared.Counts.{Counts}
 use Rattle.grammar.specs.declared.State.{State}
@@ -62,18 +59,18 @@ pub spares_once : (k : ℕ) (src : List ℕ) (s : State) (j w name : ℕ) (what 
 unfolding once_step
 spares_once k src s j w name what row t t10 d x = go (find_name src w name (count s j) t (get_or row name 0) (get_or row (name + 1) 0))
   where
-    go : (f : Found) → Spares k s.counts (once_found f s j w what row t t10).state.counts
-    go (RowAt r) = spares_repeat k s what _ _ _ _ t10 x
-    go NoRow = spares_push k s j row t d
+    go : (f : Option ℕ) → Spares k s.counts (once_found f s j w what row t t10).state.counts
+    go (Some r) = spares_repeat k s what _ _ _ _ t10 x
+    go None = spares_push k s j row t d
 
 -- a token
 pub spares_enter : (k : ℕ) (src : List ℕ) (s : State) (a b : ℕ) (declared : Bool) (t : List ℕ) → (tokens ≡ k → ⊥) → Spares k s.counts (enter_step src s a b declared t).state.counts
 unfolding enter_step
 spares_enter k src s a b declared t d = go (enter_token src (count s tokens) a b declared t).entered
   where
-    go : (o : Entered) → Spares k s.counts (entered o s (token_cells a b (flag declared)) (enter_token src (count s tokens) a b declared t).cells).state.counts
-    go (Rows m) = spares_count k s tokens m d
-    go Full = spares_none k s.counts
+    go : (o : Option ℕ) → Spares k s.counts (entered o s (token_cells a b (flag declared)) (enter_token src (count s tokens) a b declared t).cells).state.counts
+    go (Some m) = spares_count k s tokens m d
+    go None = spares_none k s.counts
 
 -- spacing
 pub spares_pass : (k : ℕ) (src : List ℕ) (line : Bool) (j : ℕ) (a : Answer) (s : State) → Spares k s.counts (pass_on src line j a s).state.counts

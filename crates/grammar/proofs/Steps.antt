@@ -1,4 +1,5 @@
 -- The small steps: counts, spacing with its refusal, a row more. One law for each answer. Assumes nothing.
+use Rattle.std.specs.Prelude.{Option, Some, None, Result, Ok, Err}
 use Prim.Native.Nat.{ℕ, ◌+◌, ◌≤◌, ◌<◌}
 use mathlib.Core.Path.{◌≡◌, sym, ap, ◌∙◌}
 use mathlib.Core.List.{List, [], ◌∷◌}
@@ -13,15 +14,11 @@ use Rattle.finder.proofs.Laws.{held_new, held_full}
 use Rattle.index.specs.Index.{rows_now}
 use Rattle.finder.specs.Finder.{Held, LeadsTo, Grown}
 use borrow.Author.Tests.{lt-ltb, le-ltb}
-use Rattle.spacing.specs.declared.Spaced.{Spaced}
-use Rattle.spacing.specs.declared.Spaced.TheVariants.{To, LineEnd, OpenComment}
+use Rattle.spacing.specs.declared.SpacingError.{SpacingError}
+use Rattle.spacing.specs.declared.SpacingError.TheVariants.{LineEnd, OpenComment}
 use Rattle.spacing.specs.Spacing.{spaces_at, Spaces}
 use Rattle.tables.specs.Layout.{tokens, row_place, posix_from}
 use Rattle.tables.specs.Table.{add_row, enter_token, cell, find_name}
-use Rattle.tables.specs.declared.Found.{Found}
-use Rattle.tables.specs.declared.Found.TheVariants.{RowAt, NoRow}
-use Rattle.tables.specs.declared.Entered.{Entered}
-use Rattle.tables.specs.declared.Entered.TheVariants.{Rows, Full}
 use Rattle.grammar.specs.declared.State.{State}
 use Rattle.grammar.specs.declared.Answer.{Answer}
 use Rattle.grammar.specs.declared.Answer.TheVariants.{Going, Done, Refused}
@@ -29,33 +26,31 @@ use Rattle.grammar.specs.declared.Cause.TheVariants.{ReachedEol, IncompleteComme
 use Rattle.grammar.specs.declared.Refusal.{Refusal}
 use Rattle.grammar.specs.declared.Refusal.TheVariants.{Fault}
 use Rattle.grammar.specs.declared.Repeat.{Repeat}
-use Rattle.grammar.specs.declared.Gap.{Gap}
-use Rattle.grammar.specs.declared.Gap.TheVariants.{GapTo, GapRefused}
 use Rattle.grammar.specs.State.{count, with_count, no_room, Here, gap_of, gap_at, Gapped, push_row, enter_step, next_level, with_at, Out0, Out1, Out2, past_gap, pass_on, tied1, tied2, behind1, behind2, Onward, Moves, list_repeat, first2, second2, once_step, Passed, Tokens, Tracked, Enters}
 use Rattle.grammar.proofs.Counting.{count_low, with_low}
 
-module _ (kind : ℕ) (ok : Bool) (src : List ℕ) (at : ℕ) (r : Spaced) (q : r ≡ spaces_at kind ok src at) where
-  pub gap_to : (i n : ℕ) → r ≡ To i n → GapTo i n ≡ gap_at kind ok src at
+module _ (kind : ℕ) (ok : Bool) (src : List ℕ) (at : ℕ) (r : Result (ℕ × ℕ) SpacingError) (q : r ≡ spaces_at kind ok src at) where
+  pub gap_to : (i n : ℕ) → r ≡ Ok (i, n) → Ok (i, n) ≡ gap_at kind ok src at
   unfolding gap_at gap_of
   gap_to i n e = rw (← q, e)
 
-  pub gap_line : (i : ℕ) → r ≡ LineEnd i → GapRefused (Fault ReachedEol i) ≡ gap_at kind ok src at
+  pub gap_line : (i : ℕ) → r ≡ Err (LineEnd i) → Err (Fault ReachedEol i) ≡ gap_at kind ok src at
   unfolding gap_at gap_of
   gap_line i e = rw (← q, e)
 
-  pub gap_comment : (i : ℕ) → r ≡ OpenComment i → GapRefused (Fault IncompleteComment i) ≡ gap_at kind ok src at
+  pub gap_comment : (i : ℕ) → r ≡ Err (OpenComment i) → Err (Fault IncompleteComment i) ≡ gap_at kind ok src at
   unfolding gap_at gap_of
   gap_comment i e = rw (← q, e)
 
 -- where spacing's answer lies
-module _ (src : List ℕ) (at : ℕ) (r : Spaced) (x : Spaces src at r) where
-  pub gap_moved : (i n : ℕ) → r ≡ To i n → Gapped src at (GapTo i n)
+module _ (src : List ℕ) (at : ℕ) (r : Result (ℕ × ℕ) SpacingError) (x : Spaces src at r) where
+  pub gap_moved : (i n : ℕ) → r ≡ Ok (i, n) → Gapped src at (Ok (i, n))
   gap_moved i n e = rw e at x
 
-  pub line_inside : (i : ℕ) → r ≡ LineEnd i → i < length src
+  pub line_inside : (i : ℕ) → r ≡ Err (LineEnd i) → i < length src
   line_inside i e = (rw e at x).1
 
-  pub comment_inside : (i : ℕ) → r ≡ OpenComment i → i < length src
+  pub comment_inside : (i : ℕ) → r ≡ Err (OpenComment i) → i < length src
   comment_inside i e = (rw e at x).1
 
 -- a row more
@@ -71,12 +66,12 @@ module _ (s : State) (k n : ℕ) (row t cells : List ℕ) (q : Bool) (c : n ≡ 
   push_full f h w = rw (← c, ← e, h, w)
 
 -- the name of a row that was sought and not found
-pub name_new : (src : List ℕ) (s : State) (k w name n a b : ℕ) (row t : List ℕ) (f : Found) → n ≡ count s k → a ≡ get_or row name 0 → b ≡ get_or row (name + 1) 0 → f ≡ find_name src w name n t a b → f ≡ NoRow → find_name src w name (count s k) t (get_or row name 0) (get_or row (name + 1) 0) ≡ NoRow
+pub name_new : (src : List ℕ) (s : State) (k w name n a b : ℕ) (row t : List ℕ) (f : Option ℕ) → n ≡ count s k → a ≡ get_or row name 0 → b ≡ get_or row (name + 1) 0 → f ≡ find_name src w name n t a b → f ≡ None → find_name src w name (count s k) t (get_or row name 0) (get_or row (name + 1) 0) ≡ None
 name_new src s k w name n a b row t f c x y e h = rw (← c, ← x, ← y) (sym e ∙ h)
 
 -- and its finder follows
 module _ (src : List ℕ) (s : State) (k w name n : ℕ) (row t cells ix : List ℕ) (q : Bool) (c : n ≡ count s k) (e : record { ok = q; cells = cells } ≡ add_row n row t) (x : Enters k w name row) (I : Tracked src k w name s.counts t ix) where
-  pub push_tracked : (next : State) → q ≡ true → next ≡ with_count s k (n + 1) → find_name src w name (count s k) t (get_or row name 0) (get_or row (name + 1) 0) ≡ NoRow → (jx : List ℕ) → Grown ix jx → LeadsTo src w name cells jx n → Tracked src k w name next.counts cells jx
+  pub push_tracked : (next : State) → q ≡ true → next ≡ with_count s k (n + 1) → find_name src w name (count s k) t (get_or row name 0) (get_or row (name + 1) 0) ≡ None → (jx : List ℕ) → Grown ix jx → LeadsTo src w name cells jx n → Tracked src k w name next.counts cells jx
   push_tracked next h f none jx g l =
       let low : k < posix_from = let z = x.table in omega arith in
       let b : k < length s.counts.n = rw I.ten low in
@@ -93,21 +88,21 @@ module _ (src : List ℕ) (s : State) (k w name n : ℕ) (row t cells ix : List 
       record { ten = I.ten; held = rw (← m) (held_full src w name n t ix (rw m I.held) row x.wide q cells e h) }
 
 -- a token entered
-module _ (src : List ℕ) (s : State) (a b n : ℕ) (d : Bool) (t cells : List ℕ) (o : Entered) (c : n ≡ count s 0) (e : record { entered = o; cells = cells } ≡ enter_token src n a b d t) where
-  pub enter_rows : (m : ℕ) (next : State) → o ≡ Rows m → next ≡ with_count s 0 m → record { answer = Going; state = next; a = cells } ≡ enter_step src s a b d t
+module _ (src : List ℕ) (s : State) (a b n : ℕ) (d : Bool) (t cells : List ℕ) (o : Option ℕ) (c : n ≡ count s 0) (e : record { entered = o; cells = cells } ≡ enter_token src n a b d t) where
+  pub enter_rows : (m : ℕ) (next : State) → o ≡ Some m → next ≡ with_count s 0 m → record { answer = Going; state = next; a = cells } ≡ enter_step src s a b d t
   unfolding enter_step
   enter_rows m next h w = rw (← c, ← e, h, w)
 
   -- and the finder follows
-  pub enter_tracked : length s.counts.n ≡ 10 → (m : ℕ) (next : State) → o ≡ Rows m → next ≡ with_count s 0 m → (ix : List ℕ) → Held src 3 0 (rows_now n o) cells ix → Tokens src next.counts cells ix
+  pub enter_tracked : length s.counts.n ≡ 10 → (m : ℕ) (next : State) → o ≡ Some m → next ≡ with_count s 0 m → (ix : List ℕ) → Held src 3 0 (rows_now n o) cells ix → Tokens src next.counts cells ix
   enter_tracked ten m next h w ix I =
       let k : count (with_count s 0 m) 0 ≡ m = get_or-set_same s.counts.n 0 m 0 (rw ten (omega arith)) in
       rw w (record { ten = length-set s.counts.n 0 m ∙ ten; held = rw k (rw h at I) })
 
-  pub full_tracked : length s.counts.n ≡ 10 → o ≡ Full → (ix : List ℕ) → Held src 3 0 (rows_now n o) cells ix → Tokens src s.counts cells ix
+  pub full_tracked : length s.counts.n ≡ 10 → o ≡ None → (ix : List ℕ) → Held src 3 0 (rows_now n o) cells ix → Tokens src s.counts cells ix
   full_tracked ten h ix I = record { ten = ten; held = rw (← c) (rw h at I) }
 
-  pub enter_full : (f : Refusal) → o ≡ Full → f ≡ no_room tokens (a ∷ b ∷ 0 ∷ []) → record { answer = Refused f; state = s; a = cells } ≡ enter_step src s a b d t
+  pub enter_full : (f : Refusal) → o ≡ None → f ≡ no_room tokens (a ∷ b ∷ 0 ∷ []) → record { answer = Refused f; state = s; a = cells } ≡ enter_step src s a b d t
   unfolding enter_step
   enter_full f h w = rw (← c, ← e, h, w)
 
@@ -121,21 +116,21 @@ unfolding next_level
 level_last n h = rw (le-ltb _ _ h, next_level)
 
 -- spacing behind a step
-module _ (src : List ℕ) (line : Bool) (j : ℕ) (s : State) (g : Gap) (q : g ≡ gap_at s.kind true src j) where
-  pub past_done : (i n : ℕ) → g ≡ GapTo i n → (line && not (eqb n 0)) ≡ true → record { answer = Done; state = with_at s i } ≡ past_gap src line j s
+module _ (src : List ℕ) (line : Bool) (j : ℕ) (s : State) (g : Result (ℕ × ℕ) Refusal) (q : g ≡ gap_at s.kind true src j) where
+  pub past_done : (i n : ℕ) → g ≡ Ok (i, n) → (line && not (eqb n 0)) ≡ true → record { answer = Done; state = with_at s i } ≡ past_gap src line j s
   unfolding past_gap
   past_done i n e t = rw (← q, e, t)
 
-  pub past_going : (i n : ℕ) → g ≡ GapTo i n → (line && not (eqb n 0)) ≡ false → record { answer = Going; state = with_at s i } ≡ past_gap src line j s
+  pub past_going : (i n : ℕ) → g ≡ Ok (i, n) → (line && not (eqb n 0)) ≡ false → record { answer = Going; state = with_at s i } ≡ past_gap src line j s
   unfolding past_gap
   past_going i n e t = rw (← q, e, t)
 
-  pub past_refused : (f : Refusal) → g ≡ GapRefused f → record { answer = Refused f; state = s } ≡ past_gap src line j s
+  pub past_refused : (f : Refusal) → g ≡ Err f → record { answer = Refused f; state = s } ≡ past_gap src line j s
   unfolding past_gap
   past_refused f e = rw (← q, e)
 
 -- where it comes to stand
-pub gap_onward : (src : List ℕ) (j before i n : ℕ) (a : Answer) (g : Gap) → Gapped src j g → g ≡ GapTo i n → Onward src j before a i
+pub gap_onward : (src : List ℕ) (j before i n : ℕ) (a : Answer) (g : Result (ℕ × ℕ) Refusal) → Gapped src j g → g ≡ Ok (i, n) → Onward src j before a i
 gap_onward src j before i n a g x e =
     let y = rw e at x in
     let k = y.0 in
@@ -184,21 +179,21 @@ module _ (src : List ℕ) (line : Bool) (j : ℕ) (a : Answer) (s : State) where
     behind_two t u o e = rw (← e) (ap (λ (y : Out0). tied2 y t u) h)
 
 -- what may be given once to a name
-module _ (src : List ℕ) (s : State) (k w name from to : ℕ) (what : Repeat) (row t t10 : List ℕ) (n : ℕ) (f : Found) (c : n ≡ count s k) (l : from ≡ get_or row name 0) (m : to ≡ get_or row (name + 1) 0) (q : f ≡ find_name src w name n t from to) where
+module _ (src : List ℕ) (s : State) (k w name from to : ℕ) (what : Repeat) (row t t10 : List ℕ) (n : ℕ) (f : Option ℕ) (c : n ≡ count s k) (l : from ≡ get_or row name 0) (m : to ≡ get_or row (name + 1) 0) (q : f ≡ find_name src w name n t from to) where
   found_row : f ≡ find_name src w name (count s k) t (get_or row name 0) (get_or row (name + 1) 0)
   found_row = rw (c, l, m) at q
 
-  pub once_repeat : (r p x y z u : ℕ) (o : Out1) → f ≡ RowAt r → p ≡ row_place k → x ≡ cell w t r p → y ≡ cell w t r (p + 1) → z ≡ get_or row p 0 → u ≡ get_or row (p + 1) 0 → o ≡ list_repeat s what x y z u t10 → second2 t o ≡ once_step src s k w name what row t t10
+  pub once_repeat : (r p x y z u : ℕ) (o : Out1) → f ≡ Some r → p ≡ row_place k → x ≡ cell w t r p → y ≡ cell w t r (p + 1) → z ≡ get_or row p 0 → u ≡ get_or row (p + 1) 0 → o ≡ list_repeat s what x y z u t10 → second2 t o ≡ once_step src s k w name what row t t10
   unfolding once_step
   once_repeat r p x y z u o e g hx hy hz hu d = rw (← found_row, e) (ap (second2 t) (rw (hx, hy, hz, hu, g) at d))
 
-  pub once_new : (o : Out1) → f ≡ NoRow → o ≡ push_row s k row t → first2 o t10 ≡ once_step src s k w name what row t t10
+  pub once_new : (o : Out1) → f ≡ None → o ≡ push_row s k row t → first2 o t10 ≡ once_step src s k w name what row t t10
   unfolding once_step
   once_new o e d = rw (← found_row, e) (ap (λ (x : Out1). first2 x t10) d)
 
 -- positions behind a position: where spacing ends, where a further part ends, where a step comes to stand
 module _ (src : List ℕ) (at : ℕ) where
-  pub gap_passed : (g : Gap) (i n : ℕ) → Gapped src at g → g ≡ GapTo i n → Passed src at i
+  pub gap_passed : (g : Result (ℕ × ℕ) Refusal) (i n : ℕ) → Gapped src at g → g ≡ Ok (i, n) → Passed src at i
   gap_passed g i n x e =
       let y = rw e at x in
       let k = y.0 in

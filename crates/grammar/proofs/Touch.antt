@@ -1,4 +1,5 @@
 -- What the shared steps touch and what they leave: a row more changes one table and its count, spacing changes the position alone. Assumes nothing.
+use Rattle.std.specs.Prelude.{Result, Ok, Err}
 use Prim.Native.Nat.{ℕ, ◌+◌, ◌≤◌}
 use mathlib.Core.Path.{◌≡◌, refl, sym, ap}
 use mathlib.Core.List.{List, [], ◌∷◌, ◌++◌}
@@ -15,8 +16,6 @@ use Rattle.grammar.specs.declared.State.{State}
 use Rattle.grammar.specs.declared.Answer.{Answer}
 use Rattle.grammar.specs.declared.Answer.TheVariants.{Going, Done, Refused}
 use Rattle.grammar.specs.declared.Refusal.{Refusal}
-use Rattle.grammar.specs.declared.Gap.{Gap}
-use Rattle.grammar.specs.declared.Gap.TheVariants.{GapTo, GapRefused}
 use Rattle.grammar.specs.State.{count, with_at, with_count, gap_at, pushed, push_row, past, past_gap, pass_on}
 use Rattle.grammar.proofs.Counting.{with_high, with_ten, with_three, count_other}
 use Rattle.grammar.proofs.Steps.{past_going, on_going}
@@ -75,9 +74,9 @@ module _ (src : List ℕ) (line : Bool) (j : ℕ) where
   unfolding past_gap
   pass_counts Going s = go (gap_at s.kind true src j)
     where
-      go : (g : Gap) → (past line g s).state.counts ≡ s.counts
-      go (GapTo i n) = refl
-      go (GapRefused e) = refl
+      go : (g : Result (ℕ × ℕ) Refusal) → (past line g s).state.counts ≡ s.counts
+      go (Ok (i, n)) = refl
+      go (Err e) = refl
   pass_counts Done s = refl
   pass_counts (Refused f) s = refl
 
@@ -85,9 +84,9 @@ module _ (src : List ℕ) (line : Bool) (j : ℕ) where
   unfolding past_gap
   pass_count Going s k = go (gap_at s.kind true src j)
     where
-      go : (g : Gap) → count (past line g s).state k ≡ count s k
-      go (GapTo i n) = refl
-      go (GapRefused e) = refl
+      go : (g : Result (ℕ × ℕ) Refusal) → count (past line g s).state k ≡ count s k
+      go (Ok (i, n)) = refl
+      go (Err e) = refl
   pass_count Done s k = refl
   pass_count (Refused f) s k = refl
 
@@ -96,19 +95,19 @@ module _ (src : List ℕ) (line : Bool) (j : ℕ) where
     pub to : ℕ
     pub lines : ℕ
     pub went : a ≡ Going
-    pub gap : gap_at s.kind true src j ≡ GapTo to lines
+    pub gap : gap_at s.kind true src j ≡ Ok (to, lines)
     pub at : (pass_on src line j a s).state.at ≡ to
 
   pub pass_going : (a : Answer) (s : State) → (pass_on src line j a s).answer ≡ Going → Passes a s
   unfolding past_gap
   pass_going Going s h = go (gap_at s.kind true src j) refl h
     where
-      go : (g : Gap) → gap_at s.kind true src j ≡ g → (past line g s).answer ≡ Going → Passes Going s
-      go (GapTo i n) e x = record { to = i; lines = n; went = refl; gap = e; at = ap (λ (y : Gap). (past line y s).state.at) e }
-      go (GapRefused f) e x = absurd (refused_going f x)
+      go : (g : Result (ℕ × ℕ) Refusal) → gap_at s.kind true src j ≡ g → (past line g s).answer ≡ Going → Passes Going s
+      go (Ok (i, n)) e x = record { to = i; lines = n; went = refl; gap = e; at = ap (λ (y : Result (ℕ × ℕ) Refusal). (past line y s).state.at) e }
+      go (Err f) e x = absurd (refused_going f x)
   pass_going Done s h = absurd (done_going h)
   pass_going (Refused f) s h = absurd (refused_going f h)
 
 -- and it goes on to where the spacing ends
-pub pass_to : (src : List ℕ) (j : ℕ) (a : Answer) (s : State) (to lines : ℕ) → gap_at s.kind true src j ≡ GapTo to lines → a ≡ Going → pass_on src false j a s ≡ record { answer = Going; state = with_at s to }
-pass_to src j a s to lines g h = sym (on_going src false j a s _ h (past_going src false j s (GapTo to lines) (sym g) to lines refl refl))
+pub pass_to : (src : List ℕ) (j : ℕ) (a : Answer) (s : State) (to lines : ℕ) → gap_at s.kind true src j ≡ Ok (to, lines) → a ≡ Going → pass_on src false j a s ≡ record { answer = Going; state = with_at s to }
+pass_to src j a s to lines g h = sym (on_going src false j a s _ h (past_going src false j s (Ok (to, lines)) (sym g) to lines refl refl))

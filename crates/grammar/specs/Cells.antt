@@ -1,6 +1,5 @@
 -- The rows of tables 1 to 7, 9, 10 and 15 to 17: which cell is which. Those of table 8 are in `productions`.
-use Rattle.std.specs.Prelude.{ℕ, List, [], ◌∷◌}
-use Rattle.grammar.specs.declared.Part.{Part}
+use Rattle.std.specs.Prelude.{ℕ, List, [], ◌∷◌, Option}
 use Rattle.grammar.specs.Numbers.{part_numbers}
 
 -- "1 tokens (place, declared by `%token` or not)"
@@ -28,7 +27,7 @@ abbrev pub symbol_cells : ℕ → ℕ → ℕ → List ℕ
 symbol_cells kind from to = kind ∷ from ∷ to ∷ 0 ∷ []
 
 -- "7 rules (name, action type or none)"
-abbrev pub rule_cells : ℕ → ℕ → Part → List ℕ
+abbrev pub rule_cells : ℕ → ℕ → Option (ℕ × ℕ) → List ℕ
 rule_cells from to type = from ∷ to ∷ part_numbers type
 
 -- "10 repeats (number, first place, repeated place)"

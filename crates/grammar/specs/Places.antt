@@ -1,7 +1,6 @@
 -- Document 01, "42 no room: first place of the row that didn't fit, for 10 its repeated one, and table number", table by table; that of table 8 is in `productions`.
-use Rattle.std.specs.Prelude.{ℕ, ◌≡◌, refl}
+use Rattle.std.specs.Prelude.{ℕ, ◌≡◌, refl, Option}
 use Rattle.tables.specs.Layout.{tokens, precedences, avoided, implicit, epps, unused, rules, symbols, repeats, tags, token_numbers, bodies}
-use Rattle.grammar.specs.declared.Part.{Part}
 use Rattle.grammar.specs.declared.Refusal.TheVariants.{NoRoom}
 use Rattle.grammar.specs.Cells.{token_cells, precedence_cells, name_cells, epp_cells, kind_cells, symbol_cells, rule_cells, repeat_cells, tag_cells, number_cells, body_cells}
 use Rattle.grammar.specs.State.{no_room}
@@ -26,7 +25,7 @@ pub full_unused : (kind from to : ℕ) → no_room unused (kind_cells kind from 
 full_unused kind from to = refl
 
 -- the name comes before the type
-pub full_rules : (from to : ℕ) (type : Part) → no_room rules (rule_cells from to type) ≡ NoRoom 7 from to
+pub full_rules : (from to : ℕ) (type : Option (ℕ × ℕ)) → no_room rules (rule_cells from to type) ≡ NoRoom 7 from to
 full_rules from to type = refl
 
 pub full_symbols : (kind from to : ℕ) → no_room symbols (symbol_cells kind from to) ≡ NoRoom 9 from to

@@ -1,18 +1,11 @@
 -- Document 01, "Tables are sound when", as a record of named parts; and the same of a reading under way.
-use Rattle.std.specs.Prelude.{ℕ, ◌+◌, ◌*◌, ◌≤◌, ◌<◌, ◌≡◌, List, [], ◌∷◌, false, ◌⊎◌, length, get_or, set}
-use Rattle.words.specs.declared.Quote.TheVariants.{Closed}
+use Rattle.std.specs.Prelude.{ℕ, ◌+◌, ◌*◌, ◌≤◌, ◌<◌, ◌≡◌, List, [], ◌∷◌, false, ◌⊎◌, length, get_or, set, Option, Some, None, Ok}
 use Rattle.words.specs.Strings.{string_at}
 use Rattle.tables.specs.Table.{same_part, zeroed}
 use Rattle.tables.specs.Rows.{Clean, row_at, Rows, Chained}
 use Rattle.index.specs.Index.{Indexed, Sized}
 use Rattle.symbols.specs.Symbols.{Lexicon, lexicon, Knows}
 use Rattle.tables.specs.Layout.{tokens, rules, productions, symbols, declared, level, association, key_name, value, typed, rule_row, place, symbols_from, symbols_to, prec, action, kind_name, posix_from, tag_place, body_place, width}
-use Rattle.grammar.specs.declared.Part.{Part}
-use Rattle.grammar.specs.declared.Part.TheVariants.{Absent, At}
-use Rattle.grammar.specs.declared.Expect.{Expect}
-use Rattle.grammar.specs.declared.Expect.TheVariants.{NotExpected, Expected}
-use Rattle.grammar.specs.declared.Param.{Param}
-use Rattle.grammar.specs.declared.Param.TheVariants.{NoParam, ParamAt}
 use Rattle.grammar.specs.declared.Counts.{Counts}
 use Rattle.grammar.specs.declared.PosixCounts.{PosixCounts}
 use Rattle.grammar.specs.declared.Singles.{Singles}
@@ -173,17 +166,17 @@ abbrev pub Table : List ℕ → View → ℕ → ℕ → List ℕ → Type 0
 Table src v k n t = Rows (Each src v k) (Pairs src k) (width k) n t
 
 -- "Each place, singles' too"
-abbrev pub Lies : List ℕ → Part → Type 0
-Lies src Absent = Unit {0}
-Lies src (At a b) = Passed src a b
+abbrev pub Lies : List ℕ → Option (ℕ × ℕ) → Type 0
+Lies src None = Unit {0}
+Lies src (Some (a, b)) = Passed src a b
 
-abbrev pub LiesExpected : List ℕ → Expect → Type 0
-LiesExpected src NotExpected = Unit {0}
-LiesExpected src (Expected v a b) = Passed src a b
+abbrev pub LiesExpected : List ℕ → Option (ℕ × ℕ × ℕ) → Type 0
+LiesExpected src None = Unit {0}
+LiesExpected src (Some (v, a, b)) = Passed src a b
 
-abbrev pub LiesParam : List ℕ → Param → Type 0
-LiesParam src NoParam = Unit {0}
-LiesParam src (ParamAt a b c d) = Passed src a b × Passed src c d
+abbrev pub LiesParam : List ℕ → Option (ℕ × ℕ × ℕ × ℕ) → Type 0
+LiesParam src None = Unit {0}
+LiesParam src (Some (a, b, c, d)) = Passed src a b × Passed src c d
 
 pub record Lie (src : List ℕ) (g : Singles) : Type 0 where
   pub start : Lies src g.start
@@ -225,7 +218,7 @@ pub record PosixSound (src : List ℕ) (c : Counts) (p : PosixCounts) (T : AllTa
 
 -- levels that were given are below the next one, and values are strings
 abbrev pub view : State → View
-view s = record { low = λ n. n < s.level; whole = λ src a b. string_at src a ≡ Closed b; rules = count s rules; symbols = count s symbols }
+view s = record { low = λ n. n < s.level; whole = λ src a b. string_at src a ≡ Ok b; rules = count s rules; symbols = count s symbols }
 
 -- Sound so far: what holds between Any two steps of a reading, whatever their answers. The productions' ranges end at `done`; the symbols behind it are
 -- those of the production that is being read.

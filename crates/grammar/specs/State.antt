@@ -1,31 +1,21 @@
 -- The state that a reading step takes and gives, and the steps that add a row.
-use Rattle.std.specs.Prelude.{ℕ, ◌+◌, ◌-◌, ◌≤◌, ◌<◌, ◌≡◌, List, Bool, true, false, ◌&&◌, not, length, get_or, set, replicate, ltb, eqb}
+use Rattle.std.specs.Prelude.{ℕ, ◌+◌, ◌-◌, ◌≤◌, ◌<◌, ◌≡◌, List, Bool, true, false, ◌&&◌, not, length, get_or, set, replicate, ltb, eqb, Option, Some, None, Result, Ok, Err}
 use Rattle.scan.specs.Scan.{Edge}
 use Rattle.scan.specs.Loop.{Turn, more, stop}
-use Rattle.spacing.specs.declared.Spaced.{Spaced}
-use Rattle.spacing.specs.declared.Spaced.TheVariants.{To, LineEnd, OpenComment}
+use Rattle.spacing.specs.declared.SpacingError.{SpacingError}
+use Rattle.spacing.specs.declared.SpacingError.TheVariants.{LineEnd, OpenComment}
 use Rattle.spacing.specs.Spacing.{spaces_at}
-use Rattle.tables.specs.declared.Entered.{Entered}
-use Rattle.tables.specs.declared.Entered.TheVariants.{Rows, Full}
-use Rattle.tables.specs.declared.Found.{Found}
-use Rattle.tables.specs.declared.Found.TheVariants.{RowAt, NoRow}
 use Rattle.tables.specs.Table.{add_row, flag, enter_token, cell, find_name}
 use Rattle.grammar.specs.declared.Counts.{Counts}
 use Rattle.grammar.specs.declared.PosixCounts.{PosixCounts}
 use Rattle.grammar.specs.declared.Singles.{Singles}
 use Rattle.grammar.specs.declared.State.{State}
-use Rattle.grammar.specs.declared.Part.{Part}
-use Rattle.grammar.specs.declared.Part.TheVariants.{Absent}
-use Rattle.grammar.specs.declared.Expect.TheVariants.{NotExpected}
-use Rattle.grammar.specs.declared.Param.TheVariants.{NoParam}
 use Rattle.grammar.specs.declared.Cause.TheVariants.{ReachedEol, IncompleteComment}
 use Rattle.grammar.specs.declared.Refusal.{Refusal}
 use Rattle.grammar.specs.declared.Refusal.TheVariants.{Fault, NoRoom}
 use Rattle.grammar.specs.declared.Answer.{Answer}
 use Rattle.grammar.specs.declared.Answer.TheVariants.{Going, Done, Refused}
 use Rattle.grammar.specs.declared.Repeat.{Repeat}
-use Rattle.grammar.specs.declared.Gap.{Gap}
-use Rattle.grammar.specs.declared.Gap.TheVariants.{GapTo, GapRefused}
 use Rattle.tables.specs.Layout.{tokens, rules, repeats, posix_from, table_number, row_place, width}
 use Rattle.finder.specs.Finder.{Held, Grown}
 use Rattle.grammar.specs.Refusals.{number_of_repeat}
@@ -78,7 +68,7 @@ with_posix s p = record { kind = s.kind; at = s.at; level = s.level; counts = s.
 abbrev pub with_singles : State → Singles → State
 with_singles s g = record { kind = s.kind; at = s.at; level = s.level; counts = s.counts; posix = s.posix; singles = g; actiontype = s.actiontype }
 
-abbrev pub with_actiontype : State → Part → State
+abbrev pub with_actiontype : State → Option (ℕ × ℕ) → State
 with_actiontype s p = record { kind = s.kind; at = s.at; level = s.level; counts = s.counts; posix = s.posix; singles = s.singles; actiontype = p }
 
 -- the count of the table of index k, of the ten or of the three, and the state with another
@@ -135,17 +125,17 @@ pub record Passed (src : List ℕ) (from to : ℕ) : Type 0 where
   pub inside : to ≤ length src
 
 -- spacing, with the refusal that it gives: "13 ReachedEOL", "5 IncompleteComment"
-unfoldable pub gap_of : Spaced → Gap
-gap_of (To i n) = GapTo i n
-gap_of (LineEnd i) = GapRefused (Fault ReachedEol i)
-gap_of (OpenComment i) = GapRefused (Fault IncompleteComment i)
+unfoldable pub gap_of : Result (ℕ × ℕ) SpacingError → Result (ℕ × ℕ) Refusal
+gap_of (Ok (i, n)) = Ok (i, n)
+gap_of (Err (LineEnd i)) = Err (Fault ReachedEol i)
+gap_of (Err (OpenComment i)) = Err (Fault IncompleteComment i)
 
-unfoldable pub gap_at : ℕ → Bool → List ℕ → ℕ → Gap
+unfoldable pub gap_at : ℕ → Bool → List ℕ → ℕ → Result (ℕ × ℕ) Refusal
 gap_at kind ok src at = gap_of (spaces_at kind ok src at)
 
-abbrev pub Gapped : List ℕ → ℕ → Gap → Type 0
-Gapped src from (GapTo i n) = (from + n ≤ i) × (i ≤ length src) × Edge src from i
-Gapped src from (GapRefused f) = Unit {0}
+abbrev pub Gapped : List ℕ → ℕ → Result (ℕ × ℕ) Refusal → Type 0
+Gapped src from (Ok (i, n)) = (from + n ≤ i) × (i ≤ length src) × Edge src from i
+Gapped src from (Err f) = Unit {0}
 
 -- "42 no room: first place of the row that didn't fit, for 10 its repeated one, and table number": all of it comes from the table and the row
 abbrev pub no_room : ℕ → List ℕ → Refusal
@@ -163,9 +153,9 @@ push_row s k row t = pushed (add_row (count s k) row t).ok s k row (add_row (cou
 unfoldable pub list_repeat : State → Repeat → ℕ → ℕ → ℕ → ℕ → List ℕ → Out1
 list_repeat s what a b c d t = push_row s repeats (repeat_cells (number_of_repeat what) a b c d) t
 
-abbrev pub entered : Entered → State → List ℕ → List ℕ → Out1
-entered (Rows m) s row t = record { answer = Going; state = with_count s tokens m; a = t }
-entered Full s row t = record { answer = Refused (no_room tokens row); state = s; a = t }
+abbrev pub entered : Option ℕ → State → List ℕ → List ℕ → Out1
+entered (Some m) s row t = record { answer = Going; state = with_count s tokens m; a = t }
+entered None s row t = record { answer = Refused (no_room tokens row); state = s; a = t }
 
 -- a token joins table 1, declared by `%token` or not
 unfoldable pub enter_step : List ℕ → State → ℕ → ℕ → Bool → List ℕ → Out1
@@ -178,7 +168,7 @@ next_level n = elim (ltb n 4294967295) [ true ↦ n + 1 | false ↦ n ]
 
 -- where a reading of a kind begins: nothing counted, the singles absent
 abbrev pub no_singles : Singles
-no_singles = record { start = Absent; expect = NotExpected; expect_rr = NotExpected; param = NoParam; generics = Absent; programs = Absent }
+no_singles = record { start = None; expect = None; expect_rr = None; param = None; generics = None; programs = None }
 
 abbrev pub no_counts : Counts
 no_counts = record { n = replicate 10 0 }
@@ -187,12 +177,12 @@ abbrev pub no_posix : PosixCounts
 no_posix = record { n = replicate 3 0 }
 
 abbrev pub fresh : ℕ → State
-fresh kind = record { kind = kind; at = 0; level = 0; counts = no_counts; posix = no_posix; singles = no_singles; actiontype = Absent }
+fresh kind = record { kind = kind; at = 0; level = 0; counts = no_counts; posix = no_posix; singles = no_singles; actiontype = None }
 
 -- what spacing makes of a state; a list that ends with its line is done "until a line end was counted"
-abbrev pub past : Bool → Gap → State → Out0
-past line (GapTo i n) s = record { answer = elim (line && not (eqb n 0)) [ true ↦ Done | false ↦ Going ]; state = with_at s i }
-past line (GapRefused f) s = record { answer = Refused f; state = s }
+abbrev pub past : Bool → Result (ℕ × ℕ) Refusal → State → Out0
+past line (Ok (i, n)) s = record { answer = elim (line && not (eqb n 0)) [ true ↦ Done | false ↦ Going ]; state = with_at s i }
+past line (Err f) s = record { answer = Refused f; state = s }
 
 -- spacing of the state's kind from index j on, where line ends are allowed
 unfoldable pub past_gap : List ℕ → Bool → ℕ → State → Out0
@@ -241,10 +231,10 @@ first2 o b = record { answer = o.answer; state = o.state; a = o.a; b = b }
 abbrev pub second2 : List ℕ → Out1 → Out2
 second2 a o = record { answer = o.answer; state = o.state; a = a; b = o.a }
 
-abbrev pub once_found : Found → State → ℕ → ℕ → Repeat → List ℕ → List ℕ → List ℕ → Out2
-once_found (RowAt r) s k w what row t t10 =
+abbrev pub once_found : Option ℕ → State → ℕ → ℕ → Repeat → List ℕ → List ℕ → List ℕ → Out2
+once_found (Some r) s k w what row t t10 =
     second2 t (list_repeat s what (cell w t r (row_place k)) (cell w t r (row_place k + 1)) (get_or row (row_place k) 0) (get_or row (row_place k + 1) 0) t10)
-once_found NoRow s k w what row t t10 = first2 (push_row s k row t) t10
+once_found None s k w what row t t10 = first2 (push_row s k row t) t10
 
 -- What may be given once to a name, which a row has in its cells `name` and `name + 1`: a row more, or a repeat with "first place, repeated place", that of the
 -- row that has the name and that of this one.

@@ -3,13 +3,11 @@
 
 ghost use Rattle.std.specs.Prelude.{◌≡◌, List, [], ◌∷◌, ◌+◌, length, get_or};
 ghost use Rattle.tables.specs.Table.{find_name};
-ghost use Rattle.tables.specs.declared.Found.TheVariants.{NoRow};
 ghost use Rattle.grammar.specs.Refusals.{number_of_cause, number_of_repeat, repeat_of, told};
 ghost use Rattle.grammar.specs.Numbers.{part_numbers};
 ghost use Rattle.grammar.specs.State.{count, with_count, no_room, Out1, Here, gap_at, Gapped, push_row, list_repeat, enter_step, next_level, Out0, Out2, Onward, past_gap, pass_on, once_step, Tokens, Tracked, Follows, Enters};
 
-use spacing::Spaced;
-use tables::{Entered, Found};
+use spacing::SpacingError;
 
 // The rows of tables 1 to 10.
 #[derive(Clone, Copy)]
@@ -23,35 +21,17 @@ pub struct PosixCounts {
     pub n: [u32; 3],
 }
 
-// A place that is given or not: the start, the generics, the programs, the action type of kind 1.
-#[derive(Clone, Copy)]
-pub enum Part {
-    Absent,
-    At(u32, u32),
-}
-
-// `%expect` and `%expect-rr`: the value, and its place.
-#[derive(Clone, Copy)]
-pub enum Expect {
-    NotExpected,
-    Expected(u64, u32, u32),
-}
-
-// `%parse-param`: the name's place and the type's.
-#[derive(Clone, Copy)]
-pub enum Param {
-    NoParam,
-    ParamAt(u32, u32, u32, u32),
-}
-
+// What is given once, by its place: the start, the generics, the programs.
 #[derive(Clone, Copy)]
 pub struct Singles {
-    pub start: Part,
-    pub expect: Expect,
-    pub expect_rr: Expect,
-    pub param: Param,
-    pub generics: Part,
-    pub programs: Part,
+    pub start: Option<(u32, u32)>,
+    // `%expect` and `%expect-rr`: the value, and its place.
+    pub expect: Option<(u64, u32, u32)>,
+    pub expect_rr: Option<(u64, u32, u32)>,
+    // `%parse-param`: the name's place and the type's.
+    pub param: Option<(u32, u32, u32, u32)>,
+    pub generics: Option<(u32, u32)>,
+    pub programs: Option<(u32, u32)>,
 }
 
 // A reading under way: its kind, where it stands, the next precedence level, what was read so far, and kind 1's action type.
@@ -63,7 +43,7 @@ pub struct State {
     pub counts: Counts,
     pub posix: PosixCounts,
     pub singles: Singles,
-    pub actiontype: Part,
+    pub actiontype: Option<(u32, u32)>,
 }
 
 // Why a read is refused at an offset.
@@ -147,13 +127,6 @@ pub enum Repeat {
     RepeatedStart,
     RepeatedActiontype,
     RepeatedEpp,
-}
-
-// Spacing: its end and its line ends, or why there is none.
-#[derive(Clone, Copy)]
-pub enum Gap {
-    GapTo(usize, usize),
-    GapRefused(Refusal),
 }
 
 pub fn cause_number(c: Cause) -> u32
@@ -264,25 +237,30 @@ pub fn repeat_of(number: u32) -> Repeat
 }
 
 // A flag and a place, as document 01 numbers them.
-pub fn part_cells(p: Part) -> [u32; 3]
+pub fn part_cells(p: Option<(u32, u32)>) -> [u32; 3]
     ensures { result ≡ part_numbers p }
 {
     match p {
-        Part::Absent => [0, 0, 0],
-        Part::At(a, b) => [1, a, b],
+        None => [0, 0, 0],
+        Some((a, b)) => [1, a, b],
     }
 }
 
-// Spacing of a kind from `at` on.
-pub fn pass_gap(src: &[u8], kind: u32, at: usize, ends_allowed: bool) -> Gap
+// Spacing of a kind from `at` on: its end and its line ends, or why there is none.
+pub fn pass_gap(
+    src: &[u8],
+    kind: u32,
+    at: usize,
+    ends_allowed: bool,
+) -> Result<(usize, usize), Refusal>
     requires { Here src.now at }
     ensures is { result ≡ gap_at kind ends_allowed src.now at }
     ensures moved { Gapped src.now at result }
 {
     match spacing::parse_ws(src, kind, at, ends_allowed) {
-        Spaced::To(i, n) => Gap::GapTo(i, n),
-        Spaced::LineEnd(i) => Gap::GapRefused(Refusal::Fault(Cause::ReachedEol, i as u32)),
-        Spaced::OpenComment(i) => Gap::GapRefused(Refusal::Fault(
+        Ok((i, n)) => Ok((i, n)),
+        Err(SpacingError::LineEnd(i)) => Err(Refusal::Fault(Cause::ReachedEol, i as u32)),
+        Err(SpacingError::OpenComment(i)) => Err(Refusal::Fault(
             Cause::IncompleteComment,
             i as u32,
         )),
@@ -367,7 +345,7 @@ pub fn push_entered(
     t: &mut [u32],
     ix: &mut [u16],
 ) -> Step
-    requires { Enters k w name row.now × Tracked src.now k w name s.counts t.old ix.old × (find_name src.now w name (count s k) t.old (get_or row.now name 0) (get_or row.now (name + 1) 0) ≡ NoRow) }
+    requires { Enters k w name row.now × Tracked src.now k w name s.counts t.old ix.old × (find_name src.now w name (count s k) t.old (get_or row.now name 0) (get_or row.now (name + 1) 0) ≡ None) }
     ensures is { ◌≡◌ {A = Out1} (record { answer = result.answer; state = result.state; a = t.new }) (push_row s k row.now t.old) }
     ensures kept { result.state.at ≡ s.at }
     ensures indexed { Follows src.now k w name result.state.counts t.new ix.old ix.new }
@@ -413,11 +391,11 @@ pub fn enter(
 {
     let n = count_of(s, tables::TOKENS);
     match finder::enter_token(src, t, n, ix, from, to, declared) {
-        Entered::Rows(m) => Step {
+        Some(m) => Step {
             answer: Answer::Going,
             state: with_count(s, tables::TOKENS, m),
         },
-        Entered::Full => {
+        None => {
             let row = [from, to, 0];
             Step {
                 answer: Answer::Refused(no_room(tables::TOKENS, &row)),
@@ -441,7 +419,7 @@ pub fn past_gap(src: &[u8], s: State, j: usize, line: bool) -> Step
     ensures moved { Onward src.now j s.at result.answer result.state.at }
 {
     match pass_gap(src, s.kind, j, true) {
-        Gap::GapTo(i, n) => {
+        Ok((i, n)) => {
             let mut next = s;
             next.at = i;
             if line & (n != 0) {
@@ -455,7 +433,7 @@ pub fn past_gap(src: &[u8], s: State, j: usize, line: bool) -> Step
                 state: next,
             }
         }
-        Gap::GapRefused(f) => Step {
+        Err(f) => Step {
             answer: Answer::Refused(f),
             state: s,
         },
@@ -506,7 +484,7 @@ pub fn once(
     let from = tables::cell_in_row(row, first);
     let to = tables::cell_in_row(row, first + 1);
     match finder::find(src, t, w, name, n, ix, from, to) {
-        Found::RowAt(r) => {
+        Some(r) => {
             let p = tables::row_place(k);
             let a = tables::cell(t, w, r, p);
             let b = tables::cell(t, w, r, p + 1);
@@ -514,6 +492,6 @@ pub fn once(
             let d = tables::cell_in_row(row, p + 1);
             list_repeat(s, what, a, b, c, d, t10)
         }
-        Found::NoRow => push_entered(src, s, k, w, name, row, t, ix),
+        None => push_entered(src, s, k, w, name, row, t, ix),
     }
 }

@@ -1,18 +1,17 @@
 -- What the functions' proofs cite: a sum that wraps, a name's bytes one by one, slots met one by one, a number halved. Assumes nothing.
-use Rattle.std.proofs.Common.{◌≡◌, ℕ, suc, ◌+◌, ◌-◌, ◌*◌, ◌/◌, ◌%◌, ◌<◌, ◌≤◌, min, Bool, true, false, not, ◌&&◌, eqb, leb, List, [], ◌∷◌, length, get_or, drop, set, sym, refl, ap, ◌∙◌, ⊎_elim, add-one, arith, drop_of_length-le, eq-eqb, ne_eqb}
+use Rattle.std.specs.Prelude.{Option, Some, None}
+use Rattle.std.proofs.Common.{◌≡◌, ℕ, suc, ◌+◌, ◌-◌, ◌*◌, ◌/◌, ◌%◌, ◌<◌, ◌≤◌, min, Bool, true, false, not, ◌&&◌, eqb, leb, List, [], ◌∷◌, length, get_or, drop, set, sym, refl, ap, ◌∙◌, ⊎_elim, arith, drop_of_length-le, eq-eqb, ne_eqb}
 use mathlib.Core.Bool.{false≢true}
 use native.Mathlib.Decide.{dec_lt}
 use native.Mathlib.Nat.{mod-add-mod, add-mod}
 use borrow.Author.Tests.{not-true, not-false}
-use lib.Seq.{slice, slice-cons, slice_empty, set_out}
+use lib.Seq.{slice, set_out}
 use Rattle.scan.proofs.Bytes.{le_or_lt, drop_at, within_true}
 use Rattle.tables.specs.Below.{below}
 use Rattle.tables.specs.Table.{cell, set_cell, put, Added, add_row, lies, has_name, find_name, First}
 use Rattle.tables.proofs.Cases.{add_cases, same_part_iff, find_cases, find_iff, none_iff}
-use Rattle.tables.specs.declared.Found.{Found}
-use Rattle.tables.specs.declared.Found.TheVariants.{RowAt, NoRow}
 use Rattle.index.specs.Hash.{mixed, hash_from, hash_of}
-use Rattle.index.specs.Index.{home, next_slot, free_slot, enter_row, Indexed, probed, lookup, row_stands, filled, index_test, halved, is_power, unfound, fresh_name, size_test}
+use Rattle.index.specs.Index.{home, next_slot, free_slot, enter_row, Indexed, probed, lookup, row_stands, filled, index_test, is_power, unfound, fresh_name, size_test}
 use Rattle.index.proofs.Theorems.{indexed_set, indexed_add}
 use Rattle.index.proofs.Slots.{free_here, free_on, probe_free, probe_hit, probe_on, filled_zero, filled_one}
 
@@ -44,15 +43,6 @@ module _ (src : List ℕ) (a b : ℕ) (p : Bool) (e : p ≡ lies src a b) where
       let u = within_true a (length src) b x in
       (u.0, u.1, rw (x, hash_of))
 
-module _ (src : List ℕ) (b i h o : ℕ) (inv : hash_from h (slice i b src) ≡ o) where
-  pub hash_on : (g : ℕ) → i < b → b ≤ length src → g ≡ mixed h (get_or src i 0) → hash_from g (slice (i + 1) b src) ≡ o
-  unfolding hash_from
-  hash_on g l m e = rw (e, add-one i) (rw (slice-cons i b src 0 l m) at inv)
-
-  pub hash_end : i ≡ b → h ≡ o
-  unfolding hash_from
-  hash_end e = rw (e, slice_empty b src) at inv
-
 -- slots from p on, f of them left
 module _ (ix : List ℕ) (f p : ℕ) (l : 0 < f) where
   one : f ≡ suc (f - 1)
@@ -62,19 +52,19 @@ module _ (ix : List ℕ) (f p : ℕ) (l : 0 < f) where
     pub slot_free : get_or ix p 0 ≡ 0 → p ≡ o
     slot_free h = sym (free_here ix (f - 1) p h) ∙ rw (← one) inv
 
-    pub slot_taken : (get_or ix p 0 ≡ 0 → ⊥) → (q : ℕ) → q ≡ next_slot (length ix) p → free_slot ix (f - 1) q ≡ o
-    slot_taken h q e = rw e (sym (free_on ix (f - 1) p h) ∙ rw (← one) inv)
+    pub slot_taken : (get_or ix p 0 ≡ 0 → ⊥) → (q : ℕ) → q ≡ next_slot (length ix) p → (g : ℕ) → g ≡ f - 1 → free_slot ix g q ≡ o
+    slot_taken h q e g d = rw (d, e) (sym (free_on ix (f - 1) p h) ∙ rw (← one) inv)
 
-  module _ (has : ℕ → Bool) (o : Found) (inv : probed has ix f p ≡ o) where
-    pub look_free : get_or ix p 0 ≡ 0 → NoRow ≡ o
+  module _ (has : ℕ → Bool) (o : Option ℕ) (inv : probed has ix f p ≡ o) where
+    pub look_free : get_or ix p 0 ≡ 0 → None ≡ o
     look_free h = sym (probe_free ix (f - 1) p has h) ∙ rw (← one) inv
 
     module _ (h : get_or ix p 0 ≡ 0 → ⊥) where
-      pub look_hit : has (get_or ix p 0 - 1) ≡ true → RowAt (get_or ix p 0 - 1) ≡ o
+      pub look_hit : has (get_or ix p 0 - 1) ≡ true → Some (get_or ix p 0 - 1) ≡ o
       look_hit e = sym (probe_hit ix (f - 1) p has h e) ∙ rw (← one) inv
 
-      pub look_on : has (get_or ix p 0 - 1) ≡ false → (q : ℕ) → q ≡ next_slot (length ix) p → probed has ix (f - 1) q ≡ o
-      look_on e q g = rw g (sym (probe_on ix (f - 1) p has h e) ∙ rw (← one) inv)
+      pub look_on : has (get_or ix p 0 - 1) ≡ false → (q : ℕ) → q ≡ next_slot (length ix) p → (g : ℕ) → g ≡ f - 1 → probed has ix g q ≡ o
+      look_on e q i g d = rw (d, i) (sym (probe_on ix (f - 1) p has h e) ∙ rw (← one) inv)
 
 -- no slot is left
 module _ (ix : List ℕ) (f p : ℕ) (l : f ≤ 0) where
@@ -85,7 +75,7 @@ module _ (ix : List ℕ) (f p : ℕ) (l : f ≤ 0) where
   unfolding free_slot
   slots_full o inv = rw nil at inv
 
-  pub look_end : (has : ℕ → Bool) (o : Found) → probed has ix f p ≡ o → NoRow ≡ o
+  pub look_end : (has : ℕ → Bool) (o : Option ℕ) → probed has ix f p ≡ o → None ≡ o
   unfolding probed
   look_end has o inv = rw nil at inv
 
@@ -95,7 +85,7 @@ module _ (src : List ℕ) (w k : ℕ) (t ix : List ℕ) (h : length ix ≡ 0) wh
   unfolding enter_row
   enter_nowhere r = sym (set_out ix _ (r + 1) (omega arith))
 
-  pub look_nowhere : (a b : ℕ) → NoRow ≡ lookup src w k t ix a b
+  pub look_nowhere : (a b : ℕ) → None ≡ lookup src w k t ix a b
   unfolding lookup
   look_nowhere a b = look_end ix (length ix) _ (omega arith) _ _ refl
 
@@ -127,34 +117,6 @@ count_end ix i n o inv l = let e : filled (drop i ix) ≡ 0 = ap filled (drop_of
 pub count_start : (ix : List ℕ) → 0 + filled (drop 0 ix) ≡ filled ix
 count_start ix = omega arith
 
--- a number is halved while it is even
-pub record Halves (m x : ℕ) : Type 0 where
-  pub fuel : ℕ
-  pub enough : x ≤ fuel
-  pub same : halved fuel x ≡ is_power m
-
-pub power_none : (m : ℕ) → m ≡ 0 → false ≡ is_power m
-unfolding is_power halved
-power_none m e = rw e
-
-pub power_start : (m : ℕ) → Halves m m
-unfolding is_power
-power_start m = record { fuel = m; enough = omega arith; same = refl }
-
-module _ (m x : ℕ) (H : Halves m x) (l : 0 < x) where
-  more : H.fuel ≡ suc (H.fuel - 1)
-  more = let e = H.enough in omega arith
-
-  pub power_even : x % 2 ≡ 0 → (0 < x / 2) × (x / 2 < x) × Halves m (x / 2)
-  unfolding halved
-  power_even e =
-      let d : x / 2 < x = omega arith in
-      (omega arith, d, record { fuel = H.fuel - 1; enough = let k = H.enough in omega arith; same = rw (more, eq-eqb _ _ e, halved) at H.same })
-
-  pub power_odd : (x % 2 ≡ 0 → ⊥) → eqb x 1 ≡ is_power m
-  unfolding halved
-  power_odd e = rw (more, ne_eqb _ _ e, halved) at H.same
-
 -- a token's row: marked, or new and entered, or without room
 module _ (src : List ℕ) (n : ℕ) (t ix : List ℕ) (I : Indexed src 3 0 n t ix) where
   pub token_marked : (r : ℕ) (cells : List ℕ) → cells ≡ set_cell 3 t r 2 1 → Indexed src 3 0 n cells ix
@@ -175,14 +137,14 @@ module _ (src : List ℕ) (n : ℕ) (t ix : List ℕ) (I : Indexed src 3 0 n t i
         (λ full x. let y : cells ≡ t = ap (λ (v : Added). v.cells) x in rw y I) o
 
 -- a name is new in its row: the first row of the name among all is that row
-module _ (src : List ℕ) (w k n : ℕ) (t : List ℕ) (r : ℕ) (l : r < n) (a b : ℕ) (x : a ≡ cell w t r k) (y : b ≡ cell w t r (k + 1)) (f : Found) (e : f ≡ find_name src w k n t a b) where
-  pub fresh_none : f ≡ NoRow → true ≡ fresh_name src w k t r
+module _ (src : List ℕ) (w k n : ℕ) (t : List ℕ) (r : ℕ) (l : r < n) (a b : ℕ) (x : a ≡ cell w t r k) (y : b ≡ cell w t r (k + 1)) (f : Option ℕ) (e : f ≡ find_name src w k n t a b) where
+  pub fresh_none : f ≡ None → true ≡ fresh_name src w k t r
   unfolding fresh_name
   fresh_none g =
       let none = (none_iff src w k n t a b).0 (sym e ∙ g) in
       rw (← x, ← y) (ap unfound (sym ((none_iff src w k r t a b).1 (λ q h. none q (omega arith)))))
 
-  pub fresh_found : (q : ℕ) → f ≡ RowAt q → eqb q r ≡ fresh_name src w k t r
+  pub fresh_found : (q : ℕ) → f ≡ Some q → eqb q r ≡ fresh_name src w k t r
   unfolding fresh_name has_name
   fresh_found q g = rw (← x, ← y) (go ((find_iff src w k n t a b q).0 (sym e ∙ g)))
     where
@@ -193,11 +155,11 @@ module _ (src : List ℕ) (w k n : ℕ) (t : List ℕ) (r : ℕ) (l : r < n) (a 
       go F =
           elim (dec_lt q r) [
             | yes h ↦
-                find_cases (λ (o : Found). eqb q r ≡ unfound o) src w k r t a b (λ p i u v. ne_eqb q r (λ z. omega arith))
+                find_cases (λ (o : Option ℕ). eqb q r ≡ unfound o) src w k r t a b (λ p i u v. ne_eqb q r (λ z. omega arith))
                 (λ none. absurd (false≢true (sym (none q h) ∙ F.named)))
             | no h ↦
                 let s : q ≡ r = ⊎_elim (λ i. omega arith) (λ i. absurd (false≢true (sym (F.earlier r i) ∙ itself F.named))) (le_or_lt q r) in
-                find_cases (λ (o : Found). eqb q r ≡ unfound o) src w k r t a b (λ p i u v. absurd (false≢true (sym (F.earlier p (omega arith)) ∙ u)))
+                find_cases (λ (o : Option ℕ). eqb q r ≡ unfound o) src w k r t a b (λ p i u v. absurd (false≢true (sym (F.earlier p (omega arith)) ∙ u)))
                 (λ none. eq-eqb q r s)
           ]
 

@@ -1,10 +1,10 @@
 -- Walks over the slots of an index: what each step of them tells, that every slot is met, and that taken slots are counted. Assumes nothing.
+use Rattle.std.specs.Prelude.{Some, None}
 use Rattle.std.proofs.Common.{◌≡◌, ℕ, zero, suc, ◌+◌, ◌-◌, ◌<◌, ◌≤◌, Bool, true, false, List, [], ◌∷◌, length, get_or, set, replicate, sym, refl, ap, ◌∙◌, ⊎_elim, add-zero, arith, le-ltb, lt-ltb, eq-eqb, ne_eqb}
 use mathlib.Core.Bool.{false≢true}
 use native.Mathlib.Decide.{ℕ_discrete}
 use lib.ListN.{get_or-eq_default}
 use Rattle.scan.proofs.Bytes.{le_or_lt}
-use Rattle.tables.specs.declared.Found.TheVariants.{RowAt, NoRow}
 use Rattle.index.specs.Index.{next_slot, free_slot, probed, stands, filled}
 
 -- the next slot
@@ -27,12 +27,12 @@ module _ (ix : List ℕ) (f p : ℕ) where
   free_on h = rw (ne_eqb _ _ h, free_slot)
 
   module _ (has : ℕ → Bool) where
-    pub probe_free : get_or ix p 0 ≡ 0 → probed has ix (suc f) p ≡ NoRow
+    pub probe_free : get_or ix p 0 ≡ 0 → probed has ix (suc f) p ≡ None
     unfolding probed
     probe_free h = rw (eq-eqb _ _ h, probed)
 
     module _ (h : get_or ix p 0 ≡ 0 → ⊥) where
-      pub probe_hit : has (get_or ix p 0 - 1) ≡ true → probed has ix (suc f) p ≡ RowAt (get_or ix p 0 - 1)
+      pub probe_hit : has (get_or ix p 0 - 1) ≡ true → probed has ix (suc f) p ≡ Some (get_or ix p 0 - 1)
       unfolding probed
       probe_hit e = rw (ne_eqb _ _ h, e, probed)
 

@@ -1,4 +1,5 @@
 -- An index that holds what entering the rows in order gives: a lookup is the linear search, one more row keeps it, and the test that reads the index tells it. Assumes nothing.
+use Rattle.std.specs.Prelude.{Option, Some, None}
 use Rattle.std.proofs.Common.{subst, ◌≡◌, ℕ, zero, suc, ◌+◌, ◌-◌, ◌*◌, ◌<◌, ◌≤◌, Bool, true, false, ◌&&◌, eqb, leb, ◌↔◌, List, [], ◌∷◌, length, get_or, set, replicate, sym, refl, ap, ◌∙◌, ⊎_elim, mod-lt, add-one, arith, length-set, get_or-set_other, get_or-set_same, ext_get_or, eq-eqb, eqb-true, le-leb}
 use mathlib.Core.Bool.{false≢true}
 use native.Mathlib.Decide.{ℕ_discrete, dec_lt}
@@ -7,8 +8,6 @@ use lib.ListN.{length-replicate, get_or-replicate, get_or-eq_default}
 use Rattle.scan.proofs.Bytes.{le_or_lt, within_yes}
 use Rattle.tables.specs.Below.{below}
 use Rattle.tables.specs.Table.{cell, put, zeroed, same_part, has_name, find_name}
-use Rattle.tables.specs.declared.Found.{Found}
-use Rattle.tables.specs.declared.Found.TheVariants.{RowAt, NoRow}
 use Rattle.tables.proofs.Cases.{same_part_iff, find_cases}
 use Rattle.tables.proofs.Below.{below_each, each_below}
 use Rattle.tables.proofs.Rows.{row_below, cell_old}
@@ -26,16 +25,16 @@ same_hash src a b c d h =
     rw (within_yes a (length src) b x.0 x.1, within_yes c (length src) d x.2 x.3, hash_of) (ap (hash_from 5381) x.4)
 
 -- a row that stands on the way, and is the first to pass the test, is what the walk answers
-pub probe_row : (has : ℕ → Bool) (ix : List ℕ) (r : ℕ) → has r ≡ true → ((q : ℕ) → q < r → has q ≡ false) → (f p : ℕ) → stands ix r f p ≡ true → probed has ix f p ≡ RowAt r
+pub probe_row : (has : ℕ → Bool) (ix : List ℕ) (r : ℕ) → has r ≡ true → ((q : ℕ) → q < r → has q ≡ false) → (f p : ℕ) → stands ix r f p ≡ true → probed has ix f p ≡ Some r
 unfolding stands
 probe_row has ix r h k zero p s = absurd (false≢true s)
 probe_row has ix r h k (suc f) p s =
-    stands_cases ix f p r (probed has ix (suc f) p ≡ RowAt r) s
-    (λ e. let q : get_or ix p 0 - 1 ≡ r = omega arith in probe_hit ix f p has (λ z. omega arith) (rw q h) ∙ ap RowAt q)
+    stands_cases ix f p r (probed has ix (suc f) p ≡ Some r) s
+    (λ e. let q : get_or ix p 0 - 1 ≡ r = omega arith in probe_hit ix f p has (λ z. omega arith) (rw q h) ∙ ap Some q)
     (λ z l t. probe_on ix f p has z (k (get_or ix p 0 - 1) (let e = z in omega arith)) ∙ probe_row has ix r h k f (next_slot (length ix) p) t)
 
 -- where no row passes, the walk answers that
-pub probe_none : (has : ℕ → Bool) (ix : List ℕ) (n : ℕ) → ((p : ℕ) → get_or ix p 0 ≤ n) → ((q : ℕ) → q < n → has q ≡ false) → (f p : ℕ) → probed has ix f p ≡ NoRow
+pub probe_none : (has : ℕ → Bool) (ix : List ℕ) (n : ℕ) → ((p : ℕ) → get_or ix p 0 ≤ n) → ((q : ℕ) → q < n → has q ≡ false) → (f p : ℕ) → probed has ix f p ≡ None
 unfolding probed
 probe_none has ix n b k zero p = refl
 probe_none has ix n b k (suc f) p =
@@ -47,14 +46,14 @@ probe_none has ix n b k (suc f) p =
 module _ (src : List ℕ) (w k : ℕ) (t : List ℕ) where
   pub lookup_found : (n : ℕ) (ix : List ℕ) → AllStand src w k n t ix → (a b : ℕ) → lookup src w k t ix a b ≡ find_name src w k n t a b
   unfolding lookup has_name row_stands
-  lookup_found n ix E a b = find_cases (λ (o : Found). lookup src w k t ix a b ≡ o) src w k n t a b there none
+  lookup_found n ix E a b = find_cases (λ (o : Option ℕ). lookup src w k t ix a b ≡ o) src w k n t a b there none
     where
-      there : (r : ℕ) → r < n → has_name src w k t a b r ≡ true → ((q : ℕ) → q < r → has_name src w k t a b q ≡ false) → lookup src w k t ix a b ≡ RowAt r
+      there : (r : ℕ) → r < n → has_name src w k t a b r ≡ true → ((q : ℕ) → q < r → has_name src w k t a b q ≡ false) → lookup src w k t ix a b ≡ Some r
       there r l h before =
           let e : home src (length ix) a b ≡ home src (length ix) (cell w t r k) (cell w t r (k + 1)) = rw (same_hash src (cell w t r k) (cell w t r (k + 1)) a b h) in
           rw e (probe_row (has_name src w k t a b) ix r h before (length ix) _ (E.each r l))
 
-      none : ((r : ℕ) → r < n → has_name src w k t a b r ≡ false) → lookup src w k t ix a b ≡ NoRow
+      none : ((r : ℕ) → r < n → has_name src w k t a b r ≡ false) → lookup src w k t ix a b ≡ None
       none h = probe_none (has_name src w k t a b) ix n E.bound h (length ix) _
 
 -- ---- one more row

@@ -1,11 +1,7 @@
 -- Document 02, "An index beside the names": slots, "each 0 or a row number plus one". The rows of a table are w wide, and their names stand in the cells k and k + 1.
-use Rattle.std.specs.Prelude.{◌≡◌, ℕ, zero, suc, ◌+◌, ◌-◌, ◌*◌, ◌/◌, ◌%◌, ◌^◌, ◌<◌, ◌≤◌, min, Bool, true, false, ◌&&◌, List, [], ◌∷◌, length, replicate, ◌==◌, nat_eq, nat_le, nat_lt, slice_index, slice_set}
+use Rattle.std.specs.Prelude.{◌≡◌, ℕ, zero, suc, ◌+◌, ◌-◌, ◌*◌, ◌/◌, ◌%◌, ◌^◌, ◌<◌, ◌≤◌, min, Bool, true, false, ◌&&◌, List, [], ◌∷◌, length, replicate, ◌==◌, nat_eq, nat_le, nat_lt, slice_index, slice_set, Option, Some, None}
 use Rattle.tables.specs.Below.{below}
 use Rattle.tables.specs.Table.{cell, has_name, find_name}
-use Rattle.tables.specs.declared.Found.{Found}
-use Rattle.tables.specs.declared.Found.TheVariants.{RowAt, NoRow}
-use Rattle.tables.specs.declared.Entered.{Entered}
-use Rattle.tables.specs.declared.Entered.TheVariants.{Rows, Full}
 use Rattle.index.specs.Hash.{hash_of}
 
 -- "The home slot is the remainder by the slots"
@@ -35,15 +31,15 @@ pub record Indexed (src : List ℕ) (w k n : ℕ) (t ix : List ℕ) : Type 0 whe
   pub holds : ix ≡ entries src w k t (length ix) n
 
 -- a lookup: f slots from p on, up to a row that passes the test or a free slot
-unfoldable pub probed : (ℕ → Bool) → List ℕ → ℕ → ℕ → Found
-probed has ix zero p = NoRow
+unfoldable pub probed : (ℕ → Bool) → List ℕ → ℕ → ℕ → Option ℕ
+probed has ix zero p = None
 probed has ix (suc f) p =
     elim (slice_index ix p == 0) [
-      | true ↦ NoRow
-      | false ↦ elim (has (slice_index ix p - 1)) [ true ↦ RowAt (slice_index ix p - 1) | false ↦ probed has ix f (next_slot (length ix) p) ]
+      | true ↦ None
+      | false ↦ elim (has (slice_index ix p - 1)) [ true ↦ Some (slice_index ix p - 1) | false ↦ probed has ix f (next_slot (length ix) p) ]
     ]
 
-unfoldable pub lookup : List ℕ → ℕ → ℕ → List ℕ → List ℕ → ℕ → ℕ → Found
+unfoldable pub lookup : List ℕ → ℕ → ℕ → List ℕ → List ℕ → ℕ → ℕ → Option ℕ
 lookup src w k t ix a b = probed (has_name src w k t a b) ix (length ix) (home src (length ix) a b)
 
 -- ---- the same as a test that needs no second index
@@ -96,14 +92,14 @@ pub record AllStand (src : List ℕ) (w k n : ℕ) (t ix : List ℕ) : Type 0 wh
   pub taken : filled ix ≡ n
 
 -- how many rows there are after a token was entered
-abbrev pub rows_now : ℕ → Entered → ℕ
-rows_now n (Rows m) = m
-rows_now n Full = n
+abbrev pub rows_now : ℕ → Option ℕ → ℕ
+rows_now n (Some m) = m
+rows_now n None = n
 
 -- "names in 1 and in 7 are pairwise different": no row before row r has its name
-abbrev pub unfound : Found → Bool
-unfound (RowAt r) = false
-unfound NoRow = true
+abbrev pub unfound : Option ℕ → Bool
+unfound (Some r) = false
+unfound None = true
 
 unfoldable pub fresh_name : List ℕ → ℕ → ℕ → List ℕ → ℕ → Bool
 fresh_name src w k t r = unfound (find_name src w k r t (cell w t r k) (cell w t r (k + 1)))

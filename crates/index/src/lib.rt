@@ -9,8 +9,6 @@ ghost use Rattle.tables.specs.Table.{cell, find_name, Inserted, enter_token, zer
 ghost use Rattle.index.specs.Hash.{mixed, hash_of};
 ghost use Rattle.index.specs.Index.{home, next_slot, free_slot, open_slot, row_slot, block, Taken, Skips, enter_row, entries, Indexed, lookup, row_stands, filled, index_test, is_power, size_test, fresh_name, rows_now};
 
-use tables::{Entered, Found};
-
 fn double(x: u32) -> u32
     ensures { result ≡ (x + x) % 4294967296 }
 {
@@ -29,17 +27,12 @@ pub fn mix(h: u32, b: u8) -> u32
 pub fn hash_part(src: &[u8], a: u32, b: u32) -> u32
     ensures { result ≡ hash_of src.now a b }
 {
-    let mut h = 5381;
     if !tables::is_place(src, a, b) {
-        return h;
+        return 5381;
     }
-    let end = b as usize;
-    let mut i = a as usize;
-    while i < end {
-        h = mix(h, src[i]);
-        i += 1;
-    }
-    h
+    src[a as usize..b as usize]
+        .iter()
+        .fold(5381, |h, x| mix(h, *x))
 }
 
 // The home slot among `m`.
@@ -68,13 +61,11 @@ pub fn free_slot(ix: &[u32], from: usize) -> usize
 {
     let m = ix.len();
     let mut p = from;
-    let mut left = m;
-    while 0 < left {
+    for _ in 0..m {
         if ix[p] == 0 {
             return p;
         }
         p = next_slot(m, p);
-        left -= 1;
     }
     m
 }
@@ -100,36 +91,34 @@ pub fn enter_row(src: &[u8], t: &[u32], w: u32, k: u8, r: u32, ix: &mut [u32])
 }
 
 // The slots from the name's home on, up to a row of the name or a free slot.
-pub fn probe(src: &[u8], t: &[u32], w: u32, k: u8, ix: &[u32], a: u32, b: u32) -> Found
+pub fn probe(src: &[u8], t: &[u32], w: u32, k: u8, ix: &[u32], a: u32, b: u32) -> Option<u32>
     ensures { result ≡ lookup src.now w k t.now ix.now a b }
 {
     let m = ix.len();
     if m == 0 {
-        return Found::NoRow;
+        return None;
     }
     let first = k as u32;
     let second = first + 1;
     let mut p = home_slot(src, m, a, b);
-    let mut left = m;
-    while 0 < left {
+    for _ in 0..m {
         let v = ix[p];
         if v == 0 {
-            return Found::NoRow;
+            return None;
         }
         let r = v - 1;
         let c = tables::cell(t, w, r, first);
         let d = tables::cell(t, w, r, second);
         if tables::same_part(src, c, d, a, b) {
-            return Found::RowAt(r);
+            return Some(r);
         }
         p = next_slot(m, p);
-        left -= 1;
     }
-    Found::NoRow
+    None
 }
 
 // The first of the `n` rows that has the name: by the index, or by the search where it has fewer slots than rows.
-pub fn find(src: &[u8], t: &[u32], w: u32, k: u8, n: u32, ix: &[u32], a: u32, b: u32) -> Found
+pub fn find(src: &[u8], t: &[u32], w: u32, k: u8, n: u32, ix: &[u32], a: u32, b: u32) -> Option<u32>
     requires { Indexed src.now w k n t.now ix.now }
     ensures { result ≡ find_name src.now w k n t.now a b }
 {
@@ -139,7 +128,7 @@ pub fn find(src: &[u8], t: &[u32], w: u32, k: u8, n: u32, ix: &[u32], a: u32, b:
     probe(src, t, w, k, ix, a, b)
 }
 
-// The token is in table 1, and marked as declared if it is; a new row is entered.
+// The token is in table 1, and marked as declared if it is; a new row is entered. How many rows there are now; none where it found no room.
 pub fn enter_token(
     src: &[u8],
     t: &mut [u32],
@@ -148,26 +137,26 @@ pub fn enter_token(
     from: u32,
     to: u32,
     declared: bool,
-) -> Entered
+) -> Option<u32>
     requires { Indexed src.now (width tokens) 0 n t.old ix.old }
     ensures is { ◌≡◌ {A = Inserted} (record { entered = result; cells = t.new }) (enter_token src.now n from to declared t.old) }
     ensures indexed { Indexed src.now (width tokens) 0 (rows_now n result) t.new ix.new }
 {
     match find(src, t, tables::TOKEN_WIDTH, tables::NAME, n, ix, from, to) {
-        Found::RowAt(r) => {
+        Some(r) => {
             if declared {
                 tables::set_cell(t, tables::TOKEN_WIDTH, r, tables::DECLARED, 1);
             }
-            Entered::Rows(n)
+            Some(n)
         }
-        Found::NoRow => {
+        None => {
             let mark = if declared { 1 } else { 0 };
             let row = [from, to, mark];
             if tables::add_row(t, n, &row) {
                 enter_row(src, t, tables::TOKEN_WIDTH, tables::NAME, n, ix);
-                Entered::Rows(n + 1)
+                Some(n + 1)
             } else {
-                Entered::Full
+                None
             }
         }
     }
@@ -218,8 +207,7 @@ fn open_within(ix: &[u32], r: u32, p: usize, end: usize) -> usize
     ensures passed { (p ≤ result) × (result ≤ end) × Taken ix.now r p result }
     ensures found { result < end → Taken ix.now r result (result + 1) → ⊥ }
 {
-    let mut q = p;
-    while q < end {
+    for q in p..end {
         let v = ix[q];
         if v == 0 {
             return q;
@@ -227,9 +215,8 @@ fn open_within(ix: &[u32], r: u32, p: usize, end: usize) -> usize
         if r < v {
             return q;
         }
-        q += 1;
     }
-    q
+    end
 }
 
 // The first slot from slot `from` on that no row before row `r` has; as many as there are slots, where they have all.
@@ -240,6 +227,7 @@ pub fn open_slot(ix: &[u32], r: u32, skips: &[u16], from: usize) -> usize
     let m = ix.len();
     let mut p = from;
     let mut left = m;
+    // by hand: a turn passes as many slots as its run has
     while 0 < left {
         let start = known_end(skips, p);
         let end = block_end(m, start);
@@ -343,11 +331,9 @@ fn enter_all(src: &[u8], t: &[u32], w: u32, k: u8, n: u32, ix: &mut [u32], skips
     if ix.len() == 0 {
         return;
     }
-    let mut r = 0;
-    while r < n {
+    for r in 0..n {
         let z = row_slot(src, t, w, k, r, ix, skips);
         take_slot(ix, z, r + 1);
-        r += 1;
     }
 }
 
@@ -388,12 +374,10 @@ pub fn count_filled(ix: &[u32]) -> usize
     ensures { result ≡ filled ix.now }
 {
     let mut n = 0;
-    let mut i = 0;
-    while i < ix.len() {
-        if ix[i] != 0 {
+    for v in ix {
+        if *v != 0 {
             n += 1;
         }
-        i += 1;
     }
     n
 }
@@ -403,8 +387,7 @@ fn all_stand(src: &[u8], t: &[u32], w: u32, k: u8, n: u32, ix: &[u32], skips: &m
     requires { (n ≤ length ix.now) × Skips ix.now 0 skips.old }
     ensures { result ≡ below n (row_stands src.now w k t.now ix.now) }
 {
-    let mut r = 0;
-    while r < n {
+    for r in 0..n {
         let z = row_slot(src, t, w, k, r, ix, skips);
         if ix.len() <= z {
             return false;
@@ -412,7 +395,6 @@ fn all_stand(src: &[u8], t: &[u32], w: u32, k: u8, n: u32, ix: &[u32], skips: &m
         if ix[z] != r + 1 {
             return false;
         }
-        r += 1;
     }
     true
 }
@@ -458,8 +440,8 @@ pub fn name_fresh(src: &[u8], t: &[u32], w: u32, k: u8, n: u32, ix: &[u32], r: u
     let a = tables::cell(t, w, r, first);
     let b = tables::cell(t, w, r, second);
     match find(src, t, w, k, n, ix, a, b) {
-        Found::RowAt(q) => q == r,
-        Found::NoRow => true,
+        Some(q) => q == r,
+        None => true,
     }
 }
 
@@ -467,14 +449,7 @@ pub fn name_fresh(src: &[u8], t: &[u32], w: u32, k: u8, n: u32, ix: &[u32], r: u
 pub fn is_power(m: usize) -> bool
     ensures { result ≡ is_power m }
 {
-    if m == 0 {
-        return false;
-    }
-    let mut x = m;
-    while x % 2 == 0 {
-        x = x / 2;
-    }
-    x == 1
+    m.is_power_of_two()
 }
 
 // How many rows a table of `n` cells has room for, `w` to a row.

@@ -1,11 +1,8 @@
 -- The block of docs/FORMAT.md, byte by byte: `%%s:;` of kind 1, as a writer in another language gives it (embed/catalogue.py).
-use Rattle.std.specs.Prelude.{ℕ, ◌≡◌, refl, List, [], ◌∷◌, ◌++◌, replicate}
+use Rattle.std.specs.Prelude.{ℕ, ◌≡◌, refl, List, [], ◌∷◌, ◌++◌, replicate, Some, None}
 use Rattle.grammar.specs.declared.Counts.{Counts}
 use Rattle.grammar.specs.declared.PosixCounts.{PosixCounts}
 use Rattle.grammar.specs.declared.Singles.{Singles}
-use Rattle.grammar.specs.declared.Part.TheVariants.{Absent, At}
-use Rattle.grammar.specs.declared.Expect.TheVariants.{NotExpected}
-use Rattle.grammar.specs.declared.Param.TheVariants.{NoParam}
 use Rattle.grammar.specs.Sound.{AllTables}
 use Rattle.blocks.specs.Blocks.{bytes_of_all, content_at, put_content, sums_from, sums_of, seal_at, seal_block, seal_all, blocks_of}
 use Rattle.catalogue.specs.Catalogue.{head_cells, row_cells, content}
@@ -22,7 +19,7 @@ abbrev posix : PosixCounts
 posix = record { n = 0 ∷ 0 ∷ 0 ∷ [] }
 
 abbrev singles : Singles
-singles = record { start = At 2 3; expect = NotExpected; expect_rr = NotExpected; param = NoParam; generics = Absent; programs = Absent }
+singles = record { start = Some (2, 3); expect = None; expect_rr = None; param = None; generics = None; programs = None }
 
 abbrev tables : AllTables
 tables = record { t1 = []; t2 = []; t3 = []; t4 = []; t5 = []; t6 = []; t7 = 2 ∷ 3 ∷ replicate 8 0; t8 = 0 ∷ 4 ∷ 4 ∷ replicate 10 0; t9 = []; t10 = []; t15 = []; t16 = []; t17 = [] }

@@ -1,5 +1,5 @@
 -- Document 01, "Small inputs": "P is proved". Load, and read and validation that it is made of, as one table under one statement; each expected row is the crate's.
-use Rattle.std.specs.Prelude.{ℕ, ◌≡◌, refl, Bool, true, false, List, [], ◌∷◌, ◌++◌, take, replicate}
+use Rattle.std.specs.Prelude.{ℕ, ◌≡◌, refl, Bool, true, false, List, [], ◌∷◌, ◌++◌, take, replicate, Ok, Err, Result}
 use Rattle.scan.specs.Scan.{is_at, begins, starts_at, is_letter, is_digit, is_eol, in_class, run_end, run_end_at}
 use Rattle.scan.specs.Lines.{lines_here}
 use Rattle.scan.specs.Loop.{turns}
@@ -36,12 +36,10 @@ use Rattle.declarations.specs.Declarations.{decl_step, decl_turn, decl_run, decl
 use Rattle.items.specs.Items.{first_mark, sort_at, token_symbol, quoted_rows, quoted_item, prec_name, prec_item as item-precItem, may_end, after_action, action_item, may_follow, empty_item, symbol_kind, bare_item, end_production, bar_item, end_item, item_step, item_turn, item_list}
 use Rattle.rules.specs.Rules.{pass_mark, first_start, colon_type, arrow_type, rule_type, enter_rule, named_head, rule_head, rule_body, rule_step, next_rule, rules_turn, rules_run, rules_all, programs_from}
 use Rattle.sections.specs.Sections.{sizes_fit, admitted, rest_all, sections_all, attempted}
-use Rattle.reader.specs.Read.{Result, ended_at, read_names, read_all}
+use Rattle.reader.specs.Read.{ReadResult, ended_at, read_names, read_all}
 use Rattle.grammar.specs.declared.Refusal.{Refusal}
 use Rattle.grammar.specs.Refusals.{of_number, repeat_of}
 use Rattle.grammar.specs.declared.Refusal.TheVariants.{Fault, Repeated, NoRoom, TooLong, BadKind, BadIndex}
-use Rattle.reader.specs.declared.Verdict.{Verdict}
-use Rattle.reader.specs.declared.Verdict.TheVariants.{Accepted, Rejected}
 use Rattle.inputs.specs.Reads.{Input, row, filled, rows_of_ten, numbers}
 use Rattle.sound.specs.Test.{zeros, zeros_from, given_test, action_test, token_test, prec_test, name_test, epp_test, kind_test, rule_test, production_test, repeat_test, table_test, before, range_test, ranges_test, singles_test, index_right, indexes_test, known_test, tables_test, sound_test}
 use Rattle.productions.specs.Cells.{push_production, prec_of, production_at}
@@ -68,16 +66,16 @@ full TooLong = false
 full BadKind = false
 full BadIndex = false
 
-abbrev is_full : Verdict → Bool
-is_full (Accepted i) = true
-is_full (Rejected f) = full f
+abbrev is_full : Result ℕ Refusal → Bool
+is_full (Ok i) = true
+is_full (Err f) = full f
 
 abbrev if_full : Bool → List ℕ → List ℕ
 if_full true v = v
 if_full false v = []
 
 -- load's number and place; the read's, counts, rows, singles and what kind 4 has; then validate's number and place
-abbrev told : List ℕ → Result → List ℕ
+abbrev told : List ℕ → ReadResult → List ℕ
 told src o =
     take 3 (judgement_numbers (judged_read src o).answer) ++ (numbers o ++ if_full (is_full o.answer) (validity_numbers (validity src o.counts o.singles (ten_of o.tables) o.indexes)))
 

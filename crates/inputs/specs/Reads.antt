@@ -38,7 +38,7 @@ use Rattle.declarations.specs.Declarations.{decl_step, decl_turn, decl_run, decl
 use Rattle.items.specs.Items.{first_mark, sort_at, token_symbol, quoted_rows, quoted_item, prec_name, prec_item as item-precItem, may_end, after_action, action_item, may_follow, empty_item, symbol_kind, bare_item, end_production, bar_item, end_item, item_step, item_turn, item_list}
 use Rattle.rules.specs.Rules.{pass_mark, first_start, colon_type, arrow_type, rule_type, enter_rule, named_head, rule_head, rule_body, rule_step, next_rule, rules_turn, rules_run, rules_all, programs_from}
 use Rattle.sections.specs.Sections.{sizes_fit, admitted, rest_all, sections_all, attempted}
-use Rattle.reader.specs.Read.{Result, verdict_numbers, ended_at, read_names, read_all}
+use Rattle.reader.specs.Read.{ReadResult, verdict_numbers, ended_at, read_names, read_all}
 
 -- a kind and a source
 pub record Input : Type 0 where
@@ -60,19 +60,19 @@ abbrev slots : Indexes
 slots = record { tokens = replicate 32 7; rules = replicate 16 7 }
 
 -- the count of a table of kind 4, and the rows of the table of index k
-abbrev posix_count : Result → ℕ → ℕ
+abbrev posix_count : ReadResult → ℕ → ℕ
 posix_count o k = get_or o.posix.n k 0
 
-unfoldable pub filled : Result → ℕ → ℕ → List ℕ
+unfoldable pub filled : ReadResult → ℕ → ℕ → List ℕ
 filled o n k = take (n * width k) (cells_of o.tables k)
 
 -- the rows of the ten tables
-unfoldable pub rows_of_ten : Result → List ℕ → List ℕ
+unfoldable pub rows_of_ten : ReadResult → List ℕ → List ℕ
 rows_of_ten o [] = []
 rows_of_ten o (k ∷ ks) = filled o (get_or o.counts.n k 0) k ++ rows_of_ten o ks
 
 -- number and place, the ten counts, the rows of the ten tables, the singles; then the counts of tables 15 to 17 and their rows
-unfoldable pub numbers : Result → List ℕ
+unfoldable pub numbers : ReadResult → List ℕ
 numbers o =
     take 3 (verdict_numbers o.answer) ++ (o.counts.n
     ++ (rows_of_ten o (0 ∷ 1 ∷ 2 ∷ 3 ∷ 4 ∷ 5 ∷ 6 ∷ 7 ∷ 8 ∷ 9 ∷ [])

@@ -1,11 +1,11 @@
 -- Document 01, "Readings to be ruled out": "A dotted rule name accepted in a production." Assumes nothing.
+use Rattle.std.specs.Prelude.{Result, Ok, Err, Bool}
 use Prim.Native.Nat.{ℕ, ◌≤◌, ◌<◌}
 use mathlib.Core.Path.{◌≡◌, refl}
 use mathlib.Core.List.{List}
 use mathlib.Core.Bool.{false}
 use lib.ListN.{get_or}
-use Rattle.words.specs.declared.Token.{Token}
-use Rattle.words.specs.declared.Token.TheVariants.{Found, NoToken}
+use Rattle.scan.specs.declared.Place.{Place}
 use Rattle.words.specs.Words.{is_quote, token_at}
 use Rattle.words.proofs.Meaning.{bare_is, no_dot}
 use Rattle.grammar.specs.declared.State.{State}
@@ -23,6 +23,6 @@ pub bare_plain : (src : List ℕ) (s : State) (d : Production) (t1 t9 : List ℕ
 unfolding bare_item
 bare_plain src s d t1 t9 u taken i h l e = go (token_at src s.at) refl taken l
   where
-    go : (t : Token) → token_at src s.at ≡ t → ((f : Refusal) → (bare_found t src s d t1 t9).answer ≡ Refused f → ⊥) → i < (bare_found t src s d t1 t9).draft.to → ⊥
-    go (Found p end b) w n m = no_dot src s.at end i (bare_is src s.at end p b u w) h m e
-    go (NoToken k) w n m = n (Fault IllegalString k) refl
+    go : (t : Result (Place × ℕ × Bool) ℕ) → token_at src s.at ≡ t → ((f : Refusal) → (bare_found t src s d t1 t9).answer ≡ Refused f → ⊥) → i < (bare_found t src s d t1 t9).draft.to → ⊥
+    go (Ok (p, end, b)) w n m = no_dot src s.at end i (bare_is src s.at end p b u w) h m e
+    go (Err k) w n m = n (Fault IllegalString k) refl

@@ -1,4 +1,5 @@
 -- Each item of a production, and the items of a rule, keep soundness so far, whatever their answer. Assumes nothing.
+use Rattle.std.specs.Prelude.{Option, Some, None, Result, Ok, Err}
 use Prim.Native.Nat.{ℕ, suc, ◌+◌, ◌-◌, ◌≤◌, ◌<◌}
 use mathlib.Core.Path.{◌≡◌, refl, sym, ◌∙◌}
 use mathlib.Core.List.{List}
@@ -10,18 +11,11 @@ use lib.ListN.{length, get_or}
 use lib.Seq.{get_or-set_other}
 use Rattle.scan.proofs.Bytes.{on_test}
 use Rattle.scan.proofs.Loop.{Either, turns_keep, turns_end}
-use Rattle.words.specs.declared.Token.{Token}
-use Rattle.words.specs.declared.Token.TheVariants.{Found, NoToken}
+use Rattle.scan.specs.declared.Place.{Place}
 use Rattle.words.specs.Words.{token_at, Tokened}
 use Rattle.words.proofs.Words.{token_placed}
-use Rattle.texts.specs.declared.Action.{Action}
-use Rattle.texts.specs.declared.Action.TheVariants.{Body, OpenAction}
 use Rattle.texts.specs.Action.{action_at, Acted}
 use Rattle.texts.proofs.Laws.{action_placed}
-use Rattle.tables.specs.declared.Found.{Found as Row}
-use Rattle.tables.specs.declared.Found.TheVariants.{RowAt, NoRow}
-use Rattle.tables.specs.declared.Entered.{Entered}
-use Rattle.tables.specs.declared.Entered.TheVariants.{Rows, Full}
 use Rattle.tables.specs.Table.{Added, add_row, flag, enter_token, cell, find_name}
 use Rattle.tables.specs.Layout.{tokens, rules, productions, symbols, declared, width}
 use Rattle.tables.proofs.Cases.{add_cases}
@@ -29,8 +23,6 @@ use Rattle.grammar.specs.declared.State.{State}
 use Rattle.grammar.specs.declared.Refusal.{Refusal}
 use Rattle.grammar.specs.declared.Answer.{Answer}
 use Rattle.grammar.specs.declared.Answer.TheVariants.{Going, Done, Refused}
-use Rattle.grammar.specs.declared.Gap.{Gap}
-use Rattle.grammar.specs.declared.Gap.TheVariants.{GapTo, GapRefused}
 use Rattle.grammar.specs.Cells.{symbol_cells, token_cells}
 use Rattle.grammar.specs.State.{Out1, Out2, Passed, Onward, count, with_at, gap_at, Gapped, pushed, push_row, entered, enter_step, past, past_gap, pass_on}
 use Rattle.grammar.specs.Sound.{AllTables, set_tab, Given, GivenAction, Far}
@@ -39,10 +31,6 @@ use Rattle.grammar.proofs.Steps.{gap_onward, stays, refused_stays}
 use Rattle.grammar.proofs.Counting.{count_other}
 use Rattle.grammar.proofs.Touch.{pass_counts}
 use Rattle.grammar.proofs.Kept.{gapped, Held, Held2, push_held, enter_held, pass_far}
-use Rattle.productions.specs.declared.Prec.{Prec}
-use Rattle.productions.specs.declared.Prec.TheVariants.{NoPrec, PrecAt}
-use Rattle.productions.specs.declared.Act.{Act}
-use Rattle.productions.specs.declared.Act.TheVariants.{NoAction, ActionAt}
 use Rattle.productions.specs.declared.Production.{Production}
 use Rattle.productions.specs.Cells.{prec_cells, action_cells, production_cells, push_production}
 use Rattle.items.specs.declared.Sort.{Sort}
@@ -108,9 +96,9 @@ quiet_enter : (src : List ℕ) (s : State) (a b : ℕ) (d : Bool) (t : List ℕ)
 unfolding enter_step
 quiet_enter src s a b d t = go (enter_token src (count s tokens) a b d t).entered (enter_token src (count s tokens) a b d t).cells
   where
-    go : (q : Entered) (x : List ℕ) → Quiet s (entered q s (token_cells a b (flag d)) x).answer (entered q s (token_cells a b (flag d)) x).state
-    go (Rows m) x = record { rules = get_or-set_other s.counts.n tokens rules m 0 (λ e. omega arith); undone = going_undone }
-    go Full x = record { rules = refl; undone = refused_undone _ }
+    go : (q : Option ℕ) (x : List ℕ) → Quiet s (entered q s (token_cells a b (flag d)) x).answer (entered q s (token_cells a b (flag d)) x).state
+    go (Some m) x = record { rules = get_or-set_other s.counts.n tokens rules m 0 (λ e. omega arith); undone = going_undone }
+    go None x = record { rules = refl; undone = refused_undone _ }
 
 -- spacing behind a step: where it comes to stand, what it leaves
 module _ (src : List ℕ) (j : ℕ) (s : State) where
@@ -118,9 +106,9 @@ module _ (src : List ℕ) (j : ℕ) (s : State) where
   unfolding past_gap
   pass_onward Going h = go (gap_at s.kind true src j) (gapped s.kind true src j h)
     where
-      go : (g : Gap) → Gapped src j g → Onward src j s.at (past false g s).answer (past false g s).state.at
-      go (GapTo i n) x = gap_onward src j s.at i n Going (GapTo i n) x refl
-      go (GapRefused f) x = refused_stays src j s.at f
+      go : (g : Result (ℕ × ℕ) Refusal) → Gapped src j g → Onward src j s.at (past false g s).answer (past false g s).state.at
+      go (Ok (i, n)) x = gap_onward src j s.at i n Going (Ok (i, n)) x refl
+      go (Err f) x = refused_stays src j s.at f
   pass_onward Done h = stays src j s.at Done (λ e. going_undone (sym e))
   pass_onward (Refused f) h = refused_stays src j s.at f
 
@@ -133,9 +121,9 @@ module _ (src : List ℕ) (j : ℕ) (s : State) where
   unfolding past_gap
   pass_undone Going h = go (gap_at s.kind true src j)
     where
-      go : (g : Gap) → (past false g s).answer ≡ Done → ⊥
-      go (GapTo i n) = going_undone
-      go (GapRefused f) = refused_undone f
+      go : (g : Result (ℕ × ℕ) Refusal) → (past false g s).answer ≡ Done → ⊥
+      go (Ok (i, n)) = going_undone
+      go (Err f) = refused_undone f
   pass_undone Done h = h
   pass_undone (Refused f) h = h
 
@@ -177,9 +165,9 @@ kind_listed : (src : List ℕ) (n : ℕ) (t1 : List ℕ) (from to : ℕ) → (1 
 unfolding symbol_kind
 kind_listed src n t1 from to = go (find_name src (width tokens) 0 n t1 from to)
   where
-    go : (r : Row) → (1 ≤ kind_found r t1) × (kind_found r t1 ≤ 2)
-    go (RowAt r) = on_test (λ (k : ℕ). (1 ≤ k) × (k ≤ 2)) (eqb (cell (width tokens) t1 r declared) 1) 2 1 (λ e. (omega arith, omega arith)) (λ e. (omega arith, omega arith))
-    go NoRow = (omega arith, omega arith)
+    go : (r : Option ℕ) → (1 ≤ kind_found r t1) × (kind_found r t1 ≤ 2)
+    go (Some r) = on_test (λ (k : ℕ). (1 ≤ k) × (k ≤ 2)) (eqb (cell (width tokens) t1 r declared) 1) 2 1 (λ e. (omega arith, omega arith)) (λ e. (omega arith, omega arith))
+    go None = (omega arith, omega arith)
 
 -- a quoted symbol's rows
 pub record Rowed (src : List ℕ) (done : ℕ) (T : AllTables) (s : State) (o : Out2) : Type 0 where
@@ -209,33 +197,33 @@ module _ {src : List ℕ} {done : ℕ} {s : State} {T : AllTables} {d : Producti
   unfolding quoted_rows
   quoted_rows_far from to end p h k = go (gap_at s.kind true src end) (gapped s.kind true src end k)
     where
-      go : (g : Gap) → Gapped src end g → Item2 src done T end (quoted_gap g src s d from to end T.t1 T.t9)
-      go (GapTo i n) y =
+      go : (g : Result (ℕ × ℕ) Refusal) → Gapped src end g → Item2 src done T end (quoted_gap g src s d from to end T.t1 T.t9)
+      go (Ok (i, n)) y =
           let b = y.0 in
           let r = token_symbol_far (far_at f i (omega arith) y.1) from to p in
           let e = r.held.stays in
           record { far = r.held.far; draft = draft_on (draft_to x end h k) (token_symbol src (with_at s i) from to T.t1 T.t9).state (omega arith) r.quiet.rules; undone = r.quiet.undone; beyond = λ w. omega arith }
-      go (GapRefused e) y = item_refused end e f x
+      go (Err e) y = item_refused end e f x
 
   pub quoted_far : Item2 src done T (s.at + 1) (quoted_item src s d T.t1 T.t9)
   unfolding quoted_item
   quoted_far = go (token_at src s.at) (token_placed src s.at (token_at src s.at) refl).1
     where
-      go : (t : Token) → Tokened src s.at t → Item2 src done T (s.at + 1) (quoted_found t src s d T.t1 T.t9)
-      go (Found p end q) y =
+      go : (t : Result (Place × ℕ × Bool) ℕ) → Tokened src s.at t → Item2 src done T (s.at + 1) (quoted_found t src s d T.t1 T.t9)
+      go (Ok (p, end, q)) y =
           let a = y.0 in
           let b = y.1 in
           let c = y.2 in
           item_sooner (s.at + 1) (omega arith) (quoted_rows_far p.from p.to end (record { onward = omega arith; inside = omega arith }) (omega arith) y.3)
-      go (NoToken k) y = item_refused (s.at + 1) _ f x
+      go (Err k) y = item_refused (s.at + 1) _ f x
 
   -- `%prec`, its name,
   pub prec_name_far : Item1 src done T tokens s.at (prec_name src s d T.t1)
   unfolding prec_name
   prec_name_far = go (token_at src s.at) (token_placed src s.at (token_at src s.at) refl).1
     where
-      go : (t : Token) → Tokened src s.at t → Item1 src done T tokens s.at (prec_found t src s d T.t1)
-      go (Found p end q) y =
+      go : (t : Result (Place × ℕ × Bool) ℕ) → Tokened src s.at t → Item1 src done T tokens s.at (prec_found t src s d T.t1)
+      go (Ok (p, end, q)) y =
           let a = y.0 in
           let b = y.1 in
           let c = y.2 in
@@ -243,43 +231,43 @@ module _ {src : List ℕ} {done : ℕ} {s : State} {T : AllTables} {d : Producti
           let e = enter_step src s p.from p.to false T.t1 in
           let w = enter_held f p.from p.to false z in
           item_sooner s.at (omega arith) (item_behind end e.answer e.state w.far w.stays (quiet_enter src s p.from p.to false T.t1) (draft_to (draft_prec x p.from p.to z) end (omega arith) y.3) (omega arith) y.3)
-      go (NoToken k) y = item_refused s.at _ f x
+      go (Err k) y = item_refused s.at _ f x
 
   -- behind an action,
   pub after_action_far : (end : ℕ) → s.at ≤ end → end ≤ length src → Item0 src done T end (after_action src s d end)
   unfolding after_action
   after_action_far end h k = go (gap_at s.kind true src end) (gapped s.kind true src end k)
     where
-      go : (g : Gap) → Gapped src end g → Item0 src done T end (action_gap g src s d)
-      go (GapTo i n) y =
+      go : (g : Result (ℕ × ℕ) Refusal) → Gapped src end g → Item0 src done T end (action_gap g src s d)
+      go (Ok (i, n)) y =
           let b = y.0 in
           let w = far_at f i (omega arith) y.1 in
           let z = draft_on x (with_at s i) (omega arith) refl in
           on_test (Item0 src done T end) (may_end src i) _ _
           (λ e. record { far = w; draft = z; undone = going_undone; beyond = λ e. omega arith })
           (λ e. item_refused end _ w z)
-      go (GapRefused e) y = item_refused end e f x
+      go (Err e) y = item_refused end e f x
 
   -- `%empty`,
   pub empty_far : (first : ℕ) → Item0 src done T s.at (empty_item src s d first)
   unfolding empty_item
   empty_far first = go (gap_at s.kind true src s.at) (gapped s.kind true src s.at f.here)
     where
-      go : (g : Gap) → Gapped src s.at g → Item0 src done T s.at (empty_gap g src s d first)
-      go (GapTo k n) y =
+      go : (g : Result (ℕ × ℕ) Refusal) → Gapped src s.at g → Item0 src done T s.at (empty_gap g src s d first)
+      go (Ok (k, n)) y =
           let b = y.0 in
           on_test (Item0 src done T s.at) (eqb (count s symbols) d.first && may_follow src k) _ _
           (λ e. record { far = far_at f k (omega arith) y.1; draft = draft_on (draft_to x s.at (omega arith) f.here) (with_at s k) (omega arith) refl; undone = going_undone; beyond = λ e. omega arith })
           (λ e. item_refused s.at _ f x)
-      go (GapRefused e) y = item_refused s.at e f x
+      go (Err e) y = item_refused s.at e f x
 
   -- and a bare symbol.
   pub bare_far : Item1 src done T symbols (s.at + 1) (bare_item src s d T.t1 T.t9)
   unfolding bare_item
   bare_far = go (token_at src s.at) (token_placed src s.at (token_at src s.at) refl).1
     where
-      go : (t : Token) → Tokened src s.at t → Item1 src done T symbols (s.at + 1) (bare_found t src s d T.t1 T.t9)
-      go (Found p end q) y =
+      go : (t : Result (Place × ℕ × Bool) ℕ) → Tokened src s.at t → Item1 src done T symbols (s.at + 1) (bare_found t src s d T.t1 T.t9)
+      go (Ok (p, end, q)) y =
           let a = y.0 in
           let b = y.1 in
           let c = y.2 in
@@ -289,7 +277,7 @@ module _ {src : List ℕ} {done : ℕ} {s : State} {T : AllTables} {d : Producti
           let r = kind_listed src (count s tokens) T.t1 p.from p.to in
           let w = symbol_held f k p.from p.to r.0 r.1 z in
           item_sooner (s.at + 1) (omega arith) (item_behind end e.answer e.state w.far w.stays (quiet_push s symbols (symbol_cells k p.from p.to) T.t9 (λ e. omega arith)) (draft_to x end (omega arith) y.3) (omega arith) y.3)
-      go (NoToken k) y = item_refused (s.at + 1) _ f x
+      go (Err k) y = item_refused (s.at + 1) _ f x
 
 -- the steps above from another state, or on a draft that took their part in
 module _ {src : List ℕ} {done : ℕ} {s : State} {T : AllTables} {d : Production} (f : Far src done s T) (x : Draft src done s d) where
@@ -298,35 +286,35 @@ module _ {src : List ℕ} {done : ℕ} {s : State} {T : AllTables} {d : Producti
   unfolding prec_item
   prec_far = go (gap_at s.kind true src s.at) (gapped s.kind true src s.at f.here)
     where
-      go : (g : Gap) → Gapped src s.at g → Item1 src done T tokens s.at (prec_gap g src s d T.t1)
-      go (GapTo i n) y =
+      go : (g : Result (ℕ × ℕ) Refusal) → Gapped src s.at g → Item1 src done T tokens s.at (prec_gap g src s d T.t1)
+      go (Ok (i, n)) y =
           let b = y.0 in
           item_sooner s.at (omega arith) (prec_name_far (far_at f i (omega arith) y.1) (draft_on x (with_at s i) (omega arith) refl))
-      go (GapRefused e) y = item_refused s.at e f x
+      go (Err e) y = item_refused s.at e f x
 
   -- an action
   pub action_far : s.at < length src → Item0 src done T (s.at + 1) (action_item src s d)
   unfolding action_item
   action_far h = go (action_at src s.at) (action_placed src s.at h (action_at src s.at) refl).1
     where
-      go : (t : Action) → Acted src s.at t → Item0 src done T (s.at + 1) (action_found t src s d)
-      go (Body end n p q) y =
+      go : (t : Result (ℕ × ℕ × Place × Place) ℕ) → Acted src s.at t → Item0 src done T (s.at + 1) (action_found t src s d)
+      go (Ok (end, n, p, q)) y =
           let a = y.0 in
           let b = y.1 in
           let c = y.4 in
           let e = y.7 in
           let z = draft_action (draft_to x s.at (omega arith) f.here) p.from p.to q.from q.to (record { onward = y.3; inside = c }) (record { onward = y.6; inside = omega arith }) in
           item_sooner (s.at + 1) (omega arith) (after_action_far f z end (omega arith) b)
-      go (OpenAction i) y = item_refused (s.at + 1) _ f x
+      go (Err i) y = item_refused (s.at + 1) _ f x
 
 -- a draft's places, as cells of its row
-given_prec : (src : List ℕ) (p : Prec) → LiesPrec src p → Given src (get_or (prec_cells p) 0 0) (get_or (prec_cells p) 1 0) (get_or (prec_cells p) 2 0)
-given_prec src NoPrec x = inl (refl, refl, refl)
-given_prec src (PrecAt a b) x = inr (refl, x)
+given_prec : (src : List ℕ) (p : Option (ℕ × ℕ)) → LiesPrec src p → Given src (get_or (prec_cells p) 0 0) (get_or (prec_cells p) 1 0) (get_or (prec_cells p) 2 0)
+given_prec src None x = inl (refl, refl, refl)
+given_prec src (Some (a, b)) x = inr (refl, x)
 
-given_action : (src : List ℕ) (p : Act) → LiesAction src p → GivenAction src (get_or (action_cells p) 0 0) (get_or (action_cells p) 1 0) (get_or (action_cells p) 2 0) (get_or (action_cells p) 3 0) (get_or (action_cells p) 4 0)
-given_action src NoAction x = inl (refl, refl, refl, refl, refl)
-given_action src (ActionAt a b c d) x = inr (refl, x.0, x.1)
+given_action : (src : List ℕ) (p : Option (ℕ × ℕ × ℕ × ℕ)) → LiesAction src p → GivenAction src (get_or (action_cells p) 0 0) (get_or (action_cells p) 1 0) (get_or (action_cells p) 2 0) (get_or (action_cells p) 3 0) (get_or (action_cells p) 4 0)
+given_action src None x = inl (refl, refl, refl, refl, refl)
+given_action src (Some (a, b, c, d)) x = inr (refl, x.0, x.1)
 
 -- A production that joined table 8, or found no room: sound so far, and the ranges end behind the last symbol unless it was refused.
 pub record Joined (src : List ℕ) (T : AllTables) (s : State) (o : Out1) : Type 0 where

@@ -1,4 +1,5 @@
 -- The first of the marks: it stands here, or the later ones are tried; where a mark lies. Actions and `%empty`: one law for each answer. Assumes nothing.
+use Rattle.std.specs.Prelude.{Result, Ok, Err}
 use Prim.Native.Nat.{ℕ, ◌+◌, ◌≤◌}
 use mathlib.Core.Path.{◌≡◌, refl, sym, ◌∙◌}
 use mathlib.Core.List.{List, [], ◌∷◌}
@@ -10,8 +11,6 @@ use borrow.Author.Tests.{ltb-true, eq-eqb}
 use Rattle.scan.specs.Scan.{is_at, begins, starts_at}
 use Rattle.scan.proofs.Bytes.{on_test, starts_fits, drop_key, at_true}
 use Rattle.scan.specs.declared.Place.{Place}
-use Rattle.texts.specs.declared.Action.{Action}
-use Rattle.texts.specs.declared.Action.TheVariants.{Body, OpenAction}
 use Rattle.texts.specs.Action.{action_at}
 use Rattle.tables.specs.Layout.{symbols}
 use Rattle.grammar.specs.declared.State.{State}
@@ -19,8 +18,6 @@ use Rattle.grammar.specs.declared.Cause.TheVariants.{IncompleteAction, NonEmptyP
 use Rattle.grammar.specs.declared.Refusal.{Refusal}
 use Rattle.grammar.specs.declared.Refusal.TheVariants.{Fault}
 use Rattle.grammar.specs.declared.Answer.TheVariants.{Going}
-use Rattle.grammar.specs.declared.Gap.{Gap}
-use Rattle.grammar.specs.declared.Gap.TheVariants.{GapTo, GapRefused}
 use Rattle.grammar.specs.State.{count, with_at, gap_at}
 use Rattle.productions.specs.declared.Production.{Production}
 use Rattle.items.specs.declared.Sort.TheVariants.{BareSort}
@@ -90,8 +87,8 @@ module _ (src : List ℕ) (k : ℕ) where
   may_follow_is x y z p q r = rw (← p, ← q, ← r)
 
 -- behind an action
-module _ (src : List ℕ) (s : State) (d : Production) (end : ℕ) (g : Gap) (q : g ≡ gap_at s.kind true src end) where
-  module _ (i n : ℕ) (e : g ≡ GapTo i n) (b : Bool) (p : b ≡ may_end src i) where
+module _ (src : List ℕ) (s : State) (d : Production) (end : ℕ) (g : Result (ℕ × ℕ) Refusal) (q : g ≡ gap_at s.kind true src end) where
+  module _ (i n : ℕ) (e : g ≡ Ok (i, n)) (b : Bool) (p : b ≡ may_end src i) where
     pub action_ends : b ≡ true → record { answer = Going; state = with_at s i; draft = d } ≡ after_action src s d end
     unfolding after_action
     action_ends h = rw (← q, e, action_gap, ← p, h)
@@ -100,23 +97,23 @@ module _ (src : List ℕ) (s : State) (d : Production) (end : ℕ) (g : Gap) (q 
     unfolding after_action
     action_more h = rw (← q, e, action_gap, ← p, h)
 
-  pub action_gap_lem : (f : Refusal) → g ≡ GapRefused f → refused0 f s d ≡ after_action src s d end
+  pub action_gap_lem : (f : Refusal) → g ≡ Err f → refused0 f s d ≡ after_action src s d end
   unfolding after_action
   action_gap_lem f e = rw (← q, e)
 
 -- an action
-module _ (src : List ℕ) (s : State) (d : Production) (r : Action) (q : r ≡ action_at src s.at) where
-  pub action_body : (end n : ℕ) (x y : Place) (m : Production) (o : Made0) → r ≡ Body end n x y → m ≡ with_action d x.from x.to y.from y.to → o ≡ after_action src s (with_to m s.at) end → o ≡ action_item src s d
+module _ (src : List ℕ) (s : State) (d : Production) (r : Result (ℕ × ℕ × Place × Place) ℕ) (q : r ≡ action_at src s.at) where
+  pub action_body : (end n : ℕ) (x y : Place) (m : Production) (o : Made0) → r ≡ Ok (end, n, x, y) → m ≡ with_action d x.from x.to y.from y.to → o ≡ after_action src s (with_to m s.at) end → o ≡ action_item src s d
   unfolding action_item
   action_body end n x y m o e w h = rw (← q, e) (rw w at h)
 
-  pub action_open : (i : ℕ) → r ≡ OpenAction i → refused0 (Fault IncompleteAction i) s d ≡ action_item src s d
+  pub action_open : (i : ℕ) → r ≡ Err i → refused0 (Fault IncompleteAction i) s d ≡ action_item src s d
   unfolding action_item
   action_open i e = rw (← q, e)
 
 -- `%empty`
-module _ (src : List ℕ) (s : State) (d : Production) (first : ℕ) (g : Gap) (q : g ≡ gap_at s.kind true src s.at) where
-  module _ (k n : ℕ) (e : g ≡ GapTo k n) (m : ℕ) (c : m ≡ count s symbols) (b : Bool) (p : b ≡ may_follow src k) where
+module _ (src : List ℕ) (s : State) (d : Production) (first : ℕ) (g : Result (ℕ × ℕ) Refusal) (q : g ≡ gap_at s.kind true src s.at) where
+  module _ (k n : ℕ) (e : g ≡ Ok (k, n)) (m : ℕ) (c : m ≡ count s symbols) (b : Bool) (p : b ≡ may_follow src k) where
     pub empty_stands : (eqb m d.first && b) ≡ true → record { answer = Going; state = with_at s k; draft = with_to d s.at } ≡ empty_item src s d first
     unfolding empty_item
     empty_stands h = rw (← q, e, empty_gap, ← c, ← p, h)
@@ -125,6 +122,6 @@ module _ (src : List ℕ) (s : State) (d : Production) (first : ℕ) (g : Gap) (
     unfolding empty_item
     empty_not h = rw (← q, e, empty_gap, ← c, ← p, h)
 
-  pub empty_gap_lem : (f : Refusal) → g ≡ GapRefused f → refused0 f s d ≡ empty_item src s d first
+  pub empty_gap_lem : (f : Refusal) → g ≡ Err f → refused0 f s d ≡ empty_item src s d first
   unfolding empty_item
   empty_gap_lem f e = rw (← q, e)

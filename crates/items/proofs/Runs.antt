@@ -1,4 +1,5 @@
 -- Runs of symbols: how a first byte tells the sort of an item, what a symbol's item comes to where it goes on, and that a run is so many turns. Assumes nothing.
+use Rattle.std.specs.Prelude.{Option, Some, None, Result, Ok}
 use Prim.Native.Nat.{ℕ, ◌+◌, ◌-◌, ◌/◌, ◌≤◌, ◌<◌}
 use mathlib.Core.Path.{◌≡◌, refl, sym, ap, ◌∙◌}
 use mathlib.Core.List.{List, [], ◌∷◌}
@@ -15,11 +16,7 @@ use Rattle.scan.specs.declared.Place.{Place}
 use Rattle.scan.specs.Loop.{Left}
 use Rattle.scan.proofs.Bytes.{le_or_lt, at_here, starts_differ, starts_first}
 use Rattle.scan.proofs.Loop.{left_more}
-use Rattle.words.specs.declared.Token.{Token}
-use Rattle.words.specs.declared.Token.TheVariants.{Found}
 use Rattle.words.specs.Words.{token_at, Tokened}
-use Rattle.tables.specs.declared.Entered.{Entered}
-use Rattle.tables.specs.declared.Entered.TheVariants.{Rows, Full}
 use Rattle.tables.specs.Table.{room, Added, add_row, Inserted, enter_token}
 use Rattle.tables.specs.Layout.{tokens, symbols, width}
 use Rattle.tables.proofs.Laws.{room_some, room_full, add_yes, added_counts}
@@ -27,15 +24,12 @@ use Rattle.tables.proofs.Cases.{add_cases, enter_cases}
 use Rattle.index.specs.Index.{rows_now}
 use Rattle.finder.specs.Finder.{Held}
 use Rattle.grammar.specs.declared.State.{State}
-use Rattle.grammar.specs.declared.Gap.{Gap}
-use Rattle.grammar.specs.declared.Gap.TheVariants.{GapTo}
+use Rattle.grammar.specs.declared.Refusal.{Refusal}
 use Rattle.grammar.specs.declared.Answer.TheVariants.{Going}
 use Rattle.grammar.specs.Cells.{symbol_cells}
 use Rattle.grammar.specs.State.{Tokens, Passed, count, with_at, with_count, gap_at, Gapped}
 use Rattle.grammar.proofs.Steps.{push_ok, past_going, enter_rows}
 use Rattle.productions.specs.declared.Production.{Production}
-use Rattle.items.specs.declared.Quick.{Quick}
-use Rattle.items.specs.declared.Quick.TheVariants.{Read, Unread}
 use Rattle.items.specs.declared.Sort.TheVariants.{QuotedSort, BareSort}
 use Rattle.items.specs.Items.{Made3, first_mark, sort_at, with_to, symbol_kind, on_9, on_1_9, item_step, item_turn}
 use Rattle.items.specs.Quick.{ran_state, going, NumbersOf, Reads, Quickly, tokens_now, Ran}
@@ -79,11 +73,11 @@ unadded n row t q u e h =
     (λ full x. ap (λ (v : Added). v.cells) x) e
 
 -- nor where a token found no room
-pub unentered : (src : List ℕ) (n a b : ℕ) (t : List ℕ) (o : Entered) (u : List ℕ) → record { entered = o; cells = u } ≡ enter_token src n a b false t → o ≡ Full → u ≡ t
+pub unentered : (src : List ℕ) (n a b : ℕ) (t : List ℕ) (o : Option ℕ) (u : List ℕ) → record { entered = o; cells = u } ≡ enter_token src n a b false t → o ≡ None → u ≡ t
 unentered src n a b t o u e h =
     enter_cases (λ (x : Inserted). record { entered = o; cells = u } ≡ x → u ≡ t) src n a b false t
     (λ r l k x. ap (λ (v : Inserted). v.cells) x)
-    (λ none fits l x. let f : Full ≡ Rows (n + 1) = sym h ∙ ap (λ (v : Inserted). v.entered) x in let z : ◌≡◌ {A = ℕ} 0 1 = cc in absurd (omega arith))
+    (λ none fits l x. let f : None ≡ Some (n + 1) = sym h ∙ ap (λ (v : Inserted). v.entered) x in let z : ◌≡◌ {A = ℕ} 0 1 = cc in absurd (omega arith))
     (λ none full x. ap (λ (v : Inserted). v.cells) x) e
 
 -- the numbers of a state as they are
@@ -115,7 +109,7 @@ module _ (s : State) (at m n : ℕ) (ten : length s.counts.n ≡ 10) where
   ran_tokens src t ix H = record { ten = ran_ten; held = rw ran_told.first H }
 
 -- a symbol whose word was found, and the spacing behind it passed
-module _ (kind : ℕ) (src : List ℕ) (at m n : ℕ) (t1 t9 : List ℕ) (r : Token) (q : r ≡ token_at src at) (p : Place) (end : ℕ) (b : Bool) (e : r ≡ Found p end b) (g : Gap) (h : g ≡ gap_at kind true src end) (j lines : ℕ) (f : g ≡ GapTo j lines) (in-word : Tokened src at r) (in-gap : Gapped src end g) where
+module _ (kind : ℕ) (src : List ℕ) (at m n : ℕ) (t1 t9 : List ℕ) (r : Result (Place × ℕ × Bool) ℕ) (q : r ≡ token_at src at) (p : Place) (end : ℕ) (b : Bool) (e : r ≡ Ok (p, end, b)) (g : Result (ℕ × ℕ) Refusal) (h : g ≡ gap_at kind true src end) (j lines : ℕ) (f : g ≡ Ok (j, lines)) (in-word : Tokened src at r) (in-gap : Gapped src end g) where
   -- where it leads
   symbol_moves : (at < j) × (j ≤ length src)
   symbol_moves =
@@ -138,7 +132,7 @@ module _ (kind : ℕ) (src : List ℕ) (at m n : ℕ) (t1 t9 : List ℕ) (r : To
     bare_reads = record { further = symbol_moves.0; inside = symbol_moves.1; counted = added_counts _ _ _ _ _ a y; step = bare_step }
 
   -- and quoted
-  module _ (sort : (sort_at src at).sort ≡ QuotedSort) (o : Entered) (u1 : List ℕ) (i : record { entered = o; cells = u1 } ≡ enter_token src m p.from p.to false t1) (k : ℕ) (l : o ≡ Rows k) (ok : Bool) (u9 : List ℕ) (a : record { ok = ok; cells = u9 } ≡ add_row n (symbol_cells 2 p.from p.to) t9) (y : ok ≡ true) where
+  module _ (sort : (sort_at src at).sort ≡ QuotedSort) (o : Option ℕ) (u1 : List ℕ) (i : record { entered = o; cells = u1 } ≡ enter_token src m p.from p.to false t1) (k : ℕ) (l : o ≡ Some k) (ok : Bool) (u9 : List ℕ) (a : record { ok = ok; cells = u9 } ≡ add_row n (symbol_cells 2 p.from p.to) t9) (y : ok ≡ true) where
     quoted_step : (s : State) (d : Production) (t8 : List ℕ) → NumbersOf s kind at m n → going (ran_state s j k (n + 1)) (with_to d end) u1 t8 u9 ≡ item_step src s d t1 t8 t9
     quoted_step s d t8 x =
         let c = with_at s j in
@@ -176,25 +170,25 @@ pub run_stop : (kind : ℕ) (src : List ℕ) (at m n to : ℕ) (t1 t9 : List ℕ
 run_stop kind src at m n to t1 t9 i h g f u1 u9 R v1 v9 e = rw (e.0, e.1) R
 
 -- what was told of a symbol, of one that was read and of one that was not
-module _ (kind : ℕ) (src : List ℕ) (at m n : ℕ) (t1 t9 u1 u9 : List ℕ) (r : Quick) (x : Quickly kind src at m n t1 t9 u1 u9 r) where
-  pub read_is : (j k end : ℕ) → r ≡ Read j k end → Reads kind src at m n t1 t9 j k end u1 u9
+module _ (kind : ℕ) (src : List ℕ) (at m n : ℕ) (t1 t9 u1 u9 : List ℕ) (r : Option (ℕ × ℕ × ℕ)) (x : Quickly kind src at m n t1 t9 u1 u9 r) where
+  pub read_is : (j k end : ℕ) → r ≡ Some (j, k, end) → Reads kind src at m n t1 t9 j k end u1 u9
   read_is j k end e = rw e at x
 
-  pub unread_is : r ≡ Unread → (u1 ≡ t1) × (u9 ≡ t9)
+  pub unread_is : r ≡ None → (u1 ≡ t1) × (u9 ≡ t9)
   unread_is e = rw e at x
 
 module _ (src : List ℕ) (m : ℕ) (t ix : List ℕ) where
-  pub read_held : (r : Quick) (j k end : ℕ) → r ≡ Read j k end → Held src 3 0 (tokens_now m r) t ix → Held src 3 0 k t ix
+  pub read_held : (r : Option (ℕ × ℕ × ℕ)) (j k end : ℕ) → r ≡ Some (j, k, end) → Held src 3 0 (tokens_now m r) t ix → Held src 3 0 k t ix
   read_held r j k end e H = rw e at H
 
-  pub unread_held : (r : Quick) → r ≡ Unread → Held src 3 0 (tokens_now m r) t ix → Held src 3 0 m t ix
+  pub unread_held : (r : Option (ℕ × ℕ × ℕ)) → r ≡ None → Held src 3 0 (tokens_now m r) t ix → Held src 3 0 m t ix
   unread_held r e H = rw e at H
 
   -- the same of a token entered
-  pub entered_held : (o : Entered) (k : ℕ) → o ≡ Rows k → Held src 3 0 (rows_now m o) t ix → Held src 3 0 k t ix
+  pub entered_held : (o : Option ℕ) (k : ℕ) → o ≡ Some k → Held src 3 0 (rows_now m o) t ix → Held src 3 0 k t ix
   entered_held o k e H = rw e at H
 
-  pub unentered_held : (o : Entered) → o ≡ Full → Held src 3 0 (rows_now m o) t ix → Held src 3 0 m t ix
+  pub unentered_held : (o : Option ℕ) → o ≡ None → Held src 3 0 (rows_now m o) t ix → Held src 3 0 m t ix
   unentered_held o e H = rw e at H
 
 -- Where a rule's items stand that began at `first` with o: the finder of table 1 follows, and what is left of them is known.

@@ -1,4 +1,5 @@
 -- The items of a rule leave the count of every table but 1, 8 and 9. Assumes nothing.
+use Rattle.std.specs.Prelude.{Result, Ok, Err}
 use Prim.Native.Nat.{ℕ, suc}
 use mathlib.Core.Path.{◌≡◌, refl, ap}
 use mathlib.Core.List.{List}
@@ -7,19 +8,15 @@ use native.Mathlib.Omega.{arith}
 use lib.Dec.{leb, eqb}
 use lib.ListN.{length}
 use Rattle.scan.proofs.Loop.{Either, turns_keep}
-use Rattle.words.specs.declared.Token.{Token}
-use Rattle.words.specs.declared.Token.TheVariants.{Found, NoToken}
+use Rattle.scan.specs.declared.Place.{Place}
 use Rattle.words.specs.Words.{token_at}
-use Rattle.texts.specs.declared.Action.{Action}
-use Rattle.texts.specs.declared.Action.TheVariants.{Body, OpenAction}
 use Rattle.texts.specs.Action.{action_at}
 use Rattle.tables.specs.Layout.{tokens, productions, symbols}
 use Rattle.grammar.specs.declared.Answer.{Answer}
 use Rattle.grammar.specs.declared.Answer.TheVariants.{Going, Done, Refused}
 use Rattle.grammar.specs.declared.Counts.{Counts}
 use Rattle.grammar.specs.declared.State.{State}
-use Rattle.grammar.specs.declared.Gap.{Gap}
-use Rattle.grammar.specs.declared.Gap.TheVariants.{GapTo, GapRefused}
+use Rattle.grammar.specs.declared.Refusal.{Refusal}
 use Rattle.grammar.specs.Cells.{symbol_cells}
 use Rattle.grammar.specs.declared.Step.{Step}
 use Rattle.grammar.specs.State.{Tokens, count, with_at, gap_at, push_row, enter_step}
@@ -37,33 +34,33 @@ module _ (k : ℕ) (src : List ℕ) (s : State) where
   unfolding after_action
   after d end = go (gap_at s.kind true src end)
     where
-      by : (i : ℕ) (b : Bool) → may_end src i ≡ b → Spares k s.counts (action_gap (GapTo i 0) src s d).state.counts
+      by : (i : ℕ) (b : Bool) → may_end src i ≡ b → Spares k s.counts (action_gap (Ok (i, 0)) src s d).state.counts
       by i true e = rw (e, action_gap) (spares_none k s.counts)
       by i false e = rw (e, action_gap) (spares_none k s.counts)
 
-      go : (g : Gap) → Spares k s.counts (action_gap g src s d).state.counts
-      go (GapTo i n) = by i (may_end src i) refl
-      go (GapRefused f) = spares_none k s.counts
+      go : (g : Result (ℕ × ℕ) Refusal) → Spares k s.counts (action_gap g src s d).state.counts
+      go (Ok (i, n)) = by i (may_end src i) refl
+      go (Err f) = spares_none k s.counts
 
   pub action_spares : (d : Production) → Spares k s.counts (action_item src s d).state.counts
   unfolding action_item
   action_spares d = go (action_at src s.at)
     where
-      go : (a : Action) → Spares k s.counts (action_found a src s d).state.counts
-      go (Body end n p q) = after _ end
-      go (OpenAction i) = spares_none k s.counts
+      go : (a : Result (ℕ × ℕ × Place × Place) ℕ) → Spares k s.counts (action_found a src s d).state.counts
+      go (Ok (end, n, p, q)) = after _ end
+      go (Err i) = spares_none k s.counts
 
   pub empty_spares : (d : Production) (first : ℕ) → Spares k s.counts (empty_item src s d first).state.counts
   unfolding empty_item
   empty_spares d first = go (gap_at s.kind true src s.at)
     where
-      by : (i : ℕ) (b : Bool) → (eqb (count s symbols) d.first && may_follow src i) ≡ b → Spares k s.counts (empty_gap (GapTo i 0) src s d first).state.counts
+      by : (i : ℕ) (b : Bool) → (eqb (count s symbols) d.first && may_follow src i) ≡ b → Spares k s.counts (empty_gap (Ok (i, 0)) src s d first).state.counts
       by i true e = rw (e, empty_gap) (spares_none k s.counts)
       by i false e = rw (e, empty_gap) (spares_none k s.counts)
 
-      go : (g : Gap) → Spares k s.counts (empty_gap g src s d first).state.counts
-      go (GapTo i n) = by i (eqb (count s symbols) d.first && may_follow src i) refl
-      go (GapRefused f) = spares_none k s.counts
+      go : (g : Result (ℕ × ℕ) Refusal) → Spares k s.counts (empty_gap g src s d first).state.counts
+      go (Ok (i, n)) = by i (eqb (count s symbols) d.first && may_follow src i) refl
+      go (Err f) = spares_none k s.counts
 
 -- the end of a production leaves every count but that of table 8
 module _ (k : ℕ) (eighth : productions ≡ k → ⊥) where
@@ -85,11 +82,11 @@ module _ (k : ℕ) (ninth : symbols ≡ k → ⊥) (src : List ℕ) where
   unfolding bare_item
   bare_spares s d t1 t9 = go (token_at src s.at)
     where
-      go : (x : Token) → Spares k s.counts (bare_found x src s d t1 t9).state.counts
-      go (Found p end q) =
+      go : (x : Result (Place × ℕ × Bool) ℕ) → Spares k s.counts (bare_found x src s d t1 t9).state.counts
+      go (Ok (p, end, q)) =
           let row = symbol_cells (symbol_kind src (count s tokens) t1 p.from p.to) p.from p.to in
           spares_behind k src false end (push_row s symbols row t9).answer (push_row s symbols row t9).state (spares_push k s symbols row t9 ninth)
-      go (NoToken i) = spares_none k s.counts
+      go (Err i) = spares_none k s.counts
 
   module _ (first : tokens ≡ k → ⊥) where
     token : (s : State) (from to : ℕ) (t1 t9 : List ℕ) → Spares k s.counts (token_symbol src s from to t1 t9).state.counts
@@ -108,35 +105,35 @@ module _ (k : ℕ) (ninth : symbols ≡ k → ⊥) (src : List ℕ) where
     unfolding quoted_rows
     rows s d from to end t1 t9 = go (gap_at s.kind true src end)
       where
-        go : (g : Gap) → Spares k s.counts (quoted_gap g src s d from to end t1 t9).state.counts
-        go (GapTo i n) = token (with_at s i) from to t1 t9
-        go (GapRefused f) = spares_none k s.counts
+        go : (g : Result (ℕ × ℕ) Refusal) → Spares k s.counts (quoted_gap g src s d from to end t1 t9).state.counts
+        go (Ok (i, n)) = token (with_at s i) from to t1 t9
+        go (Err f) = spares_none k s.counts
 
     quoted_spares : (s : State) (d : Production) (t1 t9 : List ℕ) → Spares k s.counts (quoted_item src s d t1 t9).state.counts
     unfolding quoted_item
     quoted_spares s d t1 t9 = go (token_at src s.at)
       where
-        go : (x : Token) → Spares k s.counts (quoted_found x src s d t1 t9).state.counts
-        go (Found p end q) = rows s d p.from p.to end t1 t9
-        go (NoToken i) = spares_none k s.counts
+        go : (x : Result (Place × ℕ × Bool) ℕ) → Spares k s.counts (quoted_found x src s d t1 t9).state.counts
+        go (Ok (p, end, q)) = rows s d p.from p.to end t1 t9
+        go (Err i) = spares_none k s.counts
 
     name : (s : State) (d : Production) (t1 : List ℕ) → Spares k s.counts (prec_name src s d t1).state.counts
     unfolding prec_name
     name s d t1 = go (token_at src s.at)
       where
-        go : (x : Token) → Spares k s.counts (prec_found x src s d t1).state.counts
-        go (Found p end q) =
+        go : (x : Result (Place × ℕ × Bool) ℕ) → Spares k s.counts (prec_found x src s d t1).state.counts
+        go (Ok (p, end, q)) =
             let o = enter_step src s p.from p.to false t1 in
             spares_behind k src false end o.answer o.state (spares_enter k src s p.from p.to false t1 first)
-        go (NoToken i) = spares_none k s.counts
+        go (Err i) = spares_none k s.counts
 
     prec_spares : (s : State) (d : Production) (t1 : List ℕ) → Spares k s.counts (prec_item src s d t1).state.counts
     unfolding prec_item
     prec_spares s d t1 = go (gap_at s.kind true src s.at)
       where
-        go : (g : Gap) → Spares k s.counts (prec_gap g src s d t1).state.counts
-        go (GapTo i n) = name (with_at s i) d t1
-        go (GapRefused f) = spares_none k s.counts
+        go : (g : Result (ℕ × ℕ) Refusal) → Spares k s.counts (prec_gap g src s d t1).state.counts
+        go (Ok (i, n)) = name (with_at s i) d t1
+        go (Err f) = spares_none k s.counts
 
     -- all of a rule's items
     module _ (eighth : productions ≡ k → ⊥) where

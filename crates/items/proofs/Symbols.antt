@@ -1,4 +1,5 @@
 -- The items that add symbols and productions: one law for each answer. Assumes nothing.
+use Rattle.std.specs.Prelude.{Option, Some, None, Result, Ok, Err}
 use Prim.Native.Nat.{ℕ}
 use mathlib.Core.Path.{◌≡◌}
 use mathlib.Core.List.{List}
@@ -6,17 +7,11 @@ use mathlib.Core.Bool.{Bool, true, false}
 use native.Mathlib.Omega.{arith}
 use borrow.Author.Tests.{eq-eqb, ne_eqb}
 use Rattle.scan.specs.declared.Place.{Place}
-use Rattle.words.specs.declared.Token.{Token}
-use Rattle.words.specs.declared.Token.TheVariants.{Found, NoToken}
 use Rattle.words.specs.Words.{token_at, Tokened}
-use Rattle.tables.specs.declared.Found.{Found as Row}
-use Rattle.tables.specs.declared.Found.TheVariants.{RowAt, NoRow}
 use Rattle.tables.specs.Table.{cell, find_name}
 use Rattle.tables.specs.Layout.{tokens, symbols, declared, width}
 use Rattle.grammar.specs.declared.State.{State}
 use Rattle.grammar.specs.declared.Step.{Step}
-use Rattle.grammar.specs.declared.Gap.{Gap}
-use Rattle.grammar.specs.declared.Gap.TheVariants.{GapTo, GapRefused}
 use Rattle.grammar.specs.declared.Cause.TheVariants.{IllegalString}
 use Rattle.grammar.specs.declared.Refusal.{Refusal}
 use Rattle.grammar.specs.declared.Refusal.TheVariants.{Fault}
@@ -48,8 +43,8 @@ module _ (r : Drafted) (q : Step) (d : Production) (e : r ≡ record { answer = 
   carried_moves src at h = rw e h
 
 -- where a token's parts lie
-module _ (src : List ℕ) (at : ℕ) (r : Token) (x : Tokened src at r) where
-  module _ (p : Place) (end : ℕ) (b : Bool) (e : r ≡ Found p end b) where
+module _ (src : List ℕ) (at : ℕ) (r : Result (Place × ℕ × Bool) ℕ) (x : Tokened src at r) where
+  module _ (p : Place) (end : ℕ) (b : Bool) (e : r ≡ Ok (p, end, b)) where
     pub from_passed : Passed src at p.from
     from_passed = let y = rw e at x in record { onward = y.0; inside = omega (arith, y.1, y.2, y.3) }
 
@@ -62,7 +57,7 @@ module _ (src : List ℕ) (at : ℕ) (r : Token) (x : Tokened src at r) where
     pub token_moves : (before after : ℕ) (a : Answer) → Onward src end before a after → before ≡ at → Moves src at a after
     token_moves before after a o k = let y = rw e at x in moves src at end before after a k (omega (arith, y.0, y.1, y.2)) y.3 o
 
-  pub none_passed : (k : ℕ) → Here src at → r ≡ NoToken k → Passed src at k
+  pub none_passed : (k : ℕ) → Here src at → r ≡ Err k → Passed src at k
   none_passed k h e = let y = rw e at x in record { onward = omega (arith, y); inside = omega (arith, y, h.within) }
 
 -- a quoted symbol's rows
@@ -80,49 +75,49 @@ module _ (src : List ℕ) (s : State) (from to : ℕ) (t1 t9 : List ℕ) (o : Ou
   symbol_refused f g = rw (← q, g)
 
 -- a quoted symbol behind its spacing
-module _ (src : List ℕ) (s : State) (d : Production) (from to end : ℕ) (t1 t9 : List ℕ) (r : Gap) (q : r ≡ gap_at s.kind true src end) where
-  pub quoted_spaced : (i n : ℕ) (o : Out2) → r ≡ GapTo i n → o ≡ token_symbol src (with_at s i) from to t1 t9 → made2 o (with_to d end) ≡ quoted_rows src s d from to end t1 t9
+module _ (src : List ℕ) (s : State) (d : Production) (from to end : ℕ) (t1 t9 : List ℕ) (r : Result (ℕ × ℕ) Refusal) (q : r ≡ gap_at s.kind true src end) where
+  pub quoted_spaced : (i n : ℕ) (o : Out2) → r ≡ Ok (i, n) → o ≡ token_symbol src (with_at s i) from to t1 t9 → made2 o (with_to d end) ≡ quoted_rows src s d from to end t1 t9
   unfolding quoted_rows
   quoted_spaced i n o e h = rw (← q, e, h)
 
-  pub quoted_gap_lem : (f : Refusal) → r ≡ GapRefused f → refused2 f s d t1 t9 ≡ quoted_rows src s d from to end t1 t9
+  pub quoted_gap_lem : (f : Refusal) → r ≡ Err f → refused2 f s d t1 t9 ≡ quoted_rows src s d from to end t1 t9
   unfolding quoted_rows
   quoted_gap_lem f e = rw (← q, e)
 
 -- a quoted symbol
-module _ (src : List ℕ) (s : State) (d : Production) (t1 t9 : List ℕ) (r : Token) (q : r ≡ token_at src s.at) where
-  pub quoted_found_lem : (p : Place) (end : ℕ) (b : Bool) (o : Made2) → r ≡ Found p end b → o ≡ quoted_rows src s d p.from p.to end t1 t9 → o ≡ quoted_item src s d t1 t9
+module _ (src : List ℕ) (s : State) (d : Production) (t1 t9 : List ℕ) (r : Result (Place × ℕ × Bool) ℕ) (q : r ≡ token_at src s.at) where
+  pub quoted_found_lem : (p : Place) (end : ℕ) (b : Bool) (o : Made2) → r ≡ Ok (p, end, b) → o ≡ quoted_rows src s d p.from p.to end t1 t9 → o ≡ quoted_item src s d t1 t9
   unfolding quoted_item
   quoted_found_lem p end b o e h = rw (← q, e) h
 
-  pub quoted_none : (k : ℕ) → r ≡ NoToken k → refused2 (Fault IllegalString k) s d t1 t9 ≡ quoted_item src s d t1 t9
+  pub quoted_none : (k : ℕ) → r ≡ Err k → refused2 (Fault IllegalString k) s d t1 t9 ≡ quoted_item src s d t1 t9
   unfolding quoted_item
   quoted_none k e = rw (← q, e)
 
 -- the name behind `%prec`
-module _ (src : List ℕ) (s : State) (d : Production) (t1 : List ℕ) (r : Token) (q : r ≡ token_at src s.at) where
-  pub prec_found_lem : (p : Place) (end : ℕ) (b : Bool) (o : Out1) (z : Out0) (m : Production) → r ≡ Found p end b → o ≡ enter_step src s p.from p.to false t1
+module _ (src : List ℕ) (s : State) (d : Production) (t1 : List ℕ) (r : Result (Place × ℕ × Bool) ℕ) (q : r ≡ token_at src s.at) where
+  pub prec_found_lem : (p : Place) (end : ℕ) (b : Bool) (o : Out1) (z : Out0) (m : Production) → r ≡ Ok (p, end, b) → o ≡ enter_step src s p.from p.to false t1
       → z ≡ pass_on src false end o.answer o.state → m ≡ with_prec d p.from p.to → made1 z (with_to m end) o.a ≡ prec_name src s d t1
   unfolding prec_name
   prec_found_lem p end b o z m e w h k = rw (← q, e, ← w, ← h, k)
 
-  pub prec_none : (k : ℕ) → r ≡ NoToken k → refused1 (Fault IllegalString k) s d t1 ≡ prec_name src s d t1
+  pub prec_none : (k : ℕ) → r ≡ Err k → refused1 (Fault IllegalString k) s d t1 ≡ prec_name src s d t1
   unfolding prec_name
   prec_none k e = rw (← q, e)
 
 -- `%prec`
-module _ (src : List ℕ) (s : State) (d : Production) (t1 : List ℕ) (r : Gap) (q : r ≡ gap_at s.kind true src s.at) where
-  pub prec_spaced : (i n : ℕ) (o : Made1) → r ≡ GapTo i n → o ≡ prec_name src (with_at s i) d t1 → o ≡ prec_item src s d t1
+module _ (src : List ℕ) (s : State) (d : Production) (t1 : List ℕ) (r : Result (ℕ × ℕ) Refusal) (q : r ≡ gap_at s.kind true src s.at) where
+  pub prec_spaced : (i n : ℕ) (o : Made1) → r ≡ Ok (i, n) → o ≡ prec_name src (with_at s i) d t1 → o ≡ prec_item src s d t1
   unfolding prec_item
   prec_spaced i n o e h = rw (← q, e) h
 
-  pub prec_gap_lem : (f : Refusal) → r ≡ GapRefused f → refused1 f s d t1 ≡ prec_item src s d t1
+  pub prec_gap_lem : (f : Refusal) → r ≡ Err f → refused1 f s d t1 ≡ prec_item src s d t1
   unfolding prec_item
   prec_gap_lem f e = rw (← q, e)
 
 -- the kind of a bare symbol
-module _ (src : List ℕ) (n : ℕ) (t1 : List ℕ) (from to : ℕ) (f : Row) (q : f ≡ find_name src (width tokens) 0 n t1 from to) where
-  module _ (r k : ℕ) (e : f ≡ RowAt r) (c : k ≡ cell (width tokens) t1 r declared) where
+module _ (src : List ℕ) (n : ℕ) (t1 : List ℕ) (from to : ℕ) (f : Option ℕ) (q : f ≡ find_name src (width tokens) 0 n t1 from to) where
+  module _ (r k : ℕ) (e : f ≡ Some r) (c : k ≡ cell (width tokens) t1 r declared) where
     pub kind_token : k ≡ 1 → 2 ≡ symbol_kind src n t1 from to
     unfolding symbol_kind
     kind_token h = rw (← q, e, kind_found, ← c, eq-eqb _ _ h)
@@ -131,19 +126,19 @@ module _ (src : List ℕ) (n : ℕ) (t1 : List ℕ) (from to : ℕ) (f : Row) (q
     unfolding symbol_kind
     kind_rule h = rw (← q, e, kind_found, ← c, ne_eqb _ _ h)
 
-  pub kind_new : f ≡ NoRow → 1 ≡ symbol_kind src n t1 from to
+  pub kind_new : f ≡ None → 1 ≡ symbol_kind src n t1 from to
   unfolding symbol_kind
   kind_new e = rw (← q, e)
 
 -- a bare symbol
-module _ (src : List ℕ) (s : State) (d : Production) (t1 t9 : List ℕ) (r : Token) (q : r ≡ token_at src s.at) where
-  pub bare_found_lem : (p : Place) (end : ℕ) (b : Bool) (n kind : ℕ) (o : Out1) (z : Out0) → r ≡ Found p end b → n ≡ count s tokens → kind ≡ symbol_kind src n t1 p.from p.to
+module _ (src : List ℕ) (s : State) (d : Production) (t1 t9 : List ℕ) (r : Result (Place × ℕ × Bool) ℕ) (q : r ≡ token_at src s.at) where
+  pub bare_found_lem : (p : Place) (end : ℕ) (b : Bool) (n kind : ℕ) (o : Out1) (z : Out0) → r ≡ Ok (p, end, b) → n ≡ count s tokens → kind ≡ symbol_kind src n t1 p.from p.to
       → o ≡ push_row s symbols (symbol_cells kind p.from p.to) t9 → z ≡ pass_on src false end o.answer o.state
       → made1 z (with_to d end) o.a ≡ bare_item src s d t1 t9
   unfolding bare_item
   bare_found_lem p end b n kind o z e c k w h = rw (← q, e, ← c, ← k, ← w, ← h)
 
-  pub bare_none : (k : ℕ) → r ≡ NoToken k → refused1 (Fault IllegalString k) s d t9 ≡ bare_item src s d t1 t9
+  pub bare_none : (k : ℕ) → r ≡ Err k → refused1 (Fault IllegalString k) s d t9 ≡ bare_item src s d t1 t9
   unfolding bare_item
   bare_none k e = rw (← q, e)
 

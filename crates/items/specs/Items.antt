@@ -1,15 +1,10 @@
 -- Document 01, "Rules", and the crate's `parse_rule` from the rule's colon on: the items of a production, and the productions of a rule.
-use Rattle.std.specs.Prelude.{ℕ, suc, ◌+◌, ◌≤◌, ◌<◌, ◌≡◌, List, [], ◌∷◌, Bool, true, false, ◌||◌, ◌&&◌, leb, eqb, length}
+use Rattle.std.specs.Prelude.{ℕ, suc, ◌+◌, ◌≤◌, ◌<◌, ◌≡◌, List, [], ◌∷◌, Bool, true, false, ◌||◌, ◌&&◌, leb, eqb, length, Option, Some, None, Result, Ok, Err}
 use Rattle.scan.specs.Scan.{is_at, starts_at}
 use Rattle.scan.specs.Loop.{Turn, more, stop, turns}
-use Rattle.words.specs.declared.Token.{Token}
-use Rattle.words.specs.declared.Token.TheVariants.{Found, NoToken}
+use Rattle.scan.specs.declared.Place.{Place}
 use Rattle.words.specs.Words.{token_at}
-use Rattle.texts.specs.declared.Action.{Action}
-use Rattle.texts.specs.declared.Action.TheVariants.{Body, OpenAction}
 use Rattle.texts.specs.Action.{action_at}
-use Rattle.tables.specs.declared.Found.{Found as Row}
-use Rattle.tables.specs.declared.Found.TheVariants.{RowAt, NoRow}
 use Rattle.tables.specs.Table.{cell, find_name}
 use Rattle.tables.specs.Layout.{tokens, symbols, declared, width}
 use Rattle.grammar.specs.declared.State.{State}
@@ -18,12 +13,8 @@ use Rattle.grammar.specs.declared.Refusal.{Refusal}
 use Rattle.grammar.specs.declared.Refusal.TheVariants.{Fault}
 use Rattle.grammar.specs.declared.Answer.{Answer}
 use Rattle.grammar.specs.declared.Answer.TheVariants.{Going, Done, Refused}
-use Rattle.grammar.specs.declared.Gap.{Gap}
-use Rattle.grammar.specs.declared.Gap.TheVariants.{GapTo, GapRefused}
 use Rattle.grammar.specs.Cells.{symbol_cells}
 use Rattle.grammar.specs.State.{Out0, Out1, Out2, count, with_at, gap_at, push_row, enter_step, pass_on, second2}
-use Rattle.productions.specs.declared.Prec.TheVariants.{NoPrec, PrecAt}
-use Rattle.productions.specs.declared.Act.TheVariants.{NoAction, ActionAt}
 use Rattle.productions.specs.declared.Production.{Production}
 use Rattle.productions.specs.Cells.{push_production}
 use Rattle.items.specs.declared.Sort.{Sort}
@@ -119,7 +110,7 @@ pub record Spots (src : List ℕ) (at : ℕ) (r : Spotted) : Type 0 where
 
 -- A production with nothing in it stands where its first item would have begun.
 abbrev pub begun : ℕ → ℕ → ℕ → Production
-begun rule from first = record { rule = rule; from = from; to = from; first = first; last = first; prec = NoPrec; action = NoAction }
+begun rule from first = record { rule = rule; from = from; to = from; first = first; last = first; prec = None; action = None }
 
 -- "A production runs from its first item to the end of its last, or to the `{`."
 abbrev pub with_to : Production → ℕ → Production
@@ -127,10 +118,10 @@ with_to d to = record { rule = d.rule; from = d.from; to = to; first = d.first; 
 
 -- "A later `%prec` replaces an earlier one."
 abbrev pub with_prec : Production → ℕ → ℕ → Production
-with_prec d a b = record { rule = d.rule; from = d.from; to = d.to; first = d.first; last = d.last; prec = PrecAt a b; action = d.action }
+with_prec d a b = record { rule = d.rule; from = d.from; to = d.to; first = d.first; last = d.last; prec = Some (a, b); action = d.action }
 
 abbrev pub with_action : Production → ℕ → ℕ → ℕ → ℕ → Production
-with_action d a b c e = record { rule = d.rule; from = d.from; to = d.to; first = d.first; last = d.last; prec = d.prec; action = ActionAt a b c e }
+with_action d a b c e = record { rule = d.rule; from = d.from; to = d.to; first = d.first; last = d.last; prec = d.prec; action = Some (a, b, c, e) }
 
 abbrev pub with_last : Production → ℕ → Production
 with_last d n = record { rule = d.rule; from = d.from; to = d.to; first = d.first; last = n; prec = d.prec; action = d.action }
@@ -164,16 +155,16 @@ unfoldable pub token_symbol : List ℕ → State → ℕ → ℕ → List ℕ �
 token_symbol src s from to t1 t9 = symbol_entered (enter_step src s from to false t1).answer (enter_step src s from to false t1) from to t9
 
 -- a quoted symbol's spacing comes before its rows
-abbrev pub quoted_gap : Gap → List ℕ → State → Production → ℕ → ℕ → ℕ → List ℕ → List ℕ → Made2
-quoted_gap (GapTo i n) src s d from to end t1 t9 = made2 (token_symbol src (with_at s i) from to t1 t9) (with_to d end)
-quoted_gap (GapRefused f) src s d from to end t1 t9 = refused2 f s d t1 t9
+abbrev pub quoted_gap : Result (ℕ × ℕ) Refusal → List ℕ → State → Production → ℕ → ℕ → ℕ → List ℕ → List ℕ → Made2
+quoted_gap (Ok (i, n)) src s d from to end t1 t9 = made2 (token_symbol src (with_at s i) from to t1 t9) (with_to d end)
+quoted_gap (Err f) src s d from to end t1 t9 = refused2 f s d t1 t9
 
 unfoldable pub quoted_rows : List ℕ → State → Production → ℕ → ℕ → ℕ → List ℕ → List ℕ → Made2
 quoted_rows src s d from to end t1 t9 = quoted_gap (gap_at s.kind true src end) src s d from to end t1 t9
 
-abbrev pub quoted_found : Token → List ℕ → State → Production → List ℕ → List ℕ → Made2
-quoted_found (Found p end q) src s d t1 t9 = quoted_rows src s d p.from p.to end t1 t9
-quoted_found (NoToken k) src s d t1 t9 = refused2 (Fault IllegalString k) s d t1 t9
+abbrev pub quoted_found : Result (Place × ℕ × Bool) ℕ → List ℕ → State → Production → List ℕ → List ℕ → Made2
+quoted_found (Ok (p, end, q)) src s d t1 t9 = quoted_rows src s d p.from p.to end t1 t9
+quoted_found (Err k) src s d t1 t9 = refused2 (Fault IllegalString k) s d t1 t9
 
 unfoldable pub quoted_item : List ℕ → State → Production → List ℕ → List ℕ → Made2
 quoted_item src s d t1 t9 = quoted_found (token_at src s.at) src s d t1 t9
@@ -182,16 +173,16 @@ quoted_item src s d t1 t9 = quoted_found (token_at src s.at) src s d t1 t9
 abbrev pub name_entered : List ℕ → ℕ → Out1 → Production → Made1
 name_entered src end o d = made1 (pass_on src false end o.answer o.state) d o.a
 
-abbrev pub prec_found : Token → List ℕ → State → Production → List ℕ → Made1
-prec_found (Found p end q) src s d t1 = name_entered src end (enter_step src s p.from p.to false t1) (with_to (with_prec d p.from p.to) end)
-prec_found (NoToken k) src s d t1 = refused1 (Fault IllegalString k) s d t1
+abbrev pub prec_found : Result (Place × ℕ × Bool) ℕ → List ℕ → State → Production → List ℕ → Made1
+prec_found (Ok (p, end, q)) src s d t1 = name_entered src end (enter_step src s p.from p.to false t1) (with_to (with_prec d p.from p.to) end)
+prec_found (Err k) src s d t1 = refused1 (Fault IllegalString k) s d t1
 
 unfoldable pub prec_name : List ℕ → State → Production → List ℕ → Made1
 prec_name src s d t1 = prec_found (token_at src s.at) src s d t1
 
-abbrev pub prec_gap : Gap → List ℕ → State → Production → List ℕ → Made1
-prec_gap (GapTo i n) src s d t1 = prec_name src (with_at s i) d t1
-prec_gap (GapRefused f) src s d t1 = refused1 f s d t1
+abbrev pub prec_gap : Result (ℕ × ℕ) Refusal → List ℕ → State → Production → List ℕ → Made1
+prec_gap (Ok (i, n)) src s d t1 = prec_name src (with_at s i) d t1
+prec_gap (Err f) src s d t1 = refused1 f s d t1
 
 -- from behind the keyword on, which is where the state stands
 unfoldable pub prec_item : List ℕ → State → Production → List ℕ → Made1
@@ -201,21 +192,21 @@ prec_item src s d t1 = prec_gap (gap_at s.kind true src s.at) src s d t1
 unfoldable pub may_end : List ℕ → ℕ → Bool
 may_end src k = is_at 124 src k || is_at 59 src k
 
-abbrev pub action_gap : Gap → List ℕ → State → Production → Made0
-action_gap (GapTo i n) src s d =
+abbrev pub action_gap : Result (ℕ × ℕ) Refusal → List ℕ → State → Production → Made0
+action_gap (Ok (i, n)) src s d =
     elim (may_end src i) [
       | true ↦ record { answer = Going; state = with_at s i; draft = d }
       | false ↦ refused0 (Fault NotTerminated i) (with_at s i) d
     ]
-action_gap (GapRefused f) src s d = refused0 f s d
+action_gap (Err f) src s d = refused0 f s d
 
 unfoldable pub after_action : List ℕ → State → Production → ℕ → Made0
 after_action src s d end = action_gap (gap_at s.kind true src end) src s d
 
 -- "its action is [..] the place of its trimmed text beside the crate's span"; the production runs "to the `{`"; "6 IncompleteAction"
-abbrev pub action_found : Action → List ℕ → State → Production → Made0
-action_found (Body end n p q) src s d = after_action src s (with_action (with_to d s.at) p.from p.to q.from q.to) end
-action_found (OpenAction i) src s d = refused0 (Fault IncompleteAction i) s d
+abbrev pub action_found : Result (ℕ × ℕ × Place × Place) ℕ → List ℕ → State → Production → Made0
+action_found (Ok (end, n, p, q)) src s d = after_action src s (with_action (with_to d s.at) p.from p.to q.from q.to) end
+action_found (Err i) src s d = refused0 (Fault IncompleteAction i) s d
 
 unfoldable pub action_item : List ℕ → State → Production → Made0
 action_item src s d = action_found (action_at src s.at) src s d
@@ -224,31 +215,31 @@ action_item src s d = action_found (action_at src s.at) src s d
 unfoldable pub may_follow : List ℕ → ℕ → Bool
 may_follow src k = (may_end src k || is_at 123 src k) || starts_at prec_word src k
 
-abbrev pub empty_gap : Gap → List ℕ → State → Production → ℕ → Made0
-empty_gap (GapTo k n) src s d first =
+abbrev pub empty_gap : Result (ℕ × ℕ) Refusal → List ℕ → State → Production → ℕ → Made0
+empty_gap (Ok (k, n)) src s d first =
     elim (eqb (count s symbols) d.first && may_follow src k) [
       | true ↦ record { answer = Going; state = with_at s k; draft = with_to d s.at }
       | false ↦ refused0 (Fault NonEmptyProduction first) s d
     ]
-empty_gap (GapRefused f) src s d first = refused0 f s d
+empty_gap (Err f) src s d first = refused0 f s d
 
 -- from behind the keyword on, which begins at `first`
 unfoldable pub empty_item : List ℕ → State → Production → ℕ → Made0
 empty_item src s d first = empty_gap (gap_at s.kind true src s.at) src s d first
 
 -- "A bare symbol is a token only if `%token` declared it, else a rule."
-abbrev pub kind_found : Row → List ℕ → ℕ
-kind_found (RowAt r) t1 = elim (eqb (cell (width tokens) t1 r declared) 1) [ true ↦ 2 | false ↦ 1 ]
-kind_found NoRow t1 = 1
+abbrev pub kind_found : Option ℕ → List ℕ → ℕ
+kind_found (Some r) t1 = elim (eqb (cell (width tokens) t1 r declared) 1) [ true ↦ 2 | false ↦ 1 ]
+kind_found None t1 = 1
 
 unfoldable pub symbol_kind : List ℕ → ℕ → List ℕ → ℕ → ℕ → ℕ
 symbol_kind src n t1 from to = kind_found (find_name src (width tokens) 0 n t1 from to) t1
 
 -- a bare symbol's row comes before its spacing
-abbrev pub bare_found : Token → List ℕ → State → Production → List ℕ → List ℕ → Made1
-bare_found (Found p end q) src s d t1 t9 =
+abbrev pub bare_found : Result (Place × ℕ × Bool) ℕ → List ℕ → State → Production → List ℕ → List ℕ → Made1
+bare_found (Ok (p, end, q)) src s d t1 t9 =
     name_entered src end (push_row s symbols (symbol_cells (symbol_kind src (count s tokens) t1 p.from p.to) p.from p.to) t9) (with_to d end)
-bare_found (NoToken k) src s d t1 t9 = refused1 (Fault IllegalString k) s d t9
+bare_found (Err k) src s d t1 t9 = refused1 (Fault IllegalString k) s d t9
 
 unfoldable pub bare_item : List ℕ → State → Production → List ℕ → List ℕ → Made1
 bare_item src s d t1 t9 = bare_found (token_at src s.at) src s d t1 t9

@@ -1,14 +1,12 @@
 -- A run of symbols, read with the few numbers that they change: where it stands, how many tokens and symbols there are, and where the draft ends. It has no
 -- definition of its own: it is so many turns of a rule's items, whatever else the state and the draft hold.
-use Rattle.std.specs.Prelude.{ℕ, ◌+◌, ◌-◌, ◌≤◌, ◌<◌, ◌≡◌, List, length}
+use Rattle.std.specs.Prelude.{ℕ, ◌+◌, ◌-◌, ◌≤◌, ◌<◌, ◌≡◌, List, length, Option, Some, None}
 use Rattle.scan.specs.Loop.{Left}
 use Rattle.tables.specs.Layout.{tokens, symbols}
 use Rattle.grammar.specs.declared.State.{State}
 use Rattle.grammar.specs.declared.Answer.TheVariants.{Going}
 use Rattle.grammar.specs.State.{count, with_at, with_count}
 use Rattle.productions.specs.declared.Production.{Production}
-use Rattle.items.specs.declared.Quick.{Quick}
-use Rattle.items.specs.declared.Quick.TheVariants.{Read, Unread}
 use Rattle.items.specs.Items.{Made3, with_to, item_step, item_turn}
 
 -- the state come to `at`, with m tokens and n symbols
@@ -34,14 +32,14 @@ pub record Reads (kind : ℕ) (src : List ℕ) (at m n : ℕ) (t1 t9 : List ℕ)
   pub step : (s : State) (d : Production) (t8 : List ℕ) → NumbersOf s kind at m n → going (ran_state s j k (n + 1)) (with_to d end) u1 t8 u9 ≡ item_step src s d t1 t8 t9
 
 -- what was not read left the tables as they stood
-abbrev pub Quickly : ℕ → List ℕ → ℕ → ℕ → ℕ → List ℕ → List ℕ → List ℕ → List ℕ → Quick → Type 0
-Quickly kind src at m n t1 t9 u1 u9 (Read j k end) = Reads kind src at m n t1 t9 j k end u1 u9
-Quickly kind src at m n t1 t9 u1 u9 Unread = (u1 ≡ t1) × (u9 ≡ t9)
+abbrev pub Quickly : ℕ → List ℕ → ℕ → ℕ → ℕ → List ℕ → List ℕ → List ℕ → List ℕ → Option (ℕ × ℕ × ℕ) → Type 0
+Quickly kind src at m n t1 t9 u1 u9 (Some (j, k, end)) = Reads kind src at m n t1 t9 j k end u1 u9
+Quickly kind src at m n t1 t9 u1 u9 None = (u1 ≡ t1) × (u9 ≡ t9)
 
 -- how many tokens there are behind it
-abbrev pub tokens_now : ℕ → Quick → ℕ
-tokens_now m (Read j k end) = k
-tokens_now m Unread = m
+abbrev pub tokens_now : ℕ → Option (ℕ × ℕ × ℕ) → ℕ
+tokens_now m (Some (j, k, end)) = k
+tokens_now m None = m
 
 -- A run from `at`, with m tokens, n symbols and a draft that ends at `to`, up to j, with k, l and `end`: what is left of a rule's items where it begins
 -- is what is left of them where it ends.

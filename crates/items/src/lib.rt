@@ -11,11 +11,8 @@ ghost use Rattle.items.specs.Items.{Inside, sort_at, Spots, begun, with_prec, wi
 ghost use Rattle.items.specs.declared.Sort.TheVariants.{QuotedSort, BareSort};
 ghost use Rattle.items.specs.Quick.{ran_state, Quickly, tokens_now, Ran};
 
-use grammar::{Answer, Cause, Gap, Refusal, State, Step};
-use productions::{Act, Prec, Production};
-use tables::{Entered, Found};
-use texts::Action;
-use words::Token;
+use grammar::{Answer, Cause, Refusal, State, Step};
+use productions::Production;
 
 // What stands at a place in a production.
 #[derive(Clone, Copy)]
@@ -42,13 +39,6 @@ pub struct Drafted {
     pub answer: Answer,
     pub state: State,
     pub draft: Production,
-}
-
-// A symbol that was read: where the next item stands, how many tokens there are, and where its word ends; or it was left as it stood.
-#[derive(Clone, Copy)]
-pub enum Quick {
-    Read(usize, u32, u32),
-    Unread,
 }
 
 // Where a run of symbols ends, how many tokens and symbols there are then, and where the last symbol's word ends.
@@ -106,8 +96,8 @@ pub fn begin(rule: u32, from: u32, first: u32) -> Production
         to: from,
         first,
         last: first,
-        prec: Prec::NoPrec,
-        action: Act::NoAction,
+        prec: None,
+        action: None,
     }
 }
 
@@ -135,7 +125,7 @@ pub fn with_prec(d: Production, from: u32, to: u32) -> Production
         to: d.to,
         first: d.first,
         last: d.last,
-        prec: Prec::PrecAt(from, to),
+        prec: Some((from, to)),
         action,
     }
 }
@@ -151,7 +141,7 @@ pub fn with_action(d: Production, a: u32, b: u32, c: u32, e: u32) -> Production
         first: d.first,
         last: d.last,
         prec,
-        action: Act::ActionAt(a, b, c, e),
+        action: Some((a, b, c, e)),
     }
 }
 
@@ -207,7 +197,7 @@ pub fn quoted_rows(
     ensures indexed { Tokens src.now result.state.counts t1.new i1.new }
 {
     match grammar::pass_gap(src, s.kind, end, true) {
-        Gap::GapTo(i, _) => {
+        Ok((i, _)) => {
             let mut n = s;
             n.at = i;
             let r = token_symbol(src, n, from, to, t1, t9, i1);
@@ -215,7 +205,7 @@ pub fn quoted_rows(
             made.to = end as u32;
             carry(r, made)
         }
-        Gap::GapRefused(f) => Drafted {
+        Err(f) => Drafted {
             answer: Answer::Refused(f),
             state: s,
             draft: d,
@@ -238,10 +228,8 @@ pub fn quoted_item(
 {
     let at = s.at;
     match words::parse_token(src, at) {
-        Token::Found(p, end, _) => {
-            quoted_rows(src, s, d, p.from as u32, p.to as u32, end, t1, t9, i1)
-        }
-        Token::NoToken(k) => Drafted {
+        Ok((p, end, _)) => { quoted_rows(src, s, d, p.from as u32, p.to as u32, end, t1, t9, i1) }
+        Err(k) => Drafted {
             answer: Answer::Refused(Refusal::Fault(Cause::IllegalString, k as u32)),
             state: s,
             draft: d,
@@ -258,7 +246,7 @@ pub fn prec_name(src: &[u8], s: State, d: Production, t1: &mut [u32], i1: &mut [
 {
     let at = s.at;
     match words::parse_token(src, at) {
-        Token::Found(p, end, _) => {
+        Ok((p, end, _)) => {
             let from = p.from as u32;
             let to = p.to as u32;
             let e = grammar::enter(src, s, from, to, false, t1, i1);
@@ -267,7 +255,7 @@ pub fn prec_name(src: &[u8], s: State, d: Production, t1: &mut [u32], i1: &mut [
             made.to = end as u32;
             carry(q, made)
         }
-        Token::NoToken(k) => Drafted {
+        Err(k) => Drafted {
             answer: Answer::Refused(Refusal::Fault(Cause::IllegalString, k as u32)),
             state: s,
             draft: d,
@@ -284,12 +272,12 @@ pub fn prec_item(src: &[u8], s: State, d: Production, t1: &mut [u32], i1: &mut [
 {
     let at = s.at;
     match grammar::pass_gap(src, s.kind, at, true) {
-        Gap::GapTo(i, _) => {
+        Ok((i, _)) => {
             let mut n = s;
             n.at = i;
             prec_name(src, n, d, t1, i1)
         }
-        Gap::GapRefused(f) => Drafted {
+        Err(f) => Drafted {
             answer: Answer::Refused(f),
             state: s,
             draft: d,
@@ -311,7 +299,7 @@ pub fn after_action(src: &[u8], s: State, d: Production, end: usize) -> Drafted
     ensures moved { Onward src.now end s.at result.answer result.state.at }
 {
     match grammar::pass_gap(src, s.kind, end, true) {
-        Gap::GapTo(i, _) => {
+        Ok((i, _)) => {
             let mut n = s;
             n.at = i;
             if may_end(src, i) {
@@ -327,7 +315,7 @@ pub fn after_action(src: &[u8], s: State, d: Production, end: usize) -> Drafted
                 draft: d,
             }
         }
-        Gap::GapRefused(f) => Drafted {
+        Err(f) => Drafted {
             answer: Answer::Refused(f),
             state: s,
             draft: d,
@@ -343,7 +331,7 @@ pub fn action_item(src: &[u8], s: State, d: Production) -> Drafted
 {
     let at = s.at;
     match texts::parse_action(src, at) {
-        Action::Body(end, _, text, span) => {
+        Ok((end, _, text, span)) => {
             let mut made = with_action(
                 d,
                 text.from as u32,
@@ -354,7 +342,7 @@ pub fn action_item(src: &[u8], s: State, d: Production) -> Drafted
             made.to = at as u32;
             after_action(src, s, made, end)
         }
-        Action::OpenAction(i) => Drafted {
+        Err(i) => Drafted {
             answer: Answer::Refused(Refusal::Fault(Cause::IncompleteAction, i as u32)),
             state: s,
             draft: d,
@@ -377,7 +365,7 @@ pub fn empty_item(src: &[u8], s: State, d: Production, first: u32) -> Drafted
 {
     let at = s.at;
     match grammar::pass_gap(src, s.kind, at, true) {
-        Gap::GapTo(k, _) => {
+        Ok((k, _)) => {
             let no_symbol = grammar::count_of(s, tables::SYMBOLS) == d.first;
             if no_symbol & may_follow(src, k) {
                 let mut n = s;
@@ -396,7 +384,7 @@ pub fn empty_item(src: &[u8], s: State, d: Production, first: u32) -> Drafted
                 draft: d,
             }
         }
-        Gap::GapRefused(f) => Drafted {
+        Err(f) => Drafted {
             answer: Answer::Refused(f),
             state: s,
             draft: d,
@@ -410,14 +398,14 @@ pub fn symbol_kind(src: &[u8], n: u32, t1: &[u32], i1: &[u16], from: u32, to: u3
     ensures { result ≡ symbol_kind src.now n t1.now from to }
 {
     match finder::find(src, t1, tables::TOKEN_WIDTH, tables::NAME, n, i1, from, to) {
-        Found::RowAt(r) => {
+        Some(r) => {
             if tables::cell(t1, tables::TOKEN_WIDTH, r, tables::DECLARED) == 1 {
                 2
             } else {
                 1
             }
         }
-        Found::NoRow => 1,
+        None => 1,
     }
 }
 
@@ -437,7 +425,7 @@ pub fn bare_item(
 {
     let at = s.at;
     match words::parse_token(src, at) {
-        Token::Found(p, end, _) => {
+        Ok((p, end, _)) => {
             let from = p.from as u32;
             let to = p.to as u32;
             let kind = symbol_kind(src, grammar::count_of(s, tables::TOKENS), t1, i1, from, to);
@@ -448,7 +436,7 @@ pub fn bare_item(
             made.to = end as u32;
             carry(q, made)
         }
-        Token::NoToken(k) => Drafted {
+        Err(k) => Drafted {
             answer: Answer::Refused(Refusal::Fault(Cause::IllegalString, k as u32)),
             state: s,
             draft: d,
@@ -548,7 +536,8 @@ fn symbol_room(t9: &[u32], n: u32) -> bool
     (n as usize) < t9.len() / (tables::SYMBOL_WIDTH as usize)
 }
 
-// A bare symbol, with the spacing of the kind behind it, where there are `m` tokens and `n` symbols. Nothing changes where it is refused, or finds no room.
+// A bare symbol, with the spacing of the kind behind it, where there are `m` tokens and `n` symbols: where the next item stands, how many tokens there are, and where its word ends.
+// Nothing changes where it is refused, or finds no room: then there is none.
 fn quick_bare(
     src: &[u8],
     kind: u32,
@@ -558,27 +547,27 @@ fn quick_bare(
     t1: &[u32],
     t9: &mut [u32],
     i1: &[u16],
-) -> Quick
+) -> Option<(usize, u32, u32)>
     requires { Here src.now at × Held src.now (width tokens) 0 m t1.now i1.now × ((sort_at src.now at).sort ≡ BareSort) }
     ensures is { Quickly kind src.now at m n t1.now t9.old t1.now t9.new result }
     ensures indexed { Held src.now (width tokens) 0 (tokens_now m result) t1.now i1.now }
 {
     match words::parse_token(src, at) {
-        Token::Found(p, end, _) => match grammar::pass_gap(src, kind, end, true) {
-            Gap::GapTo(j, _) => {
+        Ok((p, end, _)) => match grammar::pass_gap(src, kind, end, true) {
+            Ok((j, _)) => {
                 let from = p.from as u32;
                 let to = p.to as u32;
                 let which = symbol_kind(src, m, t1, i1, from, to);
                 let row = [which, from, to, 0];
                 if tables::add_row(t9, n, &row) {
-                    Quick::Read(j, m, end as u32)
+                    Some((j, m, end as u32))
                 } else {
-                    Quick::Unread
+                    None
                 }
             }
-            Gap::GapRefused(_) => Quick::Unread,
+            Err(_) => None,
         },
-        Token::NoToken(_) => Quick::Unread,
+        Err(_) => None,
     }
 }
 
@@ -592,31 +581,31 @@ fn quick_quoted(
     t1: &mut [u32],
     t9: &mut [u32],
     i1: &mut [u16],
-) -> Quick
+) -> Option<(usize, u32, u32)>
     requires { Here src.now at × Held src.now (width tokens) 0 m t1.old i1.old × ((sort_at src.now at).sort ≡ QuotedSort) }
     ensures is { Quickly kind src.now at m n t1.old t9.old t1.new t9.new result }
     ensures indexed { Held src.now (width tokens) 0 (tokens_now m result) t1.new i1.new }
 {
     if !symbol_room(t9, n) {
-        return Quick::Unread;
+        return None;
     }
     match words::parse_token(src, at) {
-        Token::Found(p, end, _) => match grammar::pass_gap(src, kind, end, true) {
-            Gap::GapTo(j, _) => {
+        Ok((p, end, _)) => match grammar::pass_gap(src, kind, end, true) {
+            Ok((j, _)) => {
                 let from = p.from as u32;
                 let to = p.to as u32;
                 match finder::enter_token(src, t1, m, i1, from, to, false) {
-                    Entered::Rows(k) => {
+                    Some(k) => {
                         let row = [2, from, to, 0];
                         tables::add_row(t9, n, &row);
-                        Quick::Read(j, k, end as u32)
+                        Some((j, k, end as u32))
                     }
-                    Entered::Full => Quick::Unread,
+                    None => None,
                 }
             }
-            Gap::GapRefused(_) => Quick::Unread,
+            Err(_) => None,
         },
-        Token::NoToken(_) => Quick::Unread,
+        Err(_) => None,
     }
 }
 
@@ -630,18 +619,18 @@ fn quick_symbol(
     t1: &mut [u32],
     t9: &mut [u32],
     i1: &mut [u16],
-) -> Quick
+) -> Option<(usize, u32, u32)>
     requires { Here src.now at × Held src.now (width tokens) 0 m t1.old i1.old }
     ensures is { Quickly kind src.now at m n t1.old t9.old t1.new t9.new result }
     ensures indexed { Held src.now (width tokens) 0 (tokens_now m result) t1.new i1.new }
 {
     if src.len() <= at {
-        return Quick::Unread;
+        return None;
     }
     let c = src[at];
     match c {
         b'"' | b'\'' => quick_quoted(src, kind, at, m, n, t1, t9, i1),
-        b'|' | b';' | b'%' | b'{' => Quick::Unread,
+        b'|' | b';' | b'%' | b'{' => None,
         _ => quick_bare(src, kind, at, m, n, t1, t9, i1),
     }
 }
@@ -671,7 +660,7 @@ pub fn symbol_run(
     };
     loop {
         match quick_symbol(src, kind, run.at, run.tokens, run.symbols, t1, t9, i1) {
-            Quick::Read(j, k, end) => {
+            Some((j, k, end)) => {
                 run = Run {
                     at: j,
                     tokens: k,
@@ -679,7 +668,7 @@ pub fn symbol_run(
                     to: end,
                 };
             }
-            Quick::Unread => {
+            None => {
                 return run;
             }
         }

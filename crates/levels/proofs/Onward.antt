@@ -1,4 +1,5 @@
 -- A declaration that goes on comes to stand behind its keyword, or where that ends. Assumes nothing.
+use Rattle.std.specs.Prelude.{Option, Some, None, Result, Ok, Err}
 use Prim.Native.Nat.{ℕ, ◌+◌, ◌≤◌, ◌<◌}
 use mathlib.Core.Path.{◌≡◌, refl}
 use mathlib.Core.List.{List}
@@ -11,11 +12,8 @@ use borrow.Author.Tests.{leb-false}
 use Rattle.scan.specs.declared.Place.{Place}
 use Rattle.scan.specs.Scan.{is_at}
 use Rattle.scan.proofs.Bytes.{le_or_lt, on_test, told, at_below}
-use Rattle.words.specs.declared.Name.{Name}
-use Rattle.words.specs.declared.Name.TheVariants.{NameTo, NoName}
-use Rattle.words.specs.declared.Int.{Int}
-use Rattle.words.specs.declared.Int.TheVariants.{Value, NoDigits, TooLarge}
-use Rattle.words.specs.declared.Token.TheVariants.{Found}
+use Rattle.words.specs.declared.IntError.{IntError}
+use Rattle.words.specs.declared.IntError.TheVariants.{NoDigits, TooLarge}
 use Rattle.words.specs.Words.{name_at, token_at, Named, Tokened}
 use Rattle.words.specs.Numbers.{int_at, Counted}
 use Rattle.words.specs.Strings.{string_at, Stringed}
@@ -24,10 +22,6 @@ use Rattle.words.proofs.Words.{name_placed, token_placed}
 use Rattle.words.proofs.Numbers.{int_placed}
 use Rattle.words.proofs.Strings.{string_placed}
 use Rattle.words.proofs.Tags.{tag_placed}
-use Rattle.texts.specs.declared.ColonText.{ColonText}
-use Rattle.texts.specs.declared.ColonText.TheVariants.{Upto, NoColon}
-use Rattle.texts.specs.declared.Brace.{Brace}
-use Rattle.texts.specs.declared.Brace.TheVariants.{Closes, NeverCloses}
 use Rattle.texts.specs.Colon.{colon_text_at, ColonTexts}
 use Rattle.texts.specs.Line.{line_end_at}
 use Rattle.texts.specs.Action.{braced_at, Braced}
@@ -36,12 +30,10 @@ use Rattle.texts.proofs.Laws.{colon_placed, mark_placed, braces}
 use Rattle.tables.specs.Layout.{repeats, bodies}
 use Rattle.tables.specs.Table.{add_row}
 use Rattle.grammar.specs.declared.State.{State}
-use Rattle.grammar.specs.declared.Part.{Part}
 use Rattle.grammar.specs.declared.Answer.{Answer}
 use Rattle.grammar.specs.declared.Answer.TheVariants.{Going}
 use Rattle.grammar.specs.declared.Repeat.{Repeat}
-use Rattle.grammar.specs.declared.Gap.{Gap}
-use Rattle.grammar.specs.declared.Gap.TheVariants.{GapTo, GapRefused}
+use Rattle.grammar.specs.declared.Refusal.{Refusal}
 use Rattle.grammar.specs.Cells.{body_cells}
 use Rattle.grammar.specs.State.{Out1, Out3, Passed, count, gap_at, Gapped, pushed, push_row, pass_on}
 use Rattle.grammar.specs.Sound.{AllTables, Far}
@@ -87,70 +79,70 @@ module _ {src : List ℕ} {done : ℕ} {s : State} {T : AllTables} (f : Far src 
   unfolding start_decl
   start_onward = go (gap_at s.kind false src s.at) (gapped s.kind false src s.at f.here)
     where
-      named : (i : ℕ) → s.at ≤ i → (n : Name) → Named src i n → s.at ≤ (start_name n i src s T.t10).state.at
-      named i h (NameTo j) x = let a = x.0 in let b = x.1 in held j _ (start_held f i j (record { onward = omega arith; inside = b })) (omega arith) b
-      named i h (NoName k) x = omega arith
+      named : (i : ℕ) → s.at ≤ i → (n : Result ℕ ℕ) → Named src i n → s.at ≤ (start_name n i src s T.t10).state.at
+      named i h (Ok j) x = let a = x.0 in let b = x.1 in held j _ (start_held f i j (record { onward = omega arith; inside = b })) (omega arith) b
+      named i h (Err k) x = omega arith
 
-      go : (g : Gap) → Gapped src s.at g → s.at ≤ (start_from g src s T.t10).state.at
-      go (GapTo i n) x = let a = x.0 in named i (omega arith) (name_at src i) (name_placed src i (name_at src i) refl).1
-      go (GapRefused e) x = omega arith
+      go : (g : Result (ℕ × ℕ) Refusal) → Gapped src s.at g → s.at ≤ (start_from g src s T.t10).state.at
+      go (Ok (i, n)) x = let a = x.0 in named i (omega arith) (name_at src i) (name_placed src i (name_at src i) refl).1
+      go (Err e) x = omega arith
 
   pub expect_onward : (rr : Bool) → s.at ≤ (expect_decl src s rr T.t10).state.at
   unfolding expect_decl
   expect_onward rr = go (gap_at s.kind false src s.at) (gapped s.kind false src s.at f.here)
     where
-      counted : (i : ℕ) → s.at ≤ i → (n : Int) → Counted src i n → s.at ≤ (expect_int n i src s rr T.t10).state.at
-      counted i h (Value v j) x = let a = x.0 in let b = x.1 in held j _ (expect_held f rr v i j (record { onward = omega arith; inside = b })) (omega arith) b
-      counted i h (NoDigits k) x = omega arith
-      counted i h (TooLarge k) x = omega arith
+      counted : (i : ℕ) → s.at ≤ i → (n : Result (ℕ × ℕ) IntError) → Counted src i n → s.at ≤ (expect_int n i src s rr T.t10).state.at
+      counted i h (Ok (v, j)) x = let a = x.0 in let b = x.1 in held j _ (expect_held f rr v i j (record { onward = omega arith; inside = b })) (omega arith) b
+      counted i h (Err (NoDigits k)) x = omega arith
+      counted i h (Err (TooLarge k)) x = omega arith
 
-      go : (g : Gap) → Gapped src s.at g → s.at ≤ (expect_from g src s rr T.t10).state.at
-      go (GapTo i n) x = let a = x.0 in counted i (omega arith) (int_at src i) (int_placed src i x.1 (int_at src i) refl).1
-      go (GapRefused e) x = omega arith
+      go : (g : Result (ℕ × ℕ) Refusal) → Gapped src s.at g → s.at ≤ (expect_from g src s rr T.t10).state.at
+      go (Ok (i, n)) x = let a = x.0 in counted i (omega arith) (int_at src i) (int_placed src i x.1 (int_at src i) refl).1
+      go (Err e) x = omega arith
 
   pub actiontype_onward : s.at ≤ (actiontype_decl src s T.t10).state.at
   unfolding actiontype_decl
   actiontype_onward = go (gap_at s.kind false src s.at) (gapped s.kind false src s.at f.here)
     where
-      go : (g : Gap) → Gapped src s.at g → s.at ≤ (actiontype_from g src s T.t10).state.at
-      go (GapTo i n) x =
+      go : (g : Result (ℕ × ℕ) Refusal) → Gapped src s.at g → s.at ≤ (actiontype_from g src s T.t10).state.at
+      go (Ok (i, n)) x =
           let a = x.0 in
           let e = line_end_lem src i x.1 in
           let b = e.0 in
           held (line_end_at src i) _ (actiontype_held f i (line_end_at src i) (record { onward = b; inside = e.1 })) (omega arith) e.1
-      go (GapRefused e) x = omega arith
+      go (Err e) x = omega arith
 
   -- the text to the line end, where spacing led
-  line_passed_on : (k i n : ℕ) → s.at ≤ k → Gapped src k (GapTo i n) → (u : State) → u.at ≡ s.at → s.at ≤ (pass_on src false (line_end_at src i) Going u).state.at
+  line_passed_on : (k i n : ℕ) → s.at ≤ k → Gapped src k (Ok (i, n)) → (u : State) → u.at ≡ s.at → s.at ≤ (pass_on src false (line_end_at src i) Going u).state.at
   line_passed_on k i n h x u q = let a = x.0 in let e = line_end_lem src i x.1 in let b = e.0 in passed (line_end_at src i) Going u q (omega arith) e.1
 
   pub generics_onward : s.at ≤ (generics_decl src s).state.at
   unfolding generics_decl
   generics_onward = go (gap_at s.kind false src s.at) (gapped s.kind false src s.at f.here)
     where
-      go : (g : Gap) → Gapped src s.at g → s.at ≤ (generics_from g src s).state.at
-      go (GapTo i n) x = line_passed_on s.at i n (omega arith) x _ refl
-      go (GapRefused e) x = omega arith
+      go : (g : Result (ℕ × ℕ) Refusal) → Gapped src s.at g → s.at ≤ (generics_from g src s).state.at
+      go (Ok (i, n)) x = line_passed_on s.at i n (omega arith) x _ refl
+      go (Err e) x = omega arith
 
   typed_onward : (a b k : ℕ) → s.at ≤ k → k ≤ length src → s.at ≤ (param_typed src s a b k).state.at
   unfolding param_typed
   typed_onward a b k h l = go (gap_at s.kind false src k) (gapped s.kind false src k l)
     where
-      go : (g : Gap) → Gapped src k g → s.at ≤ (param_given g src s a b).state.at
-      go (GapTo i n) x = line_passed_on k i n h x _ refl
-      go (GapRefused e) x = omega arith
+      go : (g : Result (ℕ × ℕ) Refusal) → Gapped src k g → s.at ≤ (param_given g src s a b).state.at
+      go (Ok (i, n)) x = line_passed_on k i n h x _ refl
+      go (Err e) x = omega arith
 
   pub param_onward : s.at ≤ (param_decl src s).state.at
   unfolding param_decl
   param_onward = go (gap_at s.kind false src s.at) (gapped s.kind false src s.at f.here)
     where
-      text : (i : ℕ) → s.at ≤ i → (t : ColonText) → ColonTexts src i t → s.at ≤ (param_text t src s).state.at
-      text i h (Upto j n p) x = let a = x.0 in let b = x.1 in typed_onward p.from p.to (j + 1) (omega arith) (omega arith)
-      text i h (NoColon k) x = omega arith
+      text : (i : ℕ) → s.at ≤ i → (t : Result (ℕ × ℕ × Place) ℕ) → ColonTexts src i t → s.at ≤ (param_text t src s).state.at
+      text i h (Ok (j, n, p)) x = let a = x.0 in let b = x.1 in typed_onward p.from p.to (j + 1) (omega arith) (omega arith)
+      text i h (Err k) x = omega arith
 
-      go : (g : Gap) → Gapped src s.at g → s.at ≤ (param_from g src s).state.at
-      go (GapTo i n) x = let a = x.0 in text i (omega arith) (colon_text_at src i) (colon_placed src i x.1 (colon_text_at src i) refl).1
-      go (GapRefused e) x = omega arith
+      go : (g : Result (ℕ × ℕ) Refusal) → Gapped src s.at g → s.at ≤ (param_from g src s).state.at
+      go (Ok (i, n)) x = let a = x.0 in text i (omega arith) (colon_text_at src i) (colon_placed src i x.1 (colon_text_at src i) refl).1
+      go (Err e) x = omega arith
 
   -- a body up to its end
   body_onward : (sort from to end : ℕ) → s.at ≤ end → end ≤ length src → s.at ≤ (body_row src s sort from to end T.t17).state.at
@@ -161,32 +153,32 @@ module _ {src : List ℕ} {done : ℕ} {s : State} {T : AllTables} (f : Far src 
   unfolding prologue_decl
   prologue_onward at = go (marked_at src s.at) (mark_placed src s.at (marked_at src s.at) refl).1
     where
-      go : (b : Brace) → Marked src s.at b → s.at ≤ (prologue_closed b src s at T.t17).state.at
-      go (Closes to n) x = let y = mark_inside src s.at (Closes to n) to n x refl in let a = y.0 in body_onward 1 s.at to (to + 2) (omega arith) y.1
-      go NeverCloses x = omega arith
+      go : (b : Option (ℕ × ℕ)) → Marked src s.at b → s.at ≤ (prologue_closed b src s at T.t17).state.at
+      go (Some (to, n)) x = let y = mark_inside src s.at (Some (to, n)) to n x refl in let a = y.0 in body_onward 1 s.at to (to + 2) (omega arith) y.1
+      go None x = omega arith
 
   pub union_onward : (at : ℕ) → s.at ≤ (union_decl src s at T.t17).state.at
   unfolding union_decl union_body
   union_onward at = gap (gap_at s.kind false src s.at) (gapped s.kind false src s.at f.here)
     where
-      brace : (i : ℕ) → s.at ≤ i → (b : Brace) → Braced src (i + 1) b → s.at ≤ (union_closed b src s at i T.t17).state.at
-      brace i h (Closes to n) x =
-          let y = brace_inside src (i + 1) (Closes to n) to n x refl in
+      brace : (i : ℕ) → s.at ≤ i → (b : Option (ℕ × ℕ)) → Braced src (i + 1) b → s.at ≤ (union_closed b src s at i T.t17).state.at
+      brace i h (Some (to, n)) x =
+          let y = brace_inside src (i + 1) (Some (to, n)) to n x refl in
           let a = y.0 in
           let b = y.1 in
           body_onward 2 (i + 1) to (to + 1) (omega arith) (omega arith)
-      brace i h NeverCloses x = omega arith
+      brace i h None x = omega arith
 
       open_at : (i : ℕ) → s.at ≤ i → (b : Bool) → is_at 123 src i ≡ b → s.at ≤ (union_opened b src s at i T.t17).state.at
       open_at i h true e = let l = at_below src i 123 e in brace i h (braced_at src (i + 1)) (braces src (i + 1) (omega arith))
       open_at i h false e = omega arith
 
-      gap : (g : Gap) → Gapped src s.at g → s.at ≤ (union_from g src s at T.t17).state.at
-      gap (GapTo i n) x = let a = x.0 in open_at i (omega arith) (is_at 123 src i) refl
-      gap (GapRefused e) x = omega arith
+      gap : (g : Result (ℕ × ℕ) Refusal) → Gapped src s.at g → s.at ≤ (union_from g src s at T.t17).state.at
+      gap (Ok (i, n)) x = let a = x.0 in open_at i (omega arith) (is_at 123 src i) refl
+      gap (Err e) x = omega arith
 
 -- where spacing led
-gap_to : (kind : ℕ) (ok : Bool) (src : List ℕ) (at i n : ℕ) → at ≤ length src → gap_at kind ok src at ≡ GapTo i n → Passed src at i
+gap_to : (kind : ℕ) (ok : Bool) (src : List ℕ) (at i n : ℕ) → at ≤ length src → gap_at kind ok src at ≡ Ok (i, n) → Passed src at i
 gap_to kind ok src at i n h e = let x = told (Gapped src at) e (gapped kind ok src at h) in record { onward = omega (arith, x.0); inside = x.1 }
 
 -- words up to the next `%`, where each word goes onward
@@ -200,7 +192,7 @@ module _ (kind : ℕ) {A : Type 0} (Word : ℕ → ℕ → A → Type 0) (src : 
       omega (arith, a.onward, b.onward)
 
 -- a tag in front of the words, or none
-tag_passed : {kind : ℕ} {wanted line : Bool} {src : List ℕ} {i j : ℕ} {tag : Part} → i ≤ length src → TagBefore kind wanted line src i j tag → Passed src i j
+tag_passed : {kind : ℕ} {wanted line : Bool} {src : List ℕ} {i j : ℕ} {tag : Option (ℕ × ℕ)} → i ≤ length src → TagBefore kind wanted line src i j tag → Passed src i j
 tag_passed h (headless d) = record { onward = omega arith; inside = h }
 tag_passed h (bare k w e) = record { onward = omega arith; inside = h }
 tag_passed {kind} {src = src} h (tagged {i} {end} {j} {n} {p} k e g l) =
@@ -208,20 +200,20 @@ tag_passed {kind} {src = src} h (tagged {i} {end} {j} {n} {p} k e g l) =
     let b = gap_to kind true src end j n a.3 g in
     record { onward = omega (arith, a.0, a.1, a.2, b.onward); inside = b.inside }
 
-lead_onward : (what : WordList) (kind : ℕ) (src : List ℕ) (i j : ℕ) (tag : Part) → i ≤ length src → Leads what kind src i j tag → i ≤ j
+lead_onward : (what : WordList) (kind : ℕ) (src : List ℕ) (i j : ℕ) (tag : Option (ℕ × ℕ)) → i ≤ length src → Leads what kind src i j tag → i ≤ j
 lead_onward TokenList kind src i j tag h x = (tag_passed h x).onward
 lead_onward UnusedList kind src i j tag h x = let e = x.0 in omega arith
 lead_onward TypeList kind src i j tag h x = (tag_passed h x).onward
 
 module _ (what : WordList) (kind : ℕ) {A : Type 0} (Word : ℕ → ℕ → A → Type 0) (src : List ℕ) (goes : (i end : ℕ) (x : A) → Word i end x → Passed src i end) where
-  listed_onward : (at j : ℕ) (tag : Part) (xs : List A) → at ≤ length src → Listed what kind Word src at j tag xs → at ≤ j
+  listed_onward : (at j : ℕ) (tag : Option (ℕ × ℕ)) (xs : List A) → at ≤ length src → Listed what kind Word src at j tag xs → at ≤ j
   listed_onward at j tag xs h l =
       let a = gap_to kind false src at l.from l.lines h l.gap in
       let b = lead_onward what kind src l.from l.head tag a.inside l.lead in
       let c = written_onward kind Word src goes l.words in
       omega (arith, a.onward)
 
-token_passed : (src : List ℕ) (i : ℕ) (p : Place) (end : ℕ) (quoted : Bool) → token_at src i ≡ Found p end quoted → Passed src i end
+token_passed : (src : List ℕ) (i : ℕ) (p : Place) (end : ℕ) (quoted : Bool) → token_at src i ≡ Ok (p, end, quoted) → Passed src i end
 token_passed src i p end quoted e = let x = told (Tokened src i) e (token_placed src i (token_at src i) refl).1 in record { onward = omega (arith, x.0, x.1, x.2); inside = x.3 }
 
 token_word : (kind : ℕ) (src : List ℕ) (i end : ℕ) (w : ListWord) → TokenWord kind src i end w → Passed src i end

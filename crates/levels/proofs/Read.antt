@@ -1,4 +1,5 @@
 -- The levels that a read leaves follow the lines of its source, whatever the source, the kind and the lent tables. Assumes nothing.
+use Rattle.std.specs.Prelude.{Ok, Err, Result}
 use Prim.Native.Nat.{ℕ, ◌≤◌, ◌<◌}
 use mathlib.Core.Path.{◌≡◌, refl, sym, ◌∙◌}
 use mathlib.Core.List.{List}
@@ -9,8 +10,6 @@ use lib.Dec.{ltb, eqb}
 use lib.ListN.{length, get_or}
 use borrow.Author.Tests.{ltb-false}
 use Rattle.scan.proofs.Bytes.{on_test}
-use Rattle.whole.specs.declared.Checked.{Checked}
-use Rattle.whole.specs.declared.Checked.TheVariants.{Good, BadAt}
 use Rattle.whole.specs.Whole.{check_at}
 use Rattle.tables.specs.Layout.{precedences, repeats, level, width}
 use Rattle.tables.proofs.Rows.{row_cell}
@@ -23,11 +22,10 @@ use Rattle.grammar.proofs.Far.{fresh_far}
 use Rattle.declarations.specs.Declarations.{Out, decl_all}
 use Rattle.declarations.proofs.Far.{FarAll, declarations_far}
 use Rattle.lines.specs.Line.{is_feed}
-use Rattle.sections.specs.declared.Admission.{Admission}
-use Rattle.sections.specs.declared.Admission.TheVariants.{Fit, Unfit}
+use Rattle.grammar.specs.declared.Refusal.{Refusal}
 use Rattle.sections.specs.Sections.{as_text, sized, sized_text, admitted, Short, rest_all, declared, sections_from, sections_all, attempt_of, attempted}
 use Rattle.reader.specs.declared.Reading.{Reading}
-use Rattle.reader.specs.Read.{Result, ended_at, result, finished, finished_run, indexed, filled_in, read_names, read_all}
+use Rattle.reader.specs.Read.{ReadResult, ended_at, result, finished, finished_run, indexed, filled_in, read_names, read_all}
 use Rattle.reader.specs.Allowed.{Full}
 use Rattle.reader.proofs.Sound.{read_sound}
 use Rattle.levels.specs.Levels.{token_from, token_to, level_of, TwoRows, NoFeedBetween, NoLineEndBetween}
@@ -35,7 +33,7 @@ use Rattle.levels.proofs.Laid.{precedence_row, LinesApart, AllApart, laid_none, 
 use Rattle.levels.proofs.Section.{far_numbered, ApartIn, section_pairs}
 
 -- What a read leaves of table 2: no row, or those of the declarations.
-data Left (src : List ℕ) (o : Result) : Type 0 where
+data Left (src : List ℕ) (o : ReadResult) : Type 0 where
   none : get_or o.counts.n precedences 0 ≡ 0 → Left src o
   full : Full o.answer → (n : ℕ) → Numbered n o.tables.t2 → AllApart src n o.tables.t2 → Left src o
 
@@ -70,9 +68,9 @@ admits : (src : List ℕ) (kind : ℕ) (fit : Bool) → Short src (admitted src 
 unfolding admitted
 admits src kind fit = on_test (Short src) (ltb kind 1 || ltb 4 kind) _ _ (λ e. tt) (λ e. by fit)
   where
-    go : (c : Checked) → length src ≤ 65536 → Short src (as_text c)
-    go Good h = h
-    go (BadAt i) h = tt
+    go : (c : Result (Unit {0}) ℕ) → length src ≤ 65536 → Short src (as_text c)
+    go (Ok _) h = h
+    go (Err i) h = tt
 
     by : (b : Bool) → Short src (sized_text b src)
     by true = on_test (Short src) (ltb 65536 (length src)) _ _ (λ h. tt) (λ h. go (check_at src 0) (ltb-false _ _ h))
@@ -82,13 +80,13 @@ left : (src : List ℕ) (kind : ℕ) (T : AllTables) (X : Indexes) → Left src 
 unfolding read_all read_names attempted
 left src kind T X = go (admitted src kind (sized T X)) (admits src kind (sized T X))
   where
-    go : (m : Admission) → Short src m → Left src (filled_in src (indexed src X (finished_run (attempt_of m src kind (zero_all T)))))
-    go Fit h = sections_left src kind T X h
-    go (Unfit f) h = none refl
+    go : (m : Result (Unit {0}) Refusal) → Short src m → Left src (filled_in src (indexed src X (finished_run (attempt_of m src kind (zero_all T)))))
+    go (Ok _) h = sections_left src kind T X h
+    go (Err f) h = none refl
 
 -- In any reading, whatever its answer; where it was refused for more than repeats, there are no rows.
 module _ (src : List ℕ) (kind : ℕ) (T : AllTables) (X : Indexes) (q r : ℕ) (two : TwoRows (read_all src kind T X) q r) where
-  abbrev o : Result
+  abbrev o : ReadResult
   o = read_all src kind T X
 
   sound_numbered : Full o.answer → Numbered (get_or o.counts.n precedences 0) o.tables.t2

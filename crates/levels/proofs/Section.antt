@@ -1,4 +1,5 @@
 -- The declarations section lays down the rows of table 2 by lines: a precedence line adds its own, and no other declaration adds one. Assumes nothing.
+use Rattle.std.specs.Prelude.{Option, Result, Ok, Err}
 use Prim.Native.Nat.{ℕ, suc, ◌+◌, ◌-◌, ◌≤◌, ◌<◌}
 use mathlib.Core.Path.{◌≡◌, refl, sym, ◌∙◌}
 use mathlib.Core.List.{List}
@@ -14,13 +15,10 @@ use Rattle.keywords.specs.Keywords.{seen_at}
 use Rattle.keywords.proofs.Laws.{sees}
 use Rattle.tables.specs.Layout.{precedences, avoided, implicit, level}
 use Rattle.grammar.specs.declared.State.{State}
-use Rattle.grammar.specs.declared.Part.{Part}
 use Rattle.grammar.specs.declared.Answer.{Answer}
 use Rattle.grammar.specs.declared.Answer.TheVariants.{Going, Done, Refused}
 use Rattle.grammar.specs.declared.Refusal.{Refusal}
 use Rattle.grammar.specs.declared.Repeat.TheVariants.{RepeatedAvoidInsert, RepeatedImplicitTokens}
-use Rattle.grammar.specs.declared.Gap.{Gap}
-use Rattle.grammar.specs.declared.Gap.TheVariants.{GapTo, GapRefused}
 use Rattle.grammar.specs.State.{Out4, count, with_at, gap_at, Gapped, onward}
 use Rattle.grammar.specs.Sound.{AllTables, Far}
 use Rattle.grammar.proofs.Far.{far_at}
@@ -46,7 +44,7 @@ refused_done f e = clash (cc)
 abbrev Undone : Out4 → Type 0
 Undone o = o.answer ≡ Done → ⊥
 
-turn_undone : (src : List ℕ) (lev assoc : ℕ) (tag : Part) (o : Out4) → Undone o → Either Undone Undone (prec_turn src lev assoc tag o)
+turn_undone : (src : List ℕ) (lev assoc : ℕ) (tag : Option (ℕ × ℕ)) (o : Out4) → Undone o → Either Undone Undone (prec_turn src lev assoc tag o)
 unfolding prec_turn
 turn_undone src lev assoc tag o x = go (leb (length src) o.state.at)
   where
@@ -151,9 +149,9 @@ pub section_pairs : (src : List ℕ) (done : ℕ) (s : State) (D : Declared) (T 
 unfolding decl_all decl_run
 section_pairs src done s D T f x = go (gap_at s.kind true src s.at) (gapped s.kind true src s.at f.here)
   where
-    go : (g : Gap) → Gapped src s.at g → Ends src (all_from g src s D)
-    go (GapTo i n) y =
+    go : (g : Result (ℕ × ℕ) Refusal) → Gapped src s.at g → Ends src (all_from g src s D)
+    go (Ok (i, n)) y =
         let a = y.0 in
         turns_end (Both src done T) (Ends src) (λ o. length src - o.state.at) (decl_turn src) (turn src done T) (suc (length src)) _ (omega arith)
         (record { far = far_at f i (omega arith) y.1; laid = laid_on s.at i (omega arith) y.1 x })
-    go (GapRefused e) y = λ d. absurd (refused_done _ d)
+    go (Err e) y = λ d. absurd (refused_done _ d)

@@ -1,24 +1,23 @@
 -- An avoid or implicit list goes on exactly where a line that a line end ends stands in the source and its rows find room, and its rows are exactly those of the
 -- words that are the first of their name in each table. Assumes nothing.
+use Rattle.std.specs.Prelude.{Option, Some, Ok, None}
 use Prim.Native.Nat.{ℕ, suc, ◌≤◌, ◌<◌}
 use mathlib.Core.Path.{◌≡◌, refl, sym, ap, ◌∙◌}
 use mathlib.Core.List.{List, [], ◌∷◌, map}
-use mathlib.Core.Option.{none}
 use mathlib.Core.Bool.{true, false}
 use mathlib.Core.Logic.{◌⊎◌, inl, inr, ◌↔◌}
 use native.Mathlib.Omega.{arith}
 use lib.ListN.{length, length-append}
 use borrow.Author.Tests.{lt-leb}
+use Rattle.scan.proofs.Tuples.{ok_2}
 use Rattle.scan.specs.declared.Place.{Place}
 use Rattle.scan.specs.Loop.{Turn, more, stop}
 use Rattle.scan.proofs.Bytes.{told}
-use Rattle.spacing.specs.declared.Spaced.TheVariants.{To}
 use Rattle.spacing.specs.Spacing.{spaces_at, Spaces}
 use Rattle.spacing.proofs.Places.{spaces}
 use Rattle.words.specs.Words.{token_at}
 use Rattle.tables.specs.Layout.{tokens, avoided, repeats, row_place, width}
 use Rattle.grammar.specs.declared.State.{State}
-use Rattle.grammar.specs.declared.Part.{Part}
 use Rattle.grammar.specs.declared.Answer.TheVariants.{Going}
 use Rattle.grammar.specs.declared.Repeat.{Repeat}
 use Rattle.grammar.specs.State.{Out0, Out1, Out2, Out3, count, with_at, gap_of, gap_at, once_step, tied3}
@@ -99,18 +98,18 @@ module _ (src : List ℕ) (k : ℕ) (nt : NameTable k) (what : Repeat) where
             not_tokens (inr e) = omega arith
 
       -- the second row, and spacing behind the word
-      second : (kind end : ℕ) → o.state.kind ≡ kind → spaces_at kind true src end ≡ To i n → Took n w i o (avoid_end (behind_both src end a (once_step src v k (width avoided) 0 what (name_row w.place) o.b o.c)).answer (behind_both src end a (once_step src v k (width avoided) 0 what (name_row w.place) o.b o.c)))
+      second : (kind end : ℕ) → o.state.kind ≡ kind → spaces_at kind true src end ≡ Ok (i, n) → Took n w i o (avoid_end (behind_both src end a (once_step src v k (width avoided) 0 what (name_row w.place) o.b o.c)).answer (behind_both src end a (once_step src v k (width avoided) 0 what (name_row w.place) o.b o.c)))
       second kind end q g =
           once_cases src v (still.ten ∙ ten) k (low nt) (begins nt) name_row (λ q. refl) w.place (omega arith) what o.b o.c
           (λ (x : Out2). Took n w i o (avoid_end (behind_both src end a x).answer (behind_both src end a x)))
           (λ u b c f given z. past_cases (λ (x : Out0). Took n w i o (avoid_end x.answer (tied3 x a b c))) src end u kind (z.kind ∙ still.kind ∙ q)
-          (λ j e. let r : i ≡ j = cc in let m : n ≡ 0 = cc in told (λ (h : ℕ). Took n w i o (more (record { answer = Going; state = with_at u h; a = a; b = b; c = c }))) r (on m refl (room u b c f given z) (leads u b c f given z)))
-          (λ j m e l. let r : i ≡ j = cc in let d : n ≡ m = cc in told (λ (h : ℕ). Took n w i o (stop (record { answer = Going; state = with_at u h; a = a; b = b; c = c }))) r (over (omega arith) refl (room u b c f given z) (leads u b c f given z)))
+          (λ j e. let parts = ok_2 (sym g ∙ e) in let r : i ≡ j = parts.0 in let m : n ≡ 0 = parts.1 in told (λ (h : ℕ). Took n w i o (more (record { answer = Going; state = with_at u h; a = a; b = b; c = c }))) r (on m refl (room u b c f given z) (leads u b c f given z)))
+          (λ j m e l. let parts = ok_2 (sym g ∙ e) in let r : i ≡ j = parts.0 in let d : n ≡ m = parts.1 in told (λ (h : ℕ). Took n w i o (stop (record { answer = Going; state = with_at u h; a = a; b = b; c = c }))) r (over (omega arith) refl (room u b c f given z) (leads u b c f given z)))
           (λ r none. absurd (none i n g)))
           (λ r u b c none. full (refused_going r) (λ f. none (free_for own_count repeat_count f.once)))
 
   -- a turn; the list ends where a line end was counted behind the word
-  turn : (kind : ℕ) (o : Out3) → length o.state.counts.n ≡ 10 → o.state.kind ≡ kind → {w : ListWord} {end h : ℕ} (i n : ℕ) → o.state.at ≡ h → Alone src h end w → spaces_at kind true src end ≡ To i n → Took n (line_word w end) i o (avoid_turn src k what o)
+  turn : (kind : ℕ) (o : Out3) → length o.state.counts.n ≡ 10 → o.state.kind ≡ kind → {w : ListWord} {end h : ℕ} (i n : ℕ) → o.state.at ≡ h → Alone src h end w → spaces_at kind true src end ≡ Ok (i, n) → Took n (line_word w end) i o (avoid_turn src k what o)
   unfolding avoid_turn avoid_item avoid_named
   turn kind o ten q i n at (alone {i = h} {end = end} {p = p} {quoted = quoted} e) g =
       rw (ap (λ (j : ℕ). token_at src j) at ∙ e)
@@ -119,16 +118,16 @@ module _ (src : List ℕ) (k : ℕ) (nt : NameTable k) (what : Repeat) where
       (λ r v a none. full (refused_going r) (λ f. none f.entered)))
     where
       here : LineWord
-      here = record { place = p; number = none; end = end }
+      here = record { place = p; number = None; end = end }
 
       named : Out1 → Out3
       named x = avoid_entered x.answer x src k what p.from p.to end o.b o.c
 
   -- such a list does not end at the source's end
-  abbrev Some : ℕ → Type 0
-  Some n = 0 < n
+  abbrev Unfinished : ℕ → Type 0
+  Unfinished n = 0 < n
 
-  laws : (kind : ℕ) → Laws src (λ (o : Out3). o.state) (λ (o : Out3). o.answer) Room Leads kind (Alone src) Fit (avoid_turn src k what) Some
+  laws : (kind : ℕ) → Laws src (λ (o : Out3). o.state) (λ (o : Out3). o.answer) Room Leads kind (Alone src) Fit (avoid_turn src k what) Unfinished
   laws kind =
       record {
         front = λ w ws o x. record { entered = first w.place (word_places ws) o x.entered; once = free_front (w.place ∷ []) (word_places ws) x.once };
@@ -151,7 +150,7 @@ module _ (src : List ℕ) (k : ℕ) (nt : NameTable k) (what : Repeat) where
   list_run : (s : State) (t1 t t10 : List ℕ) → length s.counts.n ≡ 10 → {j n : ℕ} {ws : List LineWord} → Line s.kind (Alone src) src 0 s.at j n ws → 0 < n
       → Ran src (λ (o : Out3). o.state) (λ (o : Out3). o.answer) Room Leads j ws (record { answer = Going; state = s; a = t1; b = t; c = t10 }) (avoid_list src s k what t1 t t10)
   unfolding avoid_list
-  list_run s t1 t t10 ten l some = run src _ _ Room Leads s.kind (Alone src) Fit (alone_words src) (avoid_turn src k what) Some (laws s.kind) l refl some (suc (length src)) _ refl (refl, refl, ten) (omega arith)
+  list_run s t1 t t10 ten l some = run src _ _ Room Leads s.kind (Alone src) Fit (alone_words src) (avoid_turn src k what) Unfinished (laws s.kind) l refl some (suc (length src)) _ refl (refl, refl, ten) (omega arith)
 
 -- a line with a line end counted at its end, where none was before, begins before the source's end
 line_word_lem : (kind : ℕ) (src : List ℕ) {i j n : ℕ} {ws : List LineWord} → Line kind (Alone src) src 0 i j n ws → 0 < n → i < length src
@@ -163,7 +162,7 @@ line_word_lem kind src l some = go l refl some
     go (word e g l) z c = let a = (alone_words src).placed e in omega (arith, a.0, a.1, a.2, a.3)
 
 -- a line without a tag begins where the spacing behind its keyword ends
-bare_line : {kind : ℕ} {src : List ℕ} {i h m j n : ℕ} {tag : Part} {ws : List LineWord} → Untagged i h m tag → Line kind (Alone src) src m h j n ws → Line kind (Alone src) src 0 i j n ws
+bare_line : {kind : ℕ} {src : List ℕ} {i h m j n : ℕ} {tag : Option (ℕ × ℕ)} {ws : List LineWord} → Untagged i h m tag → Line kind (Alone src) src m h j n ws → Line kind (Alone src) src 0 i j n ws
 bare_line untagged l = l
 
 -- The list of a keyword, behind it, on any tables.

@@ -1,9 +1,9 @@
 -- `%avoid_insert` and `%implicit_tokens`: their tokens are entered Undeclared and mark nothing, the rows of table 3 or 4 are those of the words, and the list is a
 -- line that ends with a line end, not with the source. Assumes nothing.
+use Rattle.std.specs.Prelude.{None, Result, Ok, Err}
 use Prim.Native.Nat.{ℕ, suc, ◌+◌, ◌≤◌, ◌<◌}
 use mathlib.Core.Path.{◌≡◌, refl, sym, ap, ◌∙◌}
 use mathlib.Core.List.{List, [], ◌∷◌}
-use mathlib.Core.Option.{none}
 use mathlib.Core.Bool.{Bool, true, false}
 use native.Mathlib.Omega.{arith}
 use lib.Dec.{leb}
@@ -12,22 +12,17 @@ use borrow.Author.Tests.{leb-true}
 use Rattle.scan.specs.declared.Place.{Place}
 use Rattle.scan.proofs.Bytes.{on_test, told}
 use Rattle.scan.proofs.Loop.{Either, turns_keep}
-use Rattle.spacing.specs.declared.Spaced.{Spaced}
-use Rattle.spacing.specs.declared.Spaced.TheVariants.{To, LineEnd, OpenComment}
+use Rattle.spacing.specs.declared.SpacingError.{SpacingError}
+use Rattle.spacing.specs.declared.SpacingError.TheVariants.{LineEnd, OpenComment}
 use Rattle.spacing.specs.Spacing.{spaces_at, Spaces}
 use Rattle.spacing.proofs.Places.{spaces}
-use Rattle.words.specs.declared.Token.{Token}
-use Rattle.words.specs.declared.Token.TheVariants.{Found, NoToken}
 use Rattle.words.specs.Words.{token_at}
 use Rattle.tables.specs.Layout.{tokens, declared, avoided, repeats, width}
 use Rattle.grammar.specs.declared.State.{State}
-use Rattle.grammar.specs.declared.Part.TheVariants.{Absent}
 use Rattle.grammar.specs.declared.Answer.{Answer}
 use Rattle.grammar.specs.declared.Answer.TheVariants.{Going, Done, Refused}
 use Rattle.grammar.specs.declared.Refusal.{Refusal}
 use Rattle.grammar.specs.declared.Repeat.{Repeat}
-use Rattle.grammar.specs.declared.Gap.{Gap}
-use Rattle.grammar.specs.declared.Gap.TheVariants.{GapTo, GapRefused}
 use Rattle.grammar.specs.Cells.{name_cells}
 use Rattle.grammar.specs.State.{Out0, Out1, Out2, Out3, Passed, count, with_at, gap_of, gap_at, enter_step, once_step, pass_on, tied3, first2}
 use Rattle.lines.specs.Line.{LineWord, Alone, alone, Line, closed, word, untagged, NameLine}
@@ -87,33 +82,33 @@ module _ (src : List ℕ) (k : ℕ) (nt : NameTable k) (s : State) (t1 t : List 
 -- where an item of such a list leads: behind its word, with or without a line end counted, or to a refusal
 module _ (src : List ℕ) (k : ℕ) (nt : NameTable k) (s : State) (what : Repeat) (t1 t t10 : List ℕ) (ten : length s.counts.n ≡ 10) where
   item_cases : (C : Out3 → Type 0)
-      → ((p : Place) (end : ℕ) (quoted : Bool) (i : ℕ) (v : Out1) (o : Out2) → token_at src s.at ≡ Found p end quoted → spaces_at s.kind true src end ≡ To i 0 → Entered src s t1 t p v → v.answer ≡ Going → Given src k t p v o → o.answer ≡ Going → C (record { answer = Going; state = with_at o.state i; a = v.a; b = o.a; c = o.b }))
-      → ((p : Place) (end : ℕ) (quoted : Bool) (i n : ℕ) (v : Out1) (o : Out2) → token_at src s.at ≡ Found p end quoted → spaces_at s.kind true src end ≡ To i n → 0 < n → Entered src s t1 t p v → v.answer ≡ Going → Given src k t p v o → o.answer ≡ Going → C (record { answer = Done; state = with_at o.state i; a = v.a; b = o.a; c = o.b }))
+      → ((p : Place) (end : ℕ) (quoted : Bool) (i : ℕ) (v : Out1) (o : Out2) → token_at src s.at ≡ Ok (p, end, quoted) → spaces_at s.kind true src end ≡ Ok (i, 0) → Entered src s t1 t p v → v.answer ≡ Going → Given src k t p v o → o.answer ≡ Going → C (record { answer = Going; state = with_at o.state i; a = v.a; b = o.a; c = o.b }))
+      → ((p : Place) (end : ℕ) (quoted : Bool) (i n : ℕ) (v : Out1) (o : Out2) → token_at src s.at ≡ Ok (p, end, quoted) → spaces_at s.kind true src end ≡ Ok (i, n) → 0 < n → Entered src s t1 t p v → v.answer ≡ Going → Given src k t p v o → o.answer ≡ Going → C (record { answer = Done; state = with_at o.state i; a = v.a; b = o.a; c = o.b }))
       → ((f : Refusal) (u : State) (a b c : List ℕ) → Kept src k s t1 t u a b → C (record { answer = Refused f; state = u; a = a; b = b; c = c }))
       → C (avoid_item src s k what t1 t t10)
   unfolding avoid_item avoid_named
   item_cases C f g h = go (token_at src s.at) refl
     where
-      behind : (p : Place) (end : ℕ) (quoted : Bool) → token_at src s.at ≡ Found p end quoted → (v : Out1) → Entered src s t1 t p v → v.answer ≡ Going → (o : Out2) → Given src k t p v o → (a : Answer) → o.answer ≡ a → C (tied3 (pass_on src true end a o.state) v.a o.a o.b)
-      behind p end quoted e v x q o y Going z = past_cases (λ (w : Out0). C (tied3 w v.a o.a o.b)) src end o.state s.kind (y.kind ∙ x.kind) (λ i c. f p end quoted i v o e c x q y z) (λ i n c d. g p end quoted i n v o e c d x q y z) (λ r none. h r o.state v.a o.a o.b (given_kept src k nt s t1 t p v x q o y))
+      behind : (p : Place) (end : ℕ) (quoted : Bool) → token_at src s.at ≡ Ok (p, end, quoted) → (v : Out1) → Entered src s t1 t p v → v.answer ≡ Going → (o : Out2) → Given src k t p v o → (a : Answer) → o.answer ≡ a → C (tied3 (pass_on src true end a o.state) v.a o.a o.b)
+      behind p end quoted e v x q o y Going z = past_cases (λ (w : Out0). C (tied3 w v.a o.a o.b)) src end o.state s.kind (y.kind ∙ x.kind) (λ i c. f p end quoted i v o e c x q y z) (λ i n c d. g p end quoted i n v o e c d x q y z) (λ r None. h r o.state v.a o.a o.b (given_kept src k nt s t1 t p v x q o y))
       behind p end quoted e v x q o y Done z = absurd (y.undone z)
       behind p end quoted e v x q o y (Refused r) z = h r o.state v.a o.a o.b (given_kept src k nt s t1 t p v x q o y)
 
-      inside : (p : Place) (end : ℕ) (quoted : Bool) → token_at src s.at ≡ Found p end quoted → Passed src p.from p.to
+      inside : (p : Place) (end : ℕ) (quoted : Bool) → token_at src s.at ≡ Ok (p, end, quoted) → Passed src p.from p.to
       inside p end quoted e = let a = word_placed src s.at p end quoted e in record { onward = omega (arith, a.1); inside = omega (arith, a.2, a.3) }
 
-      then : (p : Place) (end : ℕ) (quoted : Bool) → token_at src s.at ≡ Found p end quoted → (v : Out1) → Entered src s t1 t p v → (a : Answer) → v.answer ≡ a → C (avoid_entered a v src k what p.from p.to end t t10)
+      then : (p : Place) (end : ℕ) (quoted : Bool) → token_at src s.at ≡ Ok (p, end, quoted) → (v : Out1) → Entered src s t1 t p v → (a : Answer) → v.answer ≡ a → C (avoid_entered a v src k what p.from p.to end t t10)
       then p end quoted e v x Going q =
           let o = once_step src v.state k (width avoided) 0 what (name_cells p.from p.to) t t10 in
           behind p end quoted e v x q o (once_noted src v.state x.ten k (low nt) (name_cells p.from p.to) p.from p.to (omega arith) t (inside p end quoted e) refl refl what t10) o.answer refl
       then p end quoted e v x Done q = absurd (x.undone q)
       then p end quoted e v x (Refused r) q = h r v.state v.a t t10 (entered_kept src k nt s t1 t p v x)
 
-      go : (r : Token) → token_at src s.at ≡ r → C (avoid_found r src s k what t1 t t10)
-      go (Found p end quoted) e =
+      go : (r : Result (Place × ℕ × Bool) ℕ) → token_at src s.at ≡ r → C (avoid_found r src s k what t1 t t10)
+      go (Ok (p, end, quoted)) e =
           let v = enter_step src s p.from p.to false t1 in
           then p end quoted e v (enter_noted src s ten p.from p.to t1 t (inside p end quoted e)) v.answer refl
-      go (NoToken i) e = h _ s t1 t t10 (kept_none ten)
+      go (Err i) e = h _ s t1 t t10 (kept_none ten)
 
 -- Whatever a list answers, it keeps the tables so.
 module _ (src : List ℕ) (k : ℕ) (nt : NameTable k) (what : Repeat) (s : State) (t1 t : List ℕ) where
@@ -132,9 +127,9 @@ module _ (src : List ℕ) (k : ℕ) (nt : NameTable k) (what : Repeat) (s : Stat
   unfolding avoid_decl avoid_list
   decl_kept t10 ten = on_test Under (leb (length src) s.at) _ _ (λ e. kept_none ten) (λ e. go (gap_at s.kind false src s.at))
     where
-      go : (g : Gap) → Under (avoid_from g src s k what t1 t t10)
-      go (GapTo i n) = turns_keep Under (avoid_turn src k what) turn_kept (suc (length src)) _ (kept_at i (kept_none ten))
-      go (GapRefused e) = kept_none ten
+      go : (g : Result (ℕ × ℕ) Refusal) → Under (avoid_from g src s k what t1 t t10)
+      go (Ok (i, n)) = turns_keep Under (avoid_turn src k what) turn_kept (suc (length src)) _ (kept_at i (kept_none ten))
+      go (Err e) = kept_none ten
 
 -- what a list that ends leaves, from where it was: its line of words, which ends with a line end, and their rows
 pub record Read (src : List ℕ) (k : ℕ) (o e : Out3) : Type 0 where
@@ -156,9 +151,9 @@ module _ (src : List ℕ) (k : ℕ) (nt : NameTable k) (what : Repeat) where
   Reads o e = e.answer ≡ Going → Read src k o e
 
   -- a word more: its rows, and those of the words behind it
-  module _ (o : Out3) (p : Place) (end : ℕ) (quoted : Bool) (i : ℕ) (v : Out1) (u : Out2) (e : token_at src o.state.at ≡ Found p end quoted) (x : Entered src o.state o.a o.b p v) (g : v.answer ≡ Going) (y : Given src k o.b p v u) (h : u.answer ≡ Going) where
+  module _ (o : Out3) (p : Place) (end : ℕ) (quoted : Bool) (i : ℕ) (v : Out1) (u : Out2) (e : token_at src o.state.at ≡ Ok (p, end, quoted)) (x : Entered src o.state o.a o.b p v) (g : v.answer ≡ Going) (y : Given src k o.b p v u) (h : u.answer ≡ Going) where
     abbrev here : LineWord
-    here = record { place = p; number = none; end = end }
+    here = record { place = p; number = None; end = end }
 
     abbrev behind : Out3
     behind = record { answer = Going; state = with_at u.state i; a = v.a; b = u.a; c = u.b }
@@ -178,7 +173,7 @@ module _ (src : List ℕ) (k : ℕ) (nt : NameTable k) (what : Repeat) where
     own_one : count u.state k ≤ count o.state k + 1
     own_one = rw (← x.others k (not_first nt) (λ e. let l = low nt in omega arith)) y.one
 
-    going : spaces_at o.state.kind true src end ≡ To i 0 → At behind × (left behind < left o) × ((z : Out3) → Reads behind z → Reads o z)
+    going : spaces_at o.state.kind true src end ≡ Ok (i, 0) → At behind × (left behind < left o) × ((z : Out3) → Reads behind z → Reads o z)
     going c =
         let a = word_placed src o.state.at p end quoted e in
         let b = gap_placed o.state.kind src end i 0 a.3 c in
@@ -195,7 +190,7 @@ module _ (src : List ℕ) (k : ℕ) (nt : NameTable k) (what : Repeat) where
               named = written_more here r.words own_row own_one (y.has h) r.named;
             }
 
-    done : (n : ℕ) → spaces_at o.state.kind true src end ≡ To i n → 0 < n → Read src k o behind
+    done : (n : ℕ) → spaces_at o.state.kind true src end ≡ Ok (i, n) → 0 < n → Read src k o behind
     done n c d = record { words = here ∷ []; counted = n; some = d; line = word (alone e) c (closed d); entered = written_more here [] first_row_lem first_one first_has written_none; named = written_more here [] own_row own_one (y.has h) written_none }
 
   turn_reads : (o : Out3) → At o → Nears At left Reads o (avoid_turn src k what o)
@@ -228,21 +223,21 @@ module _ (src : List ℕ) (k : ℕ) (nt : NameTable k) (what : Repeat) (s : Stat
     record Whole (o : Out3) : Type 0 where
       start : ℕ
       ends : ℕ
-      gap : spaces_at s.kind false src s.at ≡ To start ends
+      gap : spaces_at s.kind false src s.at ≡ Ok (start, ends)
       read : Read src k (record { answer = Going; state = with_at s start; a = t1; b = t; c = t10 }) o
 
     whole : Whole after
     unfolding avoid_decl gap_at gap_of
     whole = on_test (λ (o : Out3). o.answer ≡ Going → Whole o) (leb (length src) s.at) _ _ (λ e. absurd (let h = leb-true (length src) s.at e in omega arith)) (λ e. go (spaces_at s.kind false src s.at) refl (spaces s.kind false src s.at (omega arith))) g
       where
-        go : (r : Spaced) → spaces_at s.kind false src s.at ≡ r → Spaces src s.at r → (avoid_from (gap_of r) src s k what t1 t t10).answer ≡ Going → Whole (avoid_from (gap_of r) src s k what t1 t t10)
-        go (To i n) e x v = record { start = i; ends = n; gap = e; read = list_reads src k nt what (with_at s i) t1 t t10 x.1 ten v }
-        go (LineEnd i) e x v = let z : ◌≡◌ {A = ℕ} 0 1 = cc in absurd (omega arith)
-        go (OpenComment i) e x v = let z : ◌≡◌ {A = ℕ} 0 1 = cc in absurd (omega arith)
+        go : (r : Result (ℕ × ℕ) SpacingError) → spaces_at s.kind false src s.at ≡ r → Spaces src s.at r → (avoid_from (gap_of r) src s k what t1 t t10).answer ≡ Going → Whole (avoid_from (gap_of r) src s k what t1 t t10)
+        go (Ok (i, n)) e x v = record { start = i; ends = n; gap = e; read = list_reads src k nt what (with_at s i) t1 t t10 x.1 ten v }
+        go (Err (LineEnd i)) e x v = let z : ◌≡◌ {A = ℕ} 0 1 = cc in absurd (omega arith)
+        go (Err (OpenComment i)) e x v = let z : ◌≡◌ {A = ℕ} 0 1 = cc in absurd (omega arith)
 
     -- the list stands in the source, from behind the keyword to the position that it answers,
     pub avoid_words : NameLine s.kind src s.at after.state.at
-    avoid_words = let r = whole.read in record { start = whole.start; ends = whole.ends; gap = whole.gap; head = whole.start; passed = 0; tag = Absent; lead = untagged; words = r.words; counted = r.counted; line = r.line }
+    avoid_words = let r = whole.read in record { start = whole.start; ends = whole.ends; gap = whole.gap; head = whole.start; passed = 0; tag = None; lead = untagged; words = r.words; counted = r.counted; line = r.line }
 
     module _ {j : ℕ} (l : NameLine s.kind src s.at j) where
       same_words : whole.read.words ≡ l.words

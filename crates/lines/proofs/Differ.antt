@@ -1,4 +1,5 @@
 -- Two precedence lists in one source: a line end that is counted ends the first, and the second has a level of its own. Assumes nothing.
+use Rattle.std.specs.Prelude.{Ok}
 use Prim.Native.Nat.{ℕ, ◌+◌, ◌≤◌, ◌<◌}
 use mathlib.Core.Path.{◌≡◌, ap}
 use mathlib.Core.List.{List}
@@ -9,7 +10,6 @@ use Rattle.scan.specs.declared.Place.{Place}
 use Rattle.scan.proofs.Bytes.{told}
 use Rattle.spacing.specs.Spacing.{Spaces}
 use Rattle.spacing.proofs.Places.{spaces}
-use Rattle.words.specs.declared.Token.TheVariants.{Found}
 use Rattle.words.specs.Words.{token_at}
 use Rattle.tables.specs.Rows.{row_at}
 use Rattle.tables.specs.Layout.{precedences, level, width}
@@ -54,7 +54,7 @@ module _ (src : List ℕ) (s : State) (a : ℕ) (t2 t10 t15 t16 : List ℕ) (her
         first : (r : ℕ) → count s precedences ≤ r → r < count one.state precedences → RowOf (prec_row s.level a) l.words (row_at (width precedences) two.a r)
         first r x y = rw (rest.old r y) ((line_rows src s a t2 t10 t15 t16 here ten g l).rows.new r x y)
 
-        behind : (r : ℕ) → count s precedences ≤ r → r < count one.state precedences → (i : ℕ) → one.state.at ≤ i → (p : Place) (end : ℕ) (quoted : Bool) → token_at src i ≡ Found p end quoted → get_or (row_at (width precedences) two.a r) 0 0 < p.from
+        behind : (r : ℕ) → count s precedences ≤ r → r < count one.state precedences → (i : ℕ) → one.state.at ≤ i → (p : Place) (end : ℕ) (quoted : Bool) → token_at src i ≡ Ok (p, end, quoted) → get_or (row_at (width precedences) two.a r) 0 0 < p.from
         behind r x y i h p end quoted e =
             let w = first r x y in
             let n = words_inside s.kind src (prec_words s.kind src) l.line w.word w.listed in

@@ -1,4 +1,5 @@
 -- Lists that run to their line's end keep soundness so far, whatever their answer. Assumes nothing.
+use Rattle.std.specs.Prelude.{Option, Result, Ok, Err}
 use Prim.Native.Nat.{ℕ, suc, ◌≤◌, ◌<◌}
 use mathlib.Core.Path.{◌≡◌, refl}
 use mathlib.Core.List.{List}
@@ -8,21 +9,18 @@ use lib.Dec.{leb}
 use lib.ListN.{length}
 use Rattle.scan.proofs.Bytes.{on_test}
 use Rattle.scan.proofs.Loop.{Either, turns_keep}
-use Rattle.words.specs.declared.Token.{Token}
-use Rattle.words.specs.declared.Token.TheVariants.{Found, NoToken}
+use Rattle.scan.specs.declared.Place.{Place}
 use Rattle.words.specs.Words.{token_at, Tokened}
 use Rattle.words.proofs.Words.{token_placed}
 use Rattle.tables.specs.Table.{cell}
 use Rattle.tables.specs.Layout.{tokens, precedences, avoided, implicit, repeats, tags, token_numbers, width}
 use Rattle.tables.proofs.Rows.{row_cell}
 use Rattle.grammar.specs.declared.State.{State}
-use Rattle.grammar.specs.declared.Part.{Part}
 use Rattle.grammar.specs.declared.Answer.{Answer}
 use Rattle.grammar.specs.declared.Answer.TheVariants.{Going, Done, Refused}
 use Rattle.grammar.specs.declared.Repeat.{Repeat}
 use Rattle.grammar.specs.declared.Repeat.TheVariants.{RepeatedPrecedence}
-use Rattle.grammar.specs.declared.Gap.{Gap}
-use Rattle.grammar.specs.declared.Gap.TheVariants.{GapTo, GapRefused}
+use Rattle.grammar.specs.declared.Refusal.{Refusal}
 use Rattle.grammar.specs.Cells.{precedence_cells, name_cells}
 use Rattle.grammar.specs.State.{Out1, Out2, Out3, Out4, Passed, count, with_at, with_level, next_level, gap_at, Gapped, enter_step, once_step}
 use Rattle.grammar.specs.Sound.{AllTables, cells_of, set_tab, Lies, Far}
@@ -45,7 +43,7 @@ pub record LineFar (src : List ℕ) (done : ℕ) (T : AllTables) (lev : ℕ) (o 
   pub far : Far4 src done T o
   pub low : lev < o.state.level
 
-module _ {src : List ℕ} {done : ℕ} {s : State} {T : AllTables} (f : Far src done s T) (lev assoc : ℕ) (low : lev < s.level) (a : 1 ≤ assoc) (b : assoc ≤ 3) (tag : Part) (t : Lies src tag) where
+module _ {src : List ℕ} {done : ℕ} {s : State} {T : AllTables} (f : Far src done s T) (lev assoc : ℕ) (low : lev < s.level) (a : 1 ≤ assoc) (b : assoc ≤ 3) (tag : Option (ℕ × ℕ)) (t : Lies src tag) where
   first : (r : ℕ) → r < count s precedences → Passed src (cell (width precedences) T.t2 r 0) (cell (width precedences) T.t2 r 1)
   first r l = rw (← row_cell (width precedences) T.t2 r 0 (omega arith), ← row_cell (width precedences) T.t2 r 1 (omega arith)) ((f.tables precedences).each r l).name
 
@@ -62,8 +60,8 @@ module _ {src : List ℕ} {done : ℕ} {s : State} {T : AllTables} (f : Far src 
             low = omega (arith, low, x.level, g.level, behind_level src true from to end r.answer r.state T.t16);
           }
 
-      go : (w : Token) → Tokened src s.at w → LineFar src done T lev (prec_found w src s lev assoc tag T.t2 T.t10 T.t15 T.t16)
-      go (Found p end q) x =
+      go : (w : Result (Place × ℕ × Bool) ℕ) → Tokened src s.at w → LineFar src done T lev (prec_found w src s lev assoc tag T.t2 T.t10 T.t15 T.t16)
+      go (Ok (p, end, q)) x =
           let c = x.0 in
           let d = x.1 in
           let e = x.2 in
@@ -71,9 +69,9 @@ module _ {src : List ℕ} {done : ℕ} {s : State} {T : AllTables} (f : Far src 
           let z : Passed src p.from p.to = record { onward = omega arith; inside = omega arith } in
           behind p.from p.to end _ z (omega arith) g
           (once_held f precedences (omega arith) (λ z. omega arith) 0 RepeatedPrecedence (precedence_cells p.from p.to lev assoc) refl (record { name = z; earlier = low; least = a; most = b }) (λ r l. tt) first z)
-      go (NoToken k) x = record { far = f; low = low }
+      go (Err k) x = record { far = f; low = low }
 
-module _ (src : List ℕ) (done : ℕ) (T : AllTables) (lev assoc : ℕ) (a : 1 ≤ assoc) (b : assoc ≤ 3) (tag : Part) (t : Lies src tag) where
+module _ (src : List ℕ) (done : ℕ) (T : AllTables) (lev assoc : ℕ) (a : 1 ≤ assoc) (b : assoc ≤ 3) (tag : Option (ℕ × ℕ)) (t : Lies src tag) where
   turn_far : (o : Out4) → LineFar src done T lev o → Either (LineFar src done T lev) (LineFar src done T lev) (prec_turn src lev assoc tag o)
   unfolding prec_turn
   turn_far o x = go (leb (length src) o.state.at)
@@ -100,8 +98,8 @@ prec_far {src} {done} {s} {T} assoc a b up f = gap (gap_at s.kind false src s.at
     body u h Done l x e = x.far
     body u h (Refused r) l x e = x.far
 
-    gap : (g : Gap) → Gapped src s.at g → Far4 src done T (prec_from g src s assoc T.t2 T.t10 T.t15 T.t16)
-    gap (GapTo i n) x =
+    gap : (g : Result (ℕ × ℕ) Refusal) → Gapped src s.at g → Far4 src done T (prec_from g src s assoc T.t2 T.t10 T.t15 T.t16)
+    gap (Ok (i, n)) x =
         let c = x.0 in
         let d = f.here in
         let e = f.short in
@@ -109,7 +107,7 @@ prec_far {src} {done} {s} {T} assoc a b up f = gap (gap_at s.kind false src s.at
         let u = with_level (with_at s i) (next_level s.level) in
         let g = far_level (far_at f i (omega arith) x.1) (next_level s.level) (omega arith) (omega arith) in
         body u (omega arith) (lead_tag src u false true).answer (lead_tag src u false true) (lead_far g false true) (lead_level src u false true)
-    gap (GapRefused r) x = f
+    gap (Err r) x = f
 
 module _ {src : List ℕ} {done : ℕ} {s : State} {T : AllTables} (f : Far src done s T) where
   -- a token that was entered is given to table 3 or 4 once
@@ -140,15 +138,15 @@ module _ {src : List ℕ} {done : ℕ} {s : State} {T : AllTables} (f : Far src 
       same k third = f
       same k fourth = f
 
-      go : (t : Token) → Tokened src s.at t → Far3 src done T tokens k repeats (avoid_found t src s k what T.t1 (cells_of T k) T.t10)
-      go (Found p end q) x =
+      go : (t : Result (Place × ℕ × Bool) ℕ) → Tokened src s.at t → Far3 src done T tokens k repeats (avoid_found t src s k what T.t1 (cells_of T k) T.t10)
+      go (Ok (p, end, q)) x =
           let c = x.0 in
           let d = x.1 in
           let e = x.2 in
           let g = x.3 in
           let z : Passed src p.from p.to = record { onward = omega arith; inside = omega arith } in
           entered_far k n what p.from p.to end z (omega arith) g (enter_step src s p.from p.to false T.t1).answer (enter_step src s p.from p.to false T.t1) (enter_held f p.from p.to false z)
-      go (NoToken i) x = same k n
+      go (Err i) x = same k n
 
 -- the tables under way are those before, with three replaced
 under : (src : List ℕ) (done : ℕ) (T : AllTables) (k : ℕ) (n : NameTable k) (what : Repeat) (o : Out3) → Far3 src done T tokens k repeats o → Far3 src done T tokens k repeats (avoid_item src o.state k what o.a o.b o.c)
@@ -175,8 +173,8 @@ avoid_far {src} {done} {s} {T} k n what f =
     same k third u g = g
     same k fourth u g = g
 
-    go : (g : Gap) → Gapped src s.at g → Far3 src done T tokens k repeats (avoid_from g src s k what T.t1 (cells_of T k) T.t10)
-    go (GapTo i m) x =
+    go : (g : Result (ℕ × ℕ) Refusal) → Gapped src s.at g → Far3 src done T tokens k repeats (avoid_from g src s k what T.t1 (cells_of T k) T.t10)
+    go (Ok (i, m)) x =
         let c = x.0 in
         turns_keep (Far3 src done T tokens k repeats) (avoid_turn src k what) (avoid_turn_far src done T k n what) (suc (length src)) _ (same k n (with_at s i) (far_at f i (omega arith) x.1))
-    go (GapRefused e) x = same k n s f
+    go (Err e) x = same k n s f

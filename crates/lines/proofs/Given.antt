@@ -1,9 +1,9 @@
 -- What is given once to a name, exactly: which rows a step adds, where it finds room, and how steps follow one another. Assumes nothing.
+use Rattle.std.specs.Prelude.{Some, Option, None}
 use Prim.Native.Nat.{ℕ, zero, suc, ◌+◌, ◌*◌, ◌-◌, ◌≤◌, ◌<◌}
 use mathlib.Core.Path.{◌≡◌, refl, sym, ap, ◌∙◌}
 use mathlib.Core.List.Memᴰ
 use mathlib.Core.List.{List, [], ◌∷◌, ◌++◌, map, map-append, Memᴰ}
-use mathlib.Core.Option.{Option, none, some}
 use mathlib.Core.Bool.{Bool, true, false, false≢true}
 use mathlib.Core.Logic.{◌↔◌, inl, inr}
 use native.Mathlib.Omega.{arith}
@@ -12,8 +12,6 @@ use native.Mathlib.Nat.{suc-mul}
 use lib.ListN.{length, get_or, length-append, length-map}
 use Rattle.scan.specs.declared.Place.{Place}
 use Rattle.scan.proofs.Bytes.{told}
-use Rattle.tables.specs.declared.Found.{Found}
-use Rattle.tables.specs.declared.Found.TheVariants.{RowAt}
 use Rattle.tables.specs.Table.{Added, Inserted, cell, room, has_name}
 use Rattle.tables.specs.Rows.{row_at, rows_of}
 use Rattle.tables.specs.Layout.{tokens, repeats, row_place, width}
@@ -145,17 +143,17 @@ module _ (src : List ℕ) (w : ℕ) (wide : 1 < w) (t : List ℕ) (p : Place) wh
   unfolding rows_of
   places_more n = map-append place_in (rows_of w n t) (row_at w t n ∷ [])
 
-  pub none_found : (n : ℕ) → ((r : ℕ) → r < n → has_name src w 0 t p.from p.to r ≡ false) → namesake src (places_of w n t) p ≡ none
+  pub none_found : (n : ℕ) → ((r : ℕ) → r < n → has_name src w 0 t p.from p.to r ≡ false) → namesake src (places_of w n t) p ≡ None
   unfolding rows_of namesake
   none_found zero h = refl
   none_found (suc n) h = rw (places_more n) (in-second src (places_of w n t) _ p (none_found n (λ r l. h r (omega arith))) ∙ rw (has n false (h n (omega arith)), namesake))
 
-  pub row_found : (n r : ℕ) → r < n → has_name src w 0 t p.from p.to r ≡ true → ((q : ℕ) → q < r → has_name src w 0 t p.from p.to q ≡ false) → namesake src (places_of w n t) p ≡ some (place_in (row_at w t r))
+  pub row_found : (n r : ℕ) → r < n → has_name src w 0 t p.from p.to r ≡ true → ((q : ℕ) → q < r → has_name src w 0 t p.from p.to q ≡ false) → namesake src (places_of w n t) p ≡ Some (place_in (row_at w t r))
   unfolding namesake
   row_found zero r l e h = absurd (omega arith)
   row_found (suc n) r l e h = rw (places_more n) (go (dec_lt r n) (λ k. row_found n r k e h))
     where
-      go : Dec (r < n) → (r < n → namesake src (places_of w n t) p ≡ some (place_in (row_at w t r))) → namesake src (places_of w n t ++ (place_in (row_at w t n) ∷ [])) p ≡ some (place_in (row_at w t r))
+      go : Dec (r < n) → (r < n → namesake src (places_of w n t) p ≡ Some (place_in (row_at w t r))) → namesake src (places_of w n t ++ (place_in (row_at w t n) ∷ [])) p ≡ Some (place_in (row_at w t r))
       go (yes k) f = in-first src (places_of w n t) _ p _ (f k)
       go (no k) f =
           let z : r ≡ n = omega arith in
@@ -170,7 +168,7 @@ module _ (src : List ℕ) (w : ℕ) (wide : 1 < w) (t : List ℕ) (p : Place) wh
       go (yes k) f = Memᴰ.append_left (row_at w t n ∷ []) (f k)
       go (no k) f = let e : r ≡ n = omega arith in Memᴰ.append_right (rows_of w n t) (Memᴰ.head (rw e))
 
-  pub some_found : (n r : ℕ) → r < n → has_name src w 0 t p.from p.to r ≡ true → namesake src (places_of w n t) p ≡ none → ⊥
+  pub some_found : (n r : ℕ) → r < n → has_name src w 0 t p.from p.to r ≡ true → namesake src (places_of w n t) p ≡ None → ⊥
   some_found n r l e h = false≢true (sym ((namesake_none src (places_of w n t) p).0 h (place_in (row_at w t r)) (Memᴰ.map place_in (row_in n r l))) ∙ has r true e)
 
 -- the state but for counts
@@ -237,11 +235,11 @@ module _ (src : List ℕ) (s : State) (ten : length s.counts.n ≡ 10) (k : ℕ)
       → C (once_step src s k w 0 what (cells p) t t10)
   unfolding once_step list_repeat push_row first_met met_again
   once_cases C f g =
-      find_cases (λ (x : Found). C (once_found x s k w what (cells p) t t10)) src w 0 (count s k) t (get_or (cells p) 0 0) (get_or (cells p) 1 0)
+      find_cases (λ (x : Option ℕ). C (once_found x s k w what (cells p) t t10)) src w 0 (count s k) t (get_or (cells p) 0 0) (get_or (cells p) 1 0)
       (λ r l e h. repeated r (row_found src w wide t p (count s k) r l (rw (from_is, to_is) at e) (rw (from_is, to_is) at h)))
       (λ h. new (none_found src w wide t p (count s k) (rw (from_is, to_is) at h)))
     where
-      new : namesake src old p ≡ none → C (first2 (push_row s k (cells p) t) t10)
+      new : namesake src old p ≡ None → C (first2 (push_row s k (cells p) t) t10)
       new e =
           let m : first_met src old (p ∷ []) ≡ p ∷ [] = rw e in
           let z : met_again src old (p ∷ []) ≡ [] = rw e in
@@ -252,7 +250,7 @@ module _ (src : List ℕ) (s : State) (ten : length s.counts.n ≡ 10) (k : ℕ)
           (still_count s k (count s k + 1) (inl refl)))
           (λ full. g _ s t t10 (λ q. full_one full (rw m at q.own)))
 
-      repeated : (r : ℕ) → namesake src old p ≡ some (place_in (row_at w t r)) → C (once_found (RowAt r) s k w what (cells p) t t10)
+      repeated : (r : ℕ) → namesake src old p ≡ Some (place_in (row_at w t r)) → C (once_found (Some r) s k w what (cells p) t t10)
       repeated r e =
           let x : RepeatPlaces = record { first = place_in (row_at w t r); repeated = p } in
           let m : first_met src old (p ∷ []) ≡ [] = rw e in
@@ -288,6 +286,6 @@ module _ (src : List ℕ) (s : State) (ten : length s.counts.n ≡ 10) (p : Plac
       new : ((r : ℕ) → r < count s tokens → has_name src (width tokens) 0 t p.from p.to r ≡ false) → first_met src listed (p ∷ []) ≡ p ∷ []
       new h = let e = none_found src (width tokens) (omega arith) t p (count s tokens) h in rw e
 
-      old : (o : Option Place) → namesake src listed p ≡ o → (namesake src listed p ≡ none → ⊥) → C (record { answer = Going; state = with_count s tokens (count s tokens); a = t })
-      old none e h = absurd (h e)
-      old (some q) e h = let m : first_met src listed (p ∷ []) ≡ [] = rw e in f _ t (rw m free_none) (rw (m, now (count s tokens)) appended_none) (still_count s tokens (count s tokens) refl)
+      old : (o : Option Place) → namesake src listed p ≡ o → (namesake src listed p ≡ None → ⊥) → C (record { answer = Going; state = with_count s tokens (count s tokens); a = t })
+      old None e h = absurd (h e)
+      old (Some q) e h = let m : first_met src listed (p ∷ []) ≡ [] = rw e in f _ t (rw m free_none) (rw (m, now (count s tokens)) appended_none) (still_count s tokens (count s tokens) refl)

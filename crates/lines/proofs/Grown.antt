@@ -1,5 +1,6 @@
 -- What an item leaves of a table: the rows that stood before, and new ones of which something is known; the name that was given has a row. And a loop's run to
 -- where it stops. Assumes nothing.
+use Rattle.std.specs.Prelude.{Option, Result, Ok, Err}
 use Prim.Native.Nat.{ℕ, zero, suc, ◌+◌, ◌*◌, ◌-◌, ◌≤◌, ◌<◌}
 use mathlib.Core.Path.{◌≡◌, refl, sym, ap, ◌∙◌}
 use mathlib.Core.List.{List, [], ◌∷◌}
@@ -11,10 +12,9 @@ use lib.ListN.{length, get_or}
 use borrow.Author.Tests.{ne_eqb}
 use Rattle.scan.specs.declared.Place.{Place}
 use Rattle.scan.specs.Loop.{Turn, more, stop, turns}
-use Rattle.spacing.specs.declared.Spaced.{Spaced}
-use Rattle.spacing.specs.declared.Spaced.TheVariants.{To, LineEnd, OpenComment}
+use Rattle.spacing.specs.declared.SpacingError.{SpacingError}
+use Rattle.spacing.specs.declared.SpacingError.TheVariants.{LineEnd, OpenComment}
 use Rattle.spacing.specs.Spacing.{spaces_at}
-use Rattle.tables.specs.declared.Found.{Found}
 use Rattle.tables.specs.Table.{Added, Inserted, put, same_part, has_name}
 use Rattle.tables.specs.Rows.{row_at}
 use Rattle.tables.specs.Layout.{tokens, repeats}
@@ -142,7 +142,7 @@ module _ (src : List ℕ) (s : State) (ten : length s.counts.n ≡ 10) (k : ℕ)
     pub once_noted : (what : Repeat) (t10 : List ℕ) → Noted src k row a b s t (once_step src s k (length row) 0 what row t t10)
     unfolding once_step
     once_noted what t10 =
-        find_cases (λ (x : Found). Noted src k row a b s t (once_found x s k (length row) what row t t10)) src (length row) 0 (count s k) t (get_or row 0 0) (get_or row 1 0)
+        find_cases (λ (x : Option ℕ). Noted src k row a b s t (once_found x s k (length row) what row t t10)) src (length row) 0 (count s k) t (get_or row 0 0) (get_or row 1 0)
         (λ r l e none. repeat_noted what _ _ _ _ t10 (found_row r l (rw (first, second) at e)))
         (λ none. push_noted t10)
 
@@ -163,18 +163,18 @@ enter_noted src s ten a b t t' p =
 
 -- spacing behind an item: no line end is counted, or some are
 pub past_cases {κ} : (C : Out0 → Type κ) (src : List ℕ) (j : ℕ) (u : State) (kind : ℕ) → u.kind ≡ kind
-    → ((i : ℕ) → spaces_at kind true src j ≡ To i 0 → C (record { answer = Going; state = with_at u i }))
-    → ((i n : ℕ) → spaces_at kind true src j ≡ To i n → 0 < n → C (record { answer = Done; state = with_at u i }))
-    → ((f : Refusal) → ((i n : ℕ) → spaces_at kind true src j ≡ To i n → ⊥) → C (record { answer = Refused f; state = u }))
+    → ((i : ℕ) → spaces_at kind true src j ≡ Ok (i, 0) → C (record { answer = Going; state = with_at u i }))
+    → ((i n : ℕ) → spaces_at kind true src j ≡ Ok (i, n) → 0 < n → C (record { answer = Done; state = with_at u i }))
+    → ((f : Refusal) → ((i n : ℕ) → spaces_at kind true src j ≡ Ok (i, n) → ⊥) → C (record { answer = Refused f; state = u }))
     → C (past_gap src true j u)
 unfolding past_gap gap_at gap_of
 past_cases C src j u kind q f g h = go (spaces_at u.kind true src j) (ap (λ (k : ℕ). spaces_at k true src j) (sym q))
   where
-    go : (r : Spaced) → spaces_at kind true src j ≡ r → C (past true (gap_of r) u)
-    go (To i zero) e = f i e
-    go (To i (suc n)) e = rw (ne_eqb (suc n) 0 (λ z. omega arith)) (g i (suc n) e (omega arith))
-    go (LineEnd i) e = h _ (λ k n d. let z : ◌≡◌ {A = ℕ} 0 1 = cc in omega arith)
-    go (OpenComment i) e = h _ (λ k n d. let z : ◌≡◌ {A = ℕ} 0 1 = cc in omega arith)
+    go : (r : Result (ℕ × ℕ) SpacingError) → spaces_at kind true src j ≡ r → C (past true (gap_of r) u)
+    go (Ok (i, zero)) e = f i e
+    go (Ok (i, suc n)) e = rw (ne_eqb (suc n) 0 (λ z. omega arith)) (g i (suc n) e (omega arith))
+    go (Err (LineEnd i)) e = h _ (λ k n d. let z : ◌≡◌ {A = ℕ} 0 1 = cc in omega arith)
+    go (Err (OpenComment i)) e = h _ (λ k n d. let z : ◌≡◌ {A = ℕ} 0 1 = cc in omega arith)
 
 -- a state of a reading, and the bytes in front of it
 pub record Stands (src : List ℕ) (s : State) : Type 0 where

@@ -1,4 +1,5 @@
 -- Lists that run to their line's end: one law for each answer of an item, a turn and a declaration, and where an item comes to stand. Assumes nothing.
+use Rattle.std.specs.Prelude.{Option, Result, Ok, Err}
 use Prim.Native.Nat.{ℕ, ◌≤◌, ◌<◌}
 use mathlib.Core.Path.{◌≡◌, sym, ◌∙◌, ap}
 use mathlib.Core.List.{List, [], ◌∷◌}
@@ -8,11 +9,8 @@ use lib.ListN.{length}
 use borrow.Author.Tests.{le-leb, lt-leb}
 use Rattle.scan.specs.declared.Place.{Place}
 use Rattle.scan.specs.Loop.{more, stop}
-use Rattle.words.specs.declared.Token.{Token}
-use Rattle.words.specs.declared.Token.TheVariants.{Found, NoToken}
 use Rattle.words.specs.Words.{token_at, Tokened}
 use Rattle.grammar.specs.declared.State.{State}
-use Rattle.grammar.specs.declared.Part.{Part}
 use Rattle.grammar.specs.declared.Cause.TheVariants.{IllegalString}
 use Rattle.grammar.specs.declared.Refusal.{Refusal}
 use Rattle.grammar.specs.declared.Refusal.TheVariants.{Fault}
@@ -20,8 +18,6 @@ use Rattle.grammar.specs.declared.Answer.{Answer}
 use Rattle.grammar.specs.declared.Answer.TheVariants.{Going, Done, Refused}
 use Rattle.grammar.specs.declared.Repeat.{Repeat}
 use Rattle.grammar.specs.declared.Repeat.TheVariants.{RepeatedPrecedence}
-use Rattle.grammar.specs.declared.Gap.{Gap}
-use Rattle.grammar.specs.declared.Gap.TheVariants.{GapTo, GapRefused}
 use Rattle.grammar.specs.State.{Out0, Out1, Out2, Out3, Out4, with_at, with_level, next_level, gap_at, once_step, enter_step, pass_on, tied3, tied4, refused, Onward, Moves}
 use Rattle.grammar.proofs.Steps.{moves}
 use Rattle.marks.specs.Marks.{Leading, lead_tag, tag_row, behind_word}
@@ -29,14 +25,14 @@ use Rattle.lines.specs.Precedences.{prec_tagged, prec_entered, prec_found, prec_
 use Rattle.lines.specs.Avoided.{avoid_named, avoid_item, avoid_turn, avoid_list, avoid_decl}
 
 -- an item comes to stand behind its token if the list goes on
-pub item_moves : (src : List ℕ) (at before end after : ℕ) (p : Place) (b : Bool) (a : Answer) (r : Token) → Tokened src at r → r ≡ Found p end b → before ≡ at → Onward src end before a after → Moves src at a after
+pub item_moves : (src : List ℕ) (at before end after : ℕ) (p : Place) (b : Bool) (a : Answer) (r : Result (Place × ℕ × Bool) ℕ) → Tokened src at r → r ≡ Ok (p, end, b) → before ≡ at → Onward src end before a after → Moves src at a after
 item_moves src at before end after p b a r x e k o =
     let y = rw e at x in
     moves src at end before after a k (omega (arith, y.0, y.1, y.2)) y.3 o
 
 -- a token of a precedence line: its row or repeat, the row of its tag, and what stands behind it
-module _ (src : List ℕ) (s : State) (level assoc : ℕ) (tag : Part) (t2 t10 t15 t16 : List ℕ) (r : Token) (q : r ≡ token_at src s.at) where
-  pub prec_found_lem : (p : Place) (end : ℕ) (b : Bool) (o : Out2) (y : Answer) (v : State) (d : List ℕ) (z : Answer) (w : State) (e : List ℕ) → r ≡ Found p end b
+module _ (src : List ℕ) (s : State) (level assoc : ℕ) (tag : Option (ℕ × ℕ)) (t2 t10 t15 t16 : List ℕ) (r : Result (Place × ℕ × Bool) ℕ) (q : r ≡ token_at src s.at) where
+  pub prec_found_lem : (p : Place) (end : ℕ) (b : Bool) (o : Out2) (y : Answer) (v : State) (d : List ℕ) (z : Answer) (w : State) (e : List ℕ) → r ≡ Ok (p, end, b)
       → o ≡ once_step src s 1 4 0 RepeatedPrecedence (p.from ∷ p.to ∷ level ∷ assoc ∷ []) t2 t10
       → ◌≡◌ {A = Out1} (record { answer = y; state = v; a = d }) (tag_row o.answer o.state tag p.from p.to t15)
       → ◌≡◌ {A = Out1} (record { answer = z; state = w; a = e }) (behind_word src true p.from p.to end y v t16)
@@ -46,14 +42,14 @@ module _ (src : List ℕ) (s : State) (level assoc : ℕ) (tag : Part) (t2 t10 t
       ap (λ (x : Out1). record { answer = x.answer; state = x.state; a = o.a; b = o.b; c = d; d = x.a }) h
       ∙ ap (λ (x : Out1). prec_tagged src p.from p.to end o x t16) g
       ∙ ap (λ (x : Out2). prec_entered src tag p.from p.to end x t15 t16) f
-      ∙ ap (λ (x : Token). prec_found x src s level assoc tag t2 t10 t15 t16) (sym k ∙ q)
+      ∙ ap (λ (x : Result (Place × ℕ × Bool) ℕ). prec_found x src s level assoc tag t2 t10 t15 t16) (sym k ∙ q)
 
-  pub prec_none : (k : ℕ) → r ≡ NoToken k → tied4 (refused (Fault IllegalString k) s) t2 t10 t15 t16 ≡ prec_item src s level assoc tag t2 t10 t15 t16
+  pub prec_none : (k : ℕ) → r ≡ Err k → tied4 (refused (Fault IllegalString k) s) t2 t10 t15 t16 ≡ prec_item src s level assoc tag t2 t10 t15 t16
   unfolding prec_item
-  prec_none k e = ap (λ (x : Token). prec_found x src s level assoc tag t2 t10 t15 t16) (sym e ∙ q)
+  prec_none k e = ap (λ (x : Result (Place × ℕ × Bool) ℕ). prec_found x src s level assoc tag t2 t10 t15 t16) (sym e ∙ q)
 
 -- a turn of a precedence list
-module _ (src : List ℕ) (level assoc : ℕ) (tag : Part) (s : State) (t2 t10 t15 t16 : List ℕ) where
+module _ (src : List ℕ) (level assoc : ℕ) (tag : Option (ℕ × ℕ)) (s : State) (t2 t10 t15 t16 : List ℕ) where
   pub prec_end : length src ≤ s.at → prec_turn src level assoc tag (record { answer = Going; state = s; a = t2; b = t10; c = t15; d = t16 }) ≡ stop (record { answer = Going; state = s; a = t2; b = t10; c = t15; d = t16 })
   unfolding prec_turn
   prec_end h = rw (le-leb _ _ h)
@@ -72,7 +68,7 @@ module _ (src : List ℕ) (level assoc : ℕ) (tag : Part) (s : State) (t2 t10 t
     prec_refused f g = rw (lt-leb _ _ h, ← e, g)
 
 -- the tag in front of the tokens
-module _ (src : List ℕ) (s : State) (level assoc : ℕ) (t2 t10 t15 t16 : List ℕ) (x : Answer) (u : State) (tag : Part) (q : ◌≡◌ {A = Leading} (record { answer = x; state = u; tag = tag }) (lead_tag src s false true)) where
+module _ (src : List ℕ) (s : State) (level assoc : ℕ) (t2 t10 t15 t16 : List ℕ) (x : Answer) (u : State) (tag : Option (ℕ × ℕ)) (q : ◌≡◌ {A = Leading} (record { answer = x; state = u; tag = tag }) (lead_tag src s false true)) where
   body_is : (y : Answer) → x ≡ y → prec_led y (record { answer = x; state = u; tag = tag }) src level assoc t2 t10 t15 t16 ≡ prec_body src s level assoc t2 t10 t15 t16
   unfolding prec_body
   body_is y e = ap (λ (z : Answer). prec_led z (record { answer = x; state = u; tag = tag }) src level assoc t2 t10 t15 t16) (sym e) ∙ ap (λ (l : Leading). prec_led l.answer l src level assoc t2 t10 t15 t16) q
@@ -87,14 +83,14 @@ module _ (src : List ℕ) (s : State) (level assoc : ℕ) (t2 t10 t15 t16 : List
   body_refused f e = body_is (Refused f) e
 
 -- a precedence line, from behind its keyword on
-module _ (src : List ℕ) (s : State) (assoc : ℕ) (t2 t10 t15 t16 : List ℕ) (r : Gap) (q : r ≡ gap_at s.kind false src s.at) where
-  pub prec_line : (i n up : ℕ) (o : Out4) → r ≡ GapTo i n → up ≡ next_level s.level → o ≡ prec_body src (with_level (with_at s i) up) s.level assoc t2 t10 t15 t16 → o ≡ prec_decl src s assoc t2 t10 t15 t16
+module _ (src : List ℕ) (s : State) (assoc : ℕ) (t2 t10 t15 t16 : List ℕ) (r : Result (ℕ × ℕ) Refusal) (q : r ≡ gap_at s.kind false src s.at) where
+  pub prec_line : (i n up : ℕ) (o : Out4) → r ≡ Ok (i, n) → up ≡ next_level s.level → o ≡ prec_body src (with_level (with_at s i) up) s.level assoc t2 t10 t15 t16 → o ≡ prec_decl src s assoc t2 t10 t15 t16
   unfolding prec_decl
-  prec_line i n up o e l h = (rw l at h) ∙ ap (λ (x : Gap). prec_from x src s assoc t2 t10 t15 t16) (sym e ∙ q)
+  prec_line i n up o e l h = (rw l at h) ∙ ap (λ (x : Result (ℕ × ℕ) Refusal). prec_from x src s assoc t2 t10 t15 t16) (sym e ∙ q)
 
-  pub prec_gap_lem : (f : Refusal) → r ≡ GapRefused f → tied4 (refused f s) t2 t10 t15 t16 ≡ prec_decl src s assoc t2 t10 t15 t16
+  pub prec_gap_lem : (f : Refusal) → r ≡ Err f → tied4 (refused f s) t2 t10 t15 t16 ≡ prec_decl src s assoc t2 t10 t15 t16
   unfolding prec_decl
-  prec_gap_lem f e = ap (λ (x : Gap). prec_from x src s assoc t2 t10 t15 t16) (sym e ∙ q)
+  prec_gap_lem f e = ap (λ (x : Result (ℕ × ℕ) Refusal). prec_from x src s assoc t2 t10 t15 t16) (sym e ∙ q)
 
 -- a token that was entered is given to its table once
 module _ (src : List ℕ) (s : State) (k : ℕ) (what : Repeat) (from to end : ℕ) (t1 t t10 : List ℕ) (o : Out1) (q : o ≡ enter_step src s from to false t1) where
@@ -114,12 +110,12 @@ module _ (src : List ℕ) (s : State) (k : ℕ) (what : Repeat) (from to end : �
   enter_refused f g = rw (← q, g)
 
 -- a token of an avoid or implicit list
-module _ (src : List ℕ) (s : State) (k : ℕ) (what : Repeat) (t1 t t10 : List ℕ) (r : Token) (q : r ≡ token_at src s.at) where
-  pub avoid_found_lem : (p : Place) (end : ℕ) (b : Bool) (o : Out3) → r ≡ Found p end b → o ≡ avoid_named src s k what p.from p.to end t1 t t10 → o ≡ avoid_item src s k what t1 t t10
+module _ (src : List ℕ) (s : State) (k : ℕ) (what : Repeat) (t1 t t10 : List ℕ) (r : Result (Place × ℕ × Bool) ℕ) (q : r ≡ token_at src s.at) where
+  pub avoid_found_lem : (p : Place) (end : ℕ) (b : Bool) (o : Out3) → r ≡ Ok (p, end, b) → o ≡ avoid_named src s k what p.from p.to end t1 t t10 → o ≡ avoid_item src s k what t1 t t10
   unfolding avoid_item
   avoid_found_lem p end b o e h = rw (← q, e) h
 
-  pub avoid_none : (i : ℕ) → r ≡ NoToken i → tied3 (refused (Fault IllegalString i) s) t1 t t10 ≡ avoid_item src s k what t1 t t10
+  pub avoid_none : (i : ℕ) → r ≡ Err i → tied3 (refused (Fault IllegalString i) s) t1 t t10 ≡ avoid_item src s k what t1 t t10
   unfolding avoid_item
   avoid_none i e = rw (← q, e)
 
@@ -143,11 +139,11 @@ module _ (src : List ℕ) (s : State) (k : ℕ) (what : Repeat) (t1 t t10 : List
   unfolding avoid_decl
   avoid_end_lem h = rw (le-leb _ _ h, avoid_decl)
 
-  module _ (h : s.at < length src) (r : Gap) (q : r ≡ gap_at s.kind false src s.at) where
-    pub avoid_line : (i n : ℕ) (o : Out3) → r ≡ GapTo i n → o ≡ avoid_list src (with_at s i) k what t1 t t10 → o ≡ avoid_decl src s k what t1 t t10
+  module _ (h : s.at < length src) (r : Result (ℕ × ℕ) Refusal) (q : r ≡ gap_at s.kind false src s.at) where
+    pub avoid_line : (i n : ℕ) (o : Out3) → r ≡ Ok (i, n) → o ≡ avoid_list src (with_at s i) k what t1 t t10 → o ≡ avoid_decl src s k what t1 t t10
     unfolding avoid_decl
     avoid_line i n o e w = rw (lt-leb _ _ h, avoid_decl, ← q, e) w
 
-    pub avoid_gap : (f : Refusal) → r ≡ GapRefused f → tied3 (refused f s) t1 t t10 ≡ avoid_decl src s k what t1 t t10
+    pub avoid_gap : (f : Refusal) → r ≡ Err f → tied3 (refused f s) t1 t t10 ≡ avoid_decl src s k what t1 t t10
     unfolding avoid_decl
     avoid_gap f e = rw (lt-leb _ _ h, avoid_decl, ← q, e)

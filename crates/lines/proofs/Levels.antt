@@ -1,19 +1,18 @@
 -- Each precedence line has a level of its own: the rows that a line adds all have its level, and every row that stood before has a lower one. Assumes nothing.
+use Rattle.std.specs.Prelude.{Option, Ok}
 use Prim.Native.Nat.{ℕ, ◌≤◌, ◌<◌}
-use mathlib.Core.Path.{◌≡◌, refl, ap, ◌∙◌}
+use mathlib.Core.Path.{◌≡◌, refl, ap, ◌∙◌, sym}
 use mathlib.Core.List.{List}
 use mathlib.Core.Bool.{Bool, true}
 use native.Mathlib.Omega.{arith}
 use lib.ListN.{length, get_or}
+use Rattle.scan.proofs.Tuples.{ok_2}
 use Rattle.scan.specs.declared.Place.{Place}
-use Rattle.spacing.specs.declared.Spaced.TheVariants.{To}
 use Rattle.spacing.specs.Spacing.{spaces_at}
-use Rattle.words.specs.declared.Token.TheVariants.{Found}
 use Rattle.words.specs.Words.{token_at}
 use Rattle.tables.specs.Rows.{row_at}
 use Rattle.tables.specs.Layout.{precedences, level, width}
 use Rattle.grammar.specs.declared.State.{State}
-use Rattle.grammar.specs.declared.Part.{Part}
 use Rattle.grammar.specs.declared.Answer.{Answer}
 use Rattle.grammar.specs.declared.Answer.TheVariants.{Going, Done, Refused}
 use Rattle.grammar.specs.declared.Repeat.TheVariants.{RepeatedPrecedence}
@@ -50,7 +49,7 @@ lines_differ src done s T assoc f q r a b c =
     rw (e, g) ((f.tables precedences).each q a).earlier
 
 -- Where the spacing behind a token counts a line end, its line is at its end: the list does not go on, and what follows is not read with this level.
-pub counted_ends : (src : List ℕ) (s : State) (lev assoc : ℕ) (tag : Part) (t2 t10 t15 t16 : List ℕ) (p : Place) (end : ℕ) (quoted : Bool) (i n : ℕ) → token_at src s.at ≡ Found p end quoted → spaces_at s.kind true src end ≡ To i n → 0 < n → (prec_item src s lev assoc tag t2 t10 t15 t16).answer ≡ Going → ⊥
+pub counted_ends : (src : List ℕ) (s : State) (lev assoc : ℕ) (tag : Option (ℕ × ℕ)) (t2 t10 t15 t16 : List ℕ) (p : Place) (end : ℕ) (quoted : Bool) (i n : ℕ) → token_at src s.at ≡ Ok (p, end, quoted) → spaces_at s.kind true src end ≡ Ok (i, n) → 0 < n → (prec_item src s lev assoc tag t2 t10 t15 t16).answer ≡ Going → ⊥
 unfolding prec_item behind_word
 counted_ends src s lev assoc tag t2 t10 t15 t16 p end quoted i n e g h d =
     passed row.answer row.state (tag_keeps (λ u. u.kind) (λ u i. refl) (λ u k cells t l. push_kind u k cells t) made.answer made.state tag p.from p.to t15 ∙ once_kind s src _ _ _ _ _ _ _) (rw e at d)
@@ -64,7 +63,7 @@ counted_ends src s lev assoc tag t2 t10 t15 t16 p end quoted i n e g h d =
     passed : (a : Answer) (u : State) → u.kind ≡ s.kind → (behind_word src true p.from p.to end a u t16).answer ≡ Going → ⊥
     passed Going u q y =
         past_cases (λ (o : Out0). (number_after o src true p.from p.to o.answer t16).answer ≡ Going → ⊥) src end u s.kind q
-        (λ j c y. let z : n ≡ 0 = cc in omega arith)
+        (λ j c y. let z : n ≡ 0 = (ok_2 (sym g ∙ c)).1 in omega arith)
         (λ j m c l y. done_going y)
         (λ f none y. refused_going f y)
         y

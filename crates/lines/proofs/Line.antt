@@ -1,9 +1,9 @@
 -- A line of words is one: where it ends, how many line ends it counts and its words are known from where it begins. Its words lie between the two, and a line
 -- end counted behind a word is the line's end. Assumes nothing.
+use Rattle.std.specs.Prelude.{Option, Ok, None}
 use Prim.Native.Nat.{ℕ, zero, suc, ◌+◌, ◌-◌, ◌≤◌, ◌<◌}
 use mathlib.Core.Path.{◌≡◌, refl, sym, ap, ◌∙◌}
 use mathlib.Core.List.{List, [], ◌∷◌}
-use mathlib.Core.Option.{none}
 use mathlib.Core.Bool.{Bool, true, false, ◌||◌, false≢true}
 use mathlib.Core.Logic.{inl, inr}
 use native.Mathlib.Omega.{arith}
@@ -11,19 +11,17 @@ use lib.Dec.{eqb}
 use lib.ListN.{length, get_or}
 use borrow.Author.Tests.{eqb-true}
 use types.Run.{OneOf}
+use Rattle.scan.proofs.Tuples.{ok_2, ok_3}
 use Rattle.scan.specs.declared.Place.{Place}
 use Rattle.scan.specs.declared.Class.TheVariants.{LineByte}
 use Rattle.scan.specs.Scan.{in_class, starts_at, Runs}
 use Rattle.scan.proofs.Bytes.{told, starts_fits}
-use Rattle.spacing.specs.declared.Spaced.TheVariants.{To}
 use Rattle.spacing.specs.Spacing.{is_blank, gap, spacing_at, spaces_at, Spaces, AtLeast}
 use Rattle.spacing.proofs.Places.{spaces}
 use Rattle.spacing.proofs.Laws.{a_blank}
 use Rattle.spacing.proofs.Counts.{comment_counted}
-use Rattle.words.specs.declared.Token.TheVariants.{Found}
 use Rattle.words.specs.Words.{token_at}
 use Rattle.grammar.specs.State.{Passed}
-use Rattle.grammar.specs.declared.Part.{Part}
 use Rattle.marks.specs.Worded.{ListWord, Worded, plain, numbered}
 use Rattle.lines.specs.Line.{LineWord, line_word, In, Inside, Alone, alone, Line, closed, ended, word, LineAt, PrecLine}
 use Rattle.lines.proofs.Worded.{gap_spaces, Words, Leads, alone_words, prec_words, word_untagged}
@@ -39,7 +37,7 @@ blank_is c e = go (eqb c 9) refl (eqb c 32) refl e
     go false p false q e = absurd (false≢true e)
 
 module _ (kind : ℕ) (src : List ℕ) where
-  pub gap_placed : (end j n : ℕ) → end ≤ length src → spaces_at kind true src end ≡ To j n → Spaces src end (To j n)
+  pub gap_placed : (end j n : ℕ) → end ≤ length src → spaces_at kind true src end ≡ Ok (j, n) → Spaces src end (Ok (j, n))
   gap_placed end j n h e = told (Spaces src end) e (spaces kind true src end h)
 
   -- blanks pass
@@ -87,19 +85,20 @@ module _ (kind : ℕ) (src : List ℕ) where
     line_closed (word e g l) c = absurd (omega arith)
 
     -- A line end that is counted behind a word ends the line: it does not run on.
-    pub counted_last : {m i j n : ℕ} {ws : List LineWord} → Line kind Word src m i j n ws → (w : LineWord) → In w ws → (k c : ℕ) → spaces_at kind true src w.end ≡ To k c → 0 < c → (k ≡ j) × (c ≡ n)
+    pub counted_last : {m i j n : ℕ} {ws : List LineWord} → Line kind Word src m i j n ws → (w : LineWord) → In w ws → (k c : ℕ) → spaces_at kind true src w.end ≡ Ok (k, c) → 0 < c → (k ≡ j) × (c ≡ n)
     counted_last (closed h) w x k c f b = absurd x
     counted_last (ended h) w x k c f b = absurd x
     counted_last (word {k = k'} {m = m} e g l) w (inl q) k c f b =
         let f' = rw q at f in
-        let y : k' ≡ k = cc in
-        let z : m ≡ c = cc in
+        let d = ok_2 (sym g ∙ f') in
+        let y : k' ≡ k = d.0 in
+        let z : m ≡ c = d.1 in
         let r = line_closed l (rw z b) in
         (sym y ∙ r.0, sym z ∙ r.1)
     counted_last (word e g l) w (inr x) k c f b = counted_last l w x k c f b
 
     -- the spacing behind a word, where it is known to count a line end
-    spaced_last : {m i j n : ℕ} {ws : List LineWord} → Line kind Word src m i j n ws → (w : LineWord) → In w ws → AtLeast 1 (spaces_at kind true src w.end) → (0 < n) × (spaces_at kind true src w.end ≡ To j n)
+    spaced_last : {m i j n : ℕ} {ws : List LineWord} → Line kind Word src m i j n ws → (w : LineWord) → In w ws → AtLeast 1 (spaces_at kind true src w.end) → (0 < n) × (spaces_at kind true src w.end ≡ Ok (j, n))
     spaced_last (closed h) w x c = absurd x
     spaced_last (ended h) w x c = absurd x
     spaced_last (word {k = k} {m = m} {end = end} e g l) w (inl q) c =
@@ -137,19 +136,20 @@ module _ (kind : ℕ) (src : List ℕ) where
             let x = W.one e (told (λ (h : ℕ). Word h end' w') (sym q) e') in
             let a = x.0 in
             let b = x.1 in
-            let y : k ≡ k' = cc in
-            let z : m ≡ m' = cc in
+            let o = ok_2 (sym g ∙ (rw (sym a) at g')) in
+            let y : k ≡ k' = o.0 in
+            let z : m ≡ m' = o.1 in
             let r = go l l' z y in
             let d = r.2 in
             (r.0, r.1, rw (a, b, d))
 
     -- the same behind a keyword
-    module _ {Led : ℕ → ℕ → ℕ → Part → Type 0} (D : Leads src Led) where
+    module _ {Led : ℕ → ℕ → ℕ → Option (ℕ × ℕ) → Type 0} (D : Leads src Led) where
       pub line_at_one : {at j j' : ℕ} (l : LineAt kind Led Word src at j) (l' : LineAt kind Led Word src at j') → (j ≡ j') × (l.counted ≡ l'.counted) × (l.words ≡ l'.words) × (l.tag ≡ l'.tag)
       line_at_one {j' = j'} l l' =
           let p = l.gap in
           let q = l'.gap in
-          let z : l'.start ≡ l.start = cc in
+          let z : l'.start ≡ l.start = (ok_2 (sym q ∙ p)).0 in
           let d = D.one l.lead (told (λ (h : ℕ). Led h l'.head l'.passed l'.tag) z l'.lead) in
           let x = line_one l.line (told (λ (m : ℕ). Line kind Word src m l.head j' l'.counted l'.words) (sym d.1) (told (λ (h : ℕ). Line kind Word src l'.passed h j' l'.counted l'.words) (sym d.0) l'.line)) in
           (x.0, x.1, x.2, d.2)
@@ -176,7 +176,7 @@ module _ (kind : ℕ) (src : List ℕ) where
         told (AtLeast 1) (sym q) (comment_counted kind true src c e starts run low)
 
     -- Behind a word of a line it is the end of the line;
-    pub comment_last : {Word : ℕ → ℕ → ListWord → Type 0} → Words src Word → {m i j n : ℕ} {ws : List LineWord} → Line kind Word src m i j n ws → (w : LineWord) → In w ws → w.end ≡ end → (0 < n) × (spaces_at kind true src end ≡ To j n)
+    pub comment_last : {Word : ℕ → ℕ → ListWord → Type 0} → Words src Word → {m i j n : ℕ} {ws : List LineWord} → Line kind Word src m i j n ws → (w : LineWord) → In w ws → w.end ≡ end → (0 < n) × (spaces_at kind true src end ≡ Ok (j, n))
     comment_last W l w x q = rw q at (spaced_last W l w x (rw q counts))
 
     -- and behind the first word that word is the whole line.
@@ -184,19 +184,19 @@ module _ (kind : ℕ) (src : List ℕ) where
     comment_first W l q = begins_with W l refl q counts
 
     -- Behind the first token of a precedence line, which no tag leads then, it is behind the first word: no number follows it.
-    pub comment_only : {at j : ℕ} (l : PrecLine kind src at j) (p : Place) (quoted : Bool) → token_at src l.start ≡ Found p end quoted → l.words ≡ record { place = p; number = none; end = end } ∷ []
-    comment_only l p quoted q = let x = word_untagged kind src q l.lead in go l.line (sym x.1) (told (λ (i : ℕ). token_at src i ≡ Found p end quoted) x.0 q)
+    pub comment_only : {at j : ℕ} (l : PrecLine kind src at j) (p : Place) (quoted : Bool) → token_at src l.start ≡ Ok (p, end, quoted) → l.words ≡ record { place = p; number = None; end = end } ∷ []
+    comment_only l p quoted q = let x = word_untagged kind src q l.lead in go l.line (sym x.1) (told (λ (i : ℕ). token_at src i ≡ Ok (p, end, quoted)) x.0 q)
       where
         -- a number would stand on the word's line
-        number : {i b : ℕ} {w : ListWord} → Worded kind true src i b w → token_at src i ≡ Found p end quoted → Alone src i b w
+        number : {i b : ℕ} {w : ListWord} → Worded kind true src i b w → token_at src i ≡ Ok (p, end, quoted) → Alone src i b w
         number (plain t x) q = alone t
         number (numbered {e = b} {j = j} {n = n} k t g z d y) q =
-            let v : b ≡ end = cc in
+            let v : b ≡ end = (ok_3 (sym t ∙ q)).1 in
             let r : 1 ≤ n = told (AtLeast 1) (gap_spaces kind true src end j n (rw v at g)) counts in
             let s = z refl in
             absurd (omega arith)
 
-        go : {m i j n : ℕ} {ws : List LineWord} → Line kind (Worded kind true src) src m i j n ws → m ≡ 0 → token_at src i ≡ Found p end quoted → ws ≡ record { place = p; number = none; end = end } ∷ []
+        go : {m i j n : ℕ} {ws : List LineWord} → Line kind (Worded kind true src) src m i j n ws → m ≡ 0 → token_at src i ≡ Ok (p, end, quoted) → ws ≡ record { place = p; number = None; end = end } ∷ []
         go (closed h) z q = absurd (omega arith)
         go (ended h) z q = absurd (no_word (alone_words src) h (alone q))
         go (word {i = i} {w = w} e g l) z q =

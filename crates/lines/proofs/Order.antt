@@ -1,4 +1,5 @@
 -- The words of a line stand one behind the other with no LF between them, and behind the last one is a line end or the source's end. Assumes nothing.
+use Rattle.std.specs.Prelude.{Ok}
 use Prim.Native.Nat.{ℕ, ◌≤◌, ◌<◌}
 use mathlib.Core.Path.{◌≡◌}
 use mathlib.Core.List.{List}
@@ -10,7 +11,6 @@ use lib.ListN.{length}
 use Rattle.scan.specs.Scan.{is_eol}
 use Rattle.scan.specs.Tally.{tally_at}
 use Rattle.scan.proofs.Tally.{tally_split, tally_zero}
-use Rattle.spacing.specs.declared.Spaced.TheVariants.{To}
 use Rattle.spacing.specs.Spacing.{spaces_at}
 use Rattle.spacing.proofs.Lines.{counted_iff}
 use Rattle.marks.specs.Worded.{ListWord}
@@ -33,7 +33,7 @@ module _ (src : List ℕ) where
 
 module _ (kind : ℕ) (src : List ℕ) {Word : ℕ → ℕ → ListWord → Type 0} (W : Words src Word) where
   -- a word that another one follows holds no LF, and neither does the spacing between them
-  word_plain : {i end k m j n : ℕ} {w : ListWord} {ws : List LineWord} → Word i end w → spaces_at kind true src end ≡ To k m → Line kind Word src m k j n ws → (v : LineWord) → In v ws → Without is_feed src i k
+  word_plain : {i end k m j n : ℕ} {w : ListWord} {ws : List LineWord} → Word i end w → spaces_at kind true src end ≡ Ok (k, m) → Line kind Word src m k j n ws → (v : LineWord) → In v ws → Without is_feed src i k
   word_plain e g (closed h) v x = absurd x
   word_plain e g (ended h) v x = absurd x
   word_plain {i} {end} {k} e g (word e' g' l) v x = without_on is_feed src i end k (W.plain e) (gap_plain kind src end k g)
@@ -70,7 +70,7 @@ module _ (kind : ℕ) (src : List ℕ) {Word : ℕ → ℕ → ListWord → Type
   words_plain (word e g l) v w (inr x) = words_plain l v w x
 
   -- spacing that counts a line passes a line end
-  gap_ends : (end j n : ℕ) → end ≤ length src → spaces_at kind true src end ≡ To j n → 0 < n → 0 < tally_at is_eol src end j
+  gap_ends : (end j n : ℕ) → end ≤ length src → spaces_at kind true src end ≡ Ok (j, n) → 0 < n → 0 < tally_at is_eol src end j
   gap_ends end j n h e p =
       let x = gap_placed kind src end j n h e in
       let y = x.0 in
@@ -80,7 +80,7 @@ module _ (kind : ℕ) (src : List ℕ) {Word : ℕ → ℕ → ListWord → Type
       ]
 
   -- from before the spacing behind a word, where n line ends are counted, to where the line ends
-  behind_over : (end : ℕ) → end ≤ length src → {k m j n : ℕ} {ws : List LineWord} → spaces_at kind true src end ≡ To k m → Line kind Word src m k j n ws → LineOver src end j
+  behind_over : (end : ℕ) → end ≤ length src → {k m j n : ℕ} {ws : List LineWord} → spaces_at kind true src end ≡ Ok (k, m) → Line kind Word src m k j n ws → LineOver src end j
   behind_over end b {k} {m} g (closed h) = inl (gap_ends end k m b g h)
   behind_over end b g (ended h) = inr h
   behind_over end b {k} {m} g (word {j = j} {end = end'} e g' l) =

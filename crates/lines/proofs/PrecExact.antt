@@ -1,5 +1,6 @@
 -- A precedence line goes on exactly where it stands in the source and its rows find room, and its rows are exactly those of the words that it meets first; the
 -- others are listed as repeats. Each word has a row for the line's tag, and one for its number. Assumes nothing.
+use Rattle.std.specs.Prelude.{Option, Ok, Result}
 use Prim.Native.Nat.{ℕ, suc, ◌≤◌, ◌<◌}
 use mathlib.Core.Path.{◌≡◌, refl, sym, ap, ◌∙◌}
 use mathlib.Core.List.{List, [], ◌∷◌, ◌++◌, append-nil}
@@ -8,18 +9,16 @@ use mathlib.Core.Logic.{inl, inr, ◌↔◌}
 use native.Mathlib.Omega.{arith}
 use lib.ListN.{length}
 use borrow.Author.Tests.{lt-leb, le-leb}
+use Rattle.scan.proofs.Tuples.{ok_2}
+use Rattle.grammar.specs.declared.Refusal.{Refusal}
 use Rattle.scan.specs.Loop.{Turn}
 use Rattle.scan.proofs.Bytes.{told}
-use Rattle.spacing.specs.declared.Spaced.TheVariants.{To}
 use Rattle.spacing.specs.Spacing.{spaces_at}
-use Rattle.words.specs.declared.Token.TheVariants.{Found}
 use Rattle.words.specs.Words.{token_at}
 use Rattle.tables.specs.Layout.{precedences, repeats, tags, token_numbers, width}
 use Rattle.grammar.specs.declared.State.{State}
-use Rattle.grammar.specs.declared.Part.{Part}
 use Rattle.grammar.specs.declared.Answer.TheVariants.{Going}
 use Rattle.grammar.specs.declared.Repeat.TheVariants.{RepeatedPrecedence}
-use Rattle.grammar.specs.declared.Gap.TheVariants.{GapTo}
 use Rattle.grammar.specs.State.{Out1, Out2, Out4, count, with_at, with_level, next_level, gap_at}
 use Rattle.grammar.proofs.Touch.{refused_going}
 use Rattle.marks.specs.Marks.{tag_row, behind_word}
@@ -47,7 +46,7 @@ numbers_one w = sym (append-nil (number_of w.place w.number))
 numbers_more : (w : LineWord) (ws : List LineWord) → number_rows (listed (w ∷ ws)) ≡ number_rows (listed (w ∷ [])) ++ number_rows (listed ws)
 numbers_more w ws = number_rows_on _ (listed ws) ∙ ap (λ (x : List (List ℕ)). x ++ number_rows (listed ws)) (numbers_one w)
 
-module _ (src : List ℕ) (lev assoc : ℕ) (tag : Part) where
+module _ (src : List ℕ) (lev assoc : ℕ) (tag : Option (ℕ × ℕ)) where
   abbrev Room : List LineWord → Out4 → Type 0
   Room ws o = PrecFree src o.state o.a o.b o.c o.d tag ws
 
@@ -64,7 +63,7 @@ module _ (src : List ℕ) (lev assoc : ℕ) (tag : Part) where
   Took n w i o t = TurnTo src (λ (o : Out4). o.state) (λ (o : Out4). o.answer) Room Leads n w i o t
 
   -- one word: its row or its repeat, from the state of o to u, the tag's row, to v, and the number's
-  module _ (kind : ℕ) (o : Out4) (fit : Fit o.state) (k : o.state.kind ≡ kind) (w : ListWord) (end i n : ℕ) (e : Worded kind true src o.state.at end w) (g : spaces_at kind true src end ≡ To i n) where
+  module _ (kind : ℕ) (o : Out4) (fit : Fit o.state) (k : o.state.kind ≡ kind) (w : ListWord) (end i n : ℕ) (e : Worded kind true src o.state.at end w) (g : spaces_at kind true src end ≡ Ok (i, n)) where
     abbrev here : LineWord
     here = line_word w end
 
@@ -86,7 +85,7 @@ module _ (src : List ℕ) (lev assoc : ℕ) (tag : Part) where
           same_number = ap (λ (w : ListWord). number_of w.place w.number) ((prec_words kind src).one y.worded e).1 ∙ numbers_one here
 
           same_gap : (i' ≡ i) × (n' ≡ n)
-          same_gap = let z = ((prec_words kind src).one y.worded e).0 in let h = y.spaced in let m : To i' n' ≡ To i n = cc in (cc, cc)
+          same_gap = let z = ((prec_words kind src).one y.worded e).0 in let h = y.spaced in let m : ◌≡◌ {A = Result (ℕ × ℕ) Refusal} (Ok (i', n')) (Ok (i, n)) = cc in ok_2 m
 
           room : Room (here ∷ []) o
           room =
@@ -110,7 +109,7 @@ module _ (src : List ℕ) (lev assoc : ℕ) (tag : Part) where
               }
 
         -- the number, and the spacing behind all of the word
-        third : (tend : ℕ) (quoted : Bool) → token_at src o.state.at ≡ Found w.place tend quoted → Took n here i o (line_end (prec_tagged src w.place.from w.place.to tend (record { answer = Going; state = u; a = a; b = b }) (record { answer = Going; state = v; a = c }) o.d).answer (prec_tagged src w.place.from w.place.to tend (record { answer = Going; state = u; a = a; b = b }) (record { answer = Going; state = v; a = c }) o.d))
+        third : (tend : ℕ) (quoted : Bool) → token_at src o.state.at ≡ Ok (w.place, tend, quoted) → Took n here i o (line_end (prec_tagged src w.place.from w.place.to tend (record { answer = Going; state = u; a = a; b = b }) (record { answer = Going; state = v; a = c }) o.d).answer (prec_tagged src w.place.from w.place.to tend (record { answer = Going; state = u; a = a; b = b }) (record { answer = Going; state = v; a = c }) o.d))
         third tend quoted t =
             behind_cases kind src o.state.at w.place tend quoted t v (still-tag.kind ∙ still.kind ∙ k) (still-tag.at ∙ still.at) o.d
             (λ (y : Out1). Took n here i o (line_end y.answer (record { answer = y.answer; state = y.state; a = a; b = b; c = c; d = y.a })))
@@ -119,7 +118,7 @@ module _ (src : List ℕ) (lev assoc : ℕ) (tag : Part) where
             (λ r x d y. full (refused_going r) (λ f. y.none e g (told (λ (m : ℕ). FreeRows (width token_numbers) m o.d (length (number_of w.place w.number))) (sym number_count) (told (λ (r : List (List ℕ)). FreeRows (width token_numbers) (count o.state token_numbers) o.d (length r)) (sym (numbers_one here)) f.numbered))))
 
       -- the tag's row
-      second : (tend : ℕ) (quoted : Bool) → token_at src o.state.at ≡ Found w.place tend quoted → Took n here i o (line_end (prec_entered src tag w.place.from w.place.to tend (record { answer = Going; state = u; a = a; b = b }) o.c o.d).answer (prec_entered src tag w.place.from w.place.to tend (record { answer = Going; state = u; a = a; b = b }) o.c o.d))
+      second : (tend : ℕ) (quoted : Bool) → token_at src o.state.at ≡ Ok (w.place, tend, quoted) → Took n here i o (line_end (prec_entered src tag w.place.from w.place.to tend (record { answer = Going; state = u; a = a; b = b }) o.c o.d).answer (prec_entered src tag w.place.from w.place.to tend (record { answer = Going; state = u; a = a; b = b }) o.c o.d))
       unfolding behind_word
       second tend quoted t =
           tag_cases (λ (y : Out1). Took n here i o (line_end (prec_tagged src w.place.from w.place.to tend (record { answer = Going; state = u; a = a; b = b }) y o.d).answer (prec_tagged src w.place.from w.place.to tend (record { answer = Going; state = u; a = a; b = b }) y o.d))) u tag w.place o.c
@@ -192,13 +191,13 @@ module _ (src : List ℕ) (s : State) (assoc : ℕ) (t2 t10 t15 t16 : List ℕ) 
   after = prec_decl src s assoc t2 t10 t15 t16
 
   -- the reading of these words, up to j, led to o
-  record Exact (j : ℕ) (tag : Part) (ws : List LineWord) (o : Out4) : Type 0 where
+  record Exact (j : ℕ) (tag : Option (ℕ × ℕ)) (ws : List LineWord) (o : Out4) : Type 0 where
     goes : PrecFree src s t2 t10 t15 t16 tag ws → o.answer ≡ Going
     free : o.answer ≡ Going → PrecFree src s t2 t10 t15 t16 tag ws
     read : o.answer ≡ Going → PrecRead src s assoc t2 t10 t15 t16 j tag ws o
 
   -- words behind a tag or none
-  some_words : (h : ℕ) (tag : Part) {j n : ℕ} {ws : List LineWord} → Line s.kind (Worded s.kind true src) src 0 h j n ws → Exact j tag ws (prec_list src (with_level (with_at s h) (next_level s.level)) s.level assoc tag t2 t10 t15 t16)
+  some_words : (h : ℕ) (tag : Option (ℕ × ℕ)) {j n : ℕ} {ws : List LineWord} → Line s.kind (Worded s.kind true src) src 0 h j n ws → Exact j tag ws (prec_list src (with_level (with_at s h) (next_level s.level)) s.level assoc tag t2 t10 t15 t16)
   some_words h tag l =
       let r = list_run src s.level assoc tag (with_level (with_at s h) (next_level s.level)) t2 t10 t15 t16 (ten, three) l in
       record {
@@ -208,7 +207,7 @@ module _ (src : List ℕ) (s : State) (assoc : ℕ) (t2 t10 t15 t16 : List ℕ) 
       }
 
   -- none, where a line end was counted behind the tag
-  no_words : (j : ℕ) (tag : Part) → Exact j tag [] (record { answer = Going; state = with_level (with_at s j) (next_level s.level); a = t2; b = t10; c = t15; d = t16 })
+  no_words : (j : ℕ) (tag : Option (ℕ × ℕ)) → Exact j tag [] (record { answer = Going; state = with_level (with_at s j) (next_level s.level); a = t2; b = t10; c = t15; d = t16 })
   unfolding first_met met_again
   no_words j tag =
       record {
@@ -218,18 +217,18 @@ module _ (src : List ℕ) (s : State) (assoc : ℕ) (t2 t10 t15 t16 : List ℕ) 
       }
 
   module _ {j : ℕ} (l : PrecLine s.kind src s.at j) where
-    gap_is : gap_at s.kind false src s.at ≡ GapTo l.start l.ends
+    gap_is : gap_at s.kind false src s.at ≡ Ok (l.start, l.ends)
     gap_is = spaces_gap s.kind false src s.at l.start l.ends l.gap
 
-    lead_at : {i n : ℕ} → gap_at s.kind false src s.at ≡ GapTo i n → Lead s.kind src i l.head l.passed l.tag
-    lead_at {i} e = let g = gap_is in let z : l.start ≡ i = cc in told (λ (i : ℕ). Lead s.kind src i l.head l.passed l.tag) z l.lead
+    lead_at : {i n : ℕ} → gap_at s.kind false src s.at ≡ Ok (i, n) → Lead s.kind src i l.head l.passed l.tag
+    lead_at {i} e = let z : l.start ≡ i = (ok_2 (sym gap_is ∙ e)).0 in told (λ (i : ℕ). Lead s.kind src i l.head l.passed l.tag) z l.lead
 
     decl_run_lem : Exact j l.tag l.words after
     decl_run_lem =
         prec_cases (Exact j l.tag l.words) src s assoc t2 t10 t15 t16
         (λ i n e h tag x.
         let d = (prec_leads s.kind src).one (lead_at e) x in
-        told (λ (g : Part). Exact j g l.words (prec_list src (with_level (with_at s h) (next_level s.level)) s.level assoc tag t2 t10 t15 t16)) (sym d.2)
+        told (λ (g : Option (ℕ × ℕ)). Exact j g l.words (prec_list src (with_level (with_at s h) (next_level s.level)) s.level assoc tag t2 t10 t15 t16)) (sym d.2)
         (some_words h tag
         (told (λ (h : ℕ). Line s.kind (Worded s.kind true src) src 0 h j l.counted l.words) d.0
         (told (λ (m : ℕ). Line s.kind (Worded s.kind true src) src m l.head j l.counted l.words) d.1 l.line))))
@@ -237,7 +236,7 @@ module _ (src : List ℕ) (s : State) (assoc : ℕ) (t2 t10 t15 t16 : List ℕ) 
         let d = (prec_leads s.kind src).one (lead_at e) x in
         let r = line_closed s.kind src (prec_words s.kind src) l.line (rw d.1 c) in
         let o : Out4 = record { answer = Going; state = with_level (with_at s h) (next_level s.level); a = t2; b = t10; c = t15; d = t16 } in
-        told (λ (g : Part). Exact j g l.words o) (sym d.2)
+        told (λ (g : Option (ℕ × ℕ)). Exact j g l.words o) (sym d.2)
         (told (λ (k : ℕ). Exact k tag l.words o) (sym d.0 ∙ r.0)
         (told (λ (ws : List LineWord). Exact h tag ws o) (sym r.2) (no_words h tag))))
         (λ i n e f none. absurd (none l.head l.passed l.tag (lead_at e)))

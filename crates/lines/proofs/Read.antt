@@ -1,4 +1,5 @@
 -- A precedence line that was read is a line of words as it stands in the source, and its rows are those of its words. Assumes nothing.
+use Rattle.std.specs.Prelude.{Option, Result, Ok, Err}
 use Prim.Native.Nat.{ℕ, suc, ◌≤◌, ◌<◌}
 use mathlib.Core.Path.{◌≡◌, refl, sym, ◌∙◌}
 use mathlib.Core.List.{List, [], ◌∷◌}
@@ -11,15 +12,11 @@ use borrow.Author.Tests.{leb-true}
 use Rattle.scan.specs.declared.Place.{Place}
 use Rattle.scan.proofs.Bytes.{told}
 use Rattle.scan.proofs.Loop.{Either, turns_keep}
-use Rattle.spacing.specs.declared.Spaced.TheVariants.{To}
 use Rattle.spacing.specs.Spacing.{spaces_at, Spaces}
 use Rattle.spacing.proofs.Places.{spaces}
-use Rattle.words.specs.declared.Token.{Token}
-use Rattle.words.specs.declared.Token.TheVariants.{Found, NoToken}
 use Rattle.words.specs.Words.{token_at}
 use Rattle.tables.specs.Layout.{precedences, tags, token_numbers, width}
 use Rattle.grammar.specs.declared.State.{State}
-use Rattle.grammar.specs.declared.Part.{Part}
 use Rattle.grammar.specs.declared.Answer.{Answer}
 use Rattle.grammar.specs.declared.Answer.TheVariants.{Going, Done, Refused}
 use Rattle.grammar.specs.declared.Refusal.{Refusal}
@@ -78,11 +75,11 @@ kept_none : {src : List ℕ} {lev assoc : ℕ} {s : State} {t : List ℕ} → le
 kept_none ten = record { onward = omega arith; ten = ten; level = refl; rows = grown_none }
 
 -- where an item of a precedence line leads: behind its word, with or without a line end counted, or to a refusal
-module _ (src : List ℕ) (s : State) (lev assoc : ℕ) (tag : Part) (t2 t10 t15 t16 : List ℕ) (ten : length s.counts.n ≡ 10) where
+module _ (src : List ℕ) (s : State) (lev assoc : ℕ) (tag : Option (ℕ × ℕ)) (t2 t10 t15 t16 : List ℕ) (ten : length s.counts.n ≡ 10) where
   abbrev Item : Place → Out2 → Type 0
   Item p o = Noted src precedences (prec_row lev assoc p) p.from p.to s t2 o
 
-  item_kept : (p : Place) (end : ℕ) (quoted : Bool) → token_at src s.at ≡ Found p end quoted → (o : Out2) → Item p o → (u : State) → s.at ≤ u.at → Still Marks (with_at o.state u.at) u → Kept src lev assoc s t2 u o.a
+  item_kept : (p : Place) (end : ℕ) (quoted : Bool) → token_at src s.at ≡ Ok (p, end, quoted) → (o : Out2) → Item p o → (u : State) → s.at ≤ u.at → Still Marks (with_at o.state u.at) u → Kept src lev assoc s t2 u o.a
   item_kept p end quoted e o x u h z =
       record {
         onward = h;
@@ -100,7 +97,7 @@ module _ (src : List ℕ) (s : State) (lev assoc : ℕ) (tag : Part) (t2 t10 t15
     end : ℕ
     listed : ListWord
     worded : Worded s.kind true src s.at end listed
-    spaced : spaces_at s.kind true src end ≡ To i n
+    spaced : spaces_at s.kind true src end ≡ Ok (i, n)
     noted : Item listed.place o
     went : o.answer ≡ Going
     still : Still Marks (with_at o.state i) u
@@ -110,7 +107,7 @@ module _ (src : List ℕ) (s : State) (lev assoc : ℕ) (tag : Part) (t2 t10 t15
       (f : (i : ℕ) (o : Out2) (u : State) (c d : List ℕ) → Step i 0 o u → C (record { answer = Going; state = u; a = o.a; b = o.b; c = c; d = d }))
       (g : (i n : ℕ) (o : Out2) (u : State) (c d : List ℕ) → Step i n o u → 0 < n → C (record { answer = Done; state = u; a = o.a; b = o.b; c = c; d = d }))
       (h : (f : Refusal) (u : State) (a b c d : List ℕ) → Kept src lev assoc s t2 u a → C (record { answer = Refused f; state = u; a = a; b = b; c = c; d = d })) where
-    module _ (p : Place) (end : ℕ) (quoted : Bool) (e : token_at src s.at ≡ Found p end quoted) (o : Out2) (x : Item p o) where
+    module _ (p : Place) (end : ℕ) (quoted : Bool) (e : token_at src s.at ≡ Ok (p, end, quoted)) (o : Out2) (x : Item p o) where
       stays : Kept src lev assoc s t2 o.state o.a
       stays = item_kept p end quoted e o x o.state (let q = x.stays in omega arith) still_none
 
@@ -156,16 +153,16 @@ module _ (src : List ℕ) (s : State) (lev assoc : ℕ) (tag : Part) (t2 t10 t15
     unfolding prec_item
     item_cases = go (token_at src s.at) refl
       where
-        go : (r : Token) → token_at src s.at ≡ r → C (prec_found r src s lev assoc tag t2 t10 t15 t16)
-        go (Found p end quoted) e =
+        go : (r : Result (Place × ℕ × Bool) ℕ) → token_at src s.at ≡ r → C (prec_found r src s lev assoc tag t2 t10 t15 t16)
+        go (Ok (p, end, quoted)) e =
             let a = word_placed src s.at p end quoted e in
             let z : Passed src p.from p.to = record { onward = omega (arith, a.1); inside = omega (arith, a.2, a.3) } in
             let o = once_step src s precedences (width precedences) 0 RepeatedPrecedence (precedence_cells p.from p.to lev assoc) t2 t10 in
             entered p end quoted e o (once_noted src s ten precedences (omega arith) (precedence_cells p.from p.to lev assoc) p.from p.to (omega arith) t2 z refl refl RepeatedPrecedence t10) o.answer refl
-        go (NoToken k) e = h _ s t2 t10 t15 t16 (kept_none ten)
+        go (Err k) e = h _ s t2 t10 t15 t16 (kept_none ten)
 
 -- Whatever a list answers, it keeps the table so.
-module _ (src : List ℕ) (lev assoc : ℕ) (tag : Part) (s : State) (t2 : List ℕ) where
+module _ (src : List ℕ) (lev assoc : ℕ) (tag : Option (ℕ × ℕ)) (s : State) (t2 : List ℕ) where
   abbrev Under : Out4 → Type 0
   Under o = Kept src lev assoc s t2 o.state o.a
 
@@ -185,7 +182,7 @@ module _ (src : List ℕ) (lev assoc : ℕ) (tag : Part) (s : State) (t2 : List 
   unfolding prec_list
   list_kept t10 t15 t16 ten = turns_keep Under (prec_turn src lev assoc tag) turn_kept (suc (length src)) _ (kept_none ten)
 
-module _ (src : List ℕ) (lev assoc : ℕ) (tag : Part) where
+module _ (src : List ℕ) (lev assoc : ℕ) (tag : Option (ℕ × ℕ)) where
   abbrev At : Out4 → Type 0
   At o = Stands src o.state
 
@@ -264,7 +261,7 @@ module _ (src : List ℕ) (s : State) (assoc : ℕ) (t2 t10 t15 t16 : List ℕ) 
   after = prec_decl src s assoc t2 t10 t15 t16
 
   -- Whatever its answer, the rows that stood before stay, and a new one is the row of a token behind the keyword's spacing, with the line's level and association.
-  pub line_kept : length s.counts.n ≡ 10 → (low : ℕ) → ((i n : ℕ) → spaces_at s.kind false src s.at ≡ To i n → low ≤ i) → Grown (RowFrom src s.level assoc low) (width precedences) (count s precedences) t2 (count after.state precedences) after.a
+  pub line_kept : length s.counts.n ≡ 10 → (low : ℕ) → ((i n : ℕ) → spaces_at s.kind false src s.at ≡ Ok (i, n) → low ≤ i) → Grown (RowFrom src s.level assoc low) (width precedences) (count s precedences) t2 (count after.state precedences) after.a
   line_kept ten low h =
       prec_cases (λ (o : Out4). Grown (RowFrom src s.level assoc low) (width precedences) (count s precedences) t2 (count o.state precedences) o.a) src s assoc t2 t10 t15 t16
       (λ i n e j tag l. let a = h i n (gap_spaces s.kind false src s.at i n e) in let b = (prec_leads s.kind src).onward l in grown_map (λ z r. later (omega arith) r) (list_kept src s.level assoc tag (with_level (with_at s j) (next_level s.level)) t2 t10 t15 t16 ten).rows)

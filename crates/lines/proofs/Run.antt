@@ -1,4 +1,5 @@
 -- A loop over the words of a line, once for both sorts of line: it comes to where the line ends exactly where each word's step finds room. Assumes nothing.
+use Rattle.std.specs.Prelude.{Ok}
 use Prim.Native.Nat.{ℕ, zero, suc, ◌-◌, ◌≤◌, ◌<◌}
 use mathlib.Core.Path.{◌≡◌, sym}
 use mathlib.Core.List.{List, [], ◌∷◌}
@@ -7,7 +8,6 @@ use native.Mathlib.Omega.{arith}
 use lib.ListN.{length}
 use Rattle.scan.specs.Loop.{Turn, more, stop, turns}
 use Rattle.scan.proofs.Bytes.{told}
-use Rattle.spacing.specs.declared.Spaced.TheVariants.{To}
 use Rattle.spacing.specs.Spacing.{spaces_at}
 use Rattle.grammar.specs.declared.State.{State}
 use Rattle.grammar.specs.declared.Answer.{Answer}
@@ -42,7 +42,7 @@ module _ (src : List ℕ) {X : Type 0} (state : X → State) (answer : X → Ans
       pub both : (w : LineWord) (ws : List LineWord) (i : ℕ) (o y : X) → Leads (w ∷ []) i o y → Room (w ∷ []) o → Room ws y → Room (w ∷ ws) o
       pub then : (w : LineWord) (ws : List LineWord) (i j : ℕ) (o y e : X) → Leads (w ∷ []) i o y → Leads ws j y e → Leads (w ∷ ws) j o e
       pub comes : (ws : List LineWord) (h i : ℕ) (o y : X) → Leads ws i o y → From h o → From i y
-      pub turn : (o : X) (h : ℕ) → From h o → (w : ListWord) (end i n : ℕ) → Word h end w → spaces_at kind true src end ≡ To i n → TurnTo n (line_word w end) i o (f o)
+      pub turn : (o : X) (h : ℕ) → From h o → (w : ListWord) (end i n : ℕ) → Word h end w → spaces_at kind true src end ≡ Ok (i, n) → TurnTo n (line_word w end) i o (f o)
       pub ends : (o : X) (h : ℕ) → From h o → B 0 → length src ≤ h → (f o ≡ stop o) × Room [] o × Leads [] h o o
 
     module _ (W : Words src Word) (f : X → Turn X) (B : ℕ → Type 0) (L : Laws f B) where

@@ -1,4 +1,5 @@
 -- A precedence line leaves the count of every table but 2 and 10, what is given once to a name leaves table 1, and a token leaves the others. Assumes nothing.
+use Rattle.std.specs.Prelude.{Option, Result, Ok, Err}
 use Prim.Native.Nat.{ℕ, suc, ◌<◌}
 use mathlib.Core.Path.{◌≡◌, ap, ◌∙◌}
 use mathlib.Core.List.{List}
@@ -7,17 +8,14 @@ use native.Mathlib.Omega.{arith}
 use lib.Dec.{leb}
 use lib.ListN.{length}
 use Rattle.scan.proofs.Loop.{Either, turns_keep}
-use Rattle.words.specs.declared.Token.{Token}
-use Rattle.words.specs.declared.Token.TheVariants.{Found, NoToken}
+use Rattle.scan.specs.declared.Place.{Place}
 use Rattle.words.specs.Words.{token_at}
 use Rattle.tables.specs.Layout.{precedences, repeats, width}
 use Rattle.grammar.specs.declared.Answer.{Answer}
 use Rattle.grammar.specs.declared.Answer.TheVariants.{Going, Done, Refused}
 use Rattle.grammar.specs.declared.Counts.{Counts}
 use Rattle.grammar.specs.declared.State.{State}
-use Rattle.grammar.specs.declared.Part.{Part}
-use Rattle.grammar.specs.declared.Gap.{Gap}
-use Rattle.grammar.specs.declared.Gap.TheVariants.{GapTo, GapRefused}
+use Rattle.grammar.specs.declared.Refusal.{Refusal}
 use Rattle.grammar.specs.declared.Repeat.{Repeat}
 use Rattle.grammar.specs.declared.Repeat.TheVariants.{RepeatedPrecedence}
 use Rattle.grammar.specs.Cells.{precedence_cells}
@@ -28,23 +26,23 @@ use Rattle.marks.proofs.Laws.{tag_counts, lead_counts, behind_counts}
 use Rattle.lines.specs.Precedences.{prec_found, prec_item, line_end, after_end, prec_turn, prec_list, prec_led, prec_body, prec_from, prec_decl}
 
 module _ (k : ℕ) (other : precedences ≡ k → ⊥) (tenth : repeats ≡ k → ⊥) (src : List ℕ) where
-  item : (s : State) (level assoc : ℕ) (tag : Part) (t2 t10 t15 t16 : List ℕ) → Spares k s.counts (prec_item src s level assoc tag t2 t10 t15 t16).state.counts
+  item : (s : State) (level assoc : ℕ) (tag : Option (ℕ × ℕ)) (t2 t10 t15 t16 : List ℕ) → Spares k s.counts (prec_item src s level assoc tag t2 t10 t15 t16).state.counts
   unfolding prec_item
   item s level assoc tag t2 t10 t15 t16 = go (token_at src s.at)
     where
-      go : (x : Token) → Spares k s.counts (prec_found x src s level assoc tag t2 t10 t15 t16).state.counts
-      go (Found p end q) =
+      go : (x : Result (Place × ℕ × Bool) ℕ) → Spares k s.counts (prec_found x src s level assoc tag t2 t10 t15 t16).state.counts
+      go (Ok (p, end, q)) =
           let row = precedence_cells p.from p.to level assoc in
           let o = once_step src s precedences (width precedences) 0 RepeatedPrecedence row t2 t10 in
           let g = tag_row o.answer o.state tag p.from p.to t15 in
           rw (behind_counts src true p.from p.to end g.answer g.state t16 ∙ tag_counts o.answer o.state tag p.from p.to t15)
           (spares_once k src s precedences (width precedences) 0 RepeatedPrecedence row t2 t10 other tenth)
-      go (NoToken i) = spares_none k s.counts
+      go (Err i) = spares_none k s.counts
 
   abbrev Since : Counts → Out4 → Type 0
   Since c o = Spares k c o.state.counts
 
-  turn : (c : Counts) (level assoc : ℕ) (tag : Part) (o : Out4) → Since c o → Either (Since c) (Since c) (prec_turn src level assoc tag o)
+  turn : (c : Counts) (level assoc : ℕ) (tag : Option (ℕ × ℕ)) (o : Out4) → Since c o → Either (Since c) (Since c) (prec_turn src level assoc tag o)
   unfolding prec_turn
   turn c level assoc tag o x = go (leb (length src) o.state.at)
     where
@@ -70,9 +68,9 @@ module _ (k : ℕ) (other : precedences ≡ k → ⊥) (tenth : repeats ≡ k �
   unfolding prec_decl
   prec_spares s assoc t2 t10 t15 t16 = go (gap_at s.kind false src s.at)
     where
-      go : (g : Gap) → Spares k s.counts (prec_from g src s assoc t2 t10 t15 t16).state.counts
-      go (GapTo i n) = body (with_level (with_at s i) (next_level s.level)) s.level assoc t2 t10 t15 t16
-      go (GapRefused f) = spares_none k s.counts
+      go : (g : Result (ℕ × ℕ) Refusal) → Spares k s.counts (prec_from g src s assoc t2 t10 t15 t16).state.counts
+      go (Ok (i, n)) = body (with_level (with_at s i) (next_level s.level)) s.level assoc t2 t10 t15 t16
+      go (Err f) = spares_none k s.counts
 
 -- a name is given once to another table than 1, with spacing behind it: the index of table 1 stays
 pub once_tracked : (src : List ℕ) (s : State) (k w name : ℕ) (what : Repeat) (row t t10 : List ℕ) (a : Answer) (next : State) (u u10 : List ℕ) (line : Bool) (j : ℕ) (b : Answer) (q : State) (t1 ix : List ℕ) → 0 < k → record { answer = a; state = next; a = u; b = u10 } ≡ once_step src s k w name what row t t10 → ◌≡◌ {A = Out0} (record { answer = b; state = q }) (pass_on src line j a next) → Tokens src s.counts t1 ix → Tokens src q.counts t1 ix

@@ -1,9 +1,8 @@
 -- Document 01, "Declarations": "avoid and implicit lists run until a line end was counted after the spacing behind their keyword; the last two also go on at the
 -- source end and so give 3 there, except where the keyword itself is the end. [..] avoid and implicit lists add theirs, undeclared."
-use Rattle.std.specs.Prelude.{ℕ, suc, List, true, false, leb, length}
+use Rattle.std.specs.Prelude.{ℕ, suc, List, true, false, leb, length, Result, Ok, Err, Bool}
 use Rattle.scan.specs.Loop.{Turn, more, stop, turns}
-use Rattle.words.specs.declared.Token.{Token}
-use Rattle.words.specs.declared.Token.TheVariants.{Found, NoToken}
+use Rattle.scan.specs.declared.Place.{Place}
 use Rattle.words.specs.Words.{token_at}
 use Rattle.tables.specs.Layout.{avoided, width}
 use Rattle.grammar.specs.declared.State.{State}
@@ -12,8 +11,7 @@ use Rattle.grammar.specs.declared.Refusal.TheVariants.{Fault}
 use Rattle.grammar.specs.declared.Answer.{Answer}
 use Rattle.grammar.specs.declared.Answer.TheVariants.{Going, Done, Refused}
 use Rattle.grammar.specs.declared.Repeat.{Repeat}
-use Rattle.grammar.specs.declared.Gap.{Gap}
-use Rattle.grammar.specs.declared.Gap.TheVariants.{GapTo, GapRefused}
+use Rattle.grammar.specs.declared.Refusal.{Refusal}
 use Rattle.grammar.specs.Cells.{name_cells}
 use Rattle.grammar.specs.State.{Out1, Out2, Out3, with_at, gap_at, once_step, enter_step, pass_on, tied3, refused}
 
@@ -32,9 +30,9 @@ unfoldable pub avoid_named : List ℕ → State → ℕ → Repeat → ℕ → �
 avoid_named src s k what from to end t1 t t10 =
     avoid_entered (enter_step src s from to false t1).answer (enter_step src s from to false t1) src k what from to end t t10
 
-abbrev pub avoid_found : Token → List ℕ → State → ℕ → Repeat → List ℕ → List ℕ → List ℕ → Out3
-avoid_found (Found p end q) src s k what t1 t t10 = avoid_named src s k what p.from p.to end t1 t t10
-avoid_found (NoToken i) src s k what t1 t t10 = tied3 (refused (Fault IllegalString i) s) t1 t t10
+abbrev pub avoid_found : Result (Place × ℕ × Bool) ℕ → List ℕ → State → ℕ → Repeat → List ℕ → List ℕ → List ℕ → Out3
+avoid_found (Ok (p, end, q)) src s k what t1 t t10 = avoid_named src s k what p.from p.to end t1 t t10
+avoid_found (Err i) src s k what t1 t t10 = tied3 (refused (Fault IllegalString i) s) t1 t t10
 
 unfoldable pub avoid_item : List ℕ → State → ℕ → Repeat → List ℕ → List ℕ → List ℕ → Out3
 avoid_item src s k what t1 t t10 = avoid_found (token_at src s.at) src s k what t1 t t10
@@ -54,9 +52,9 @@ avoid_turn src k what o = avoid_next (avoid_item src o.state k what o.a o.b o.c)
 unfoldable pub avoid_list : List ℕ → State → ℕ → Repeat → List ℕ → List ℕ → List ℕ → Out3
 avoid_list src s k what t1 t t10 = turns (suc (length src)) (avoid_turn src k what) (record { answer = Going; state = s; a = t1; b = t; c = t10 })
 
-abbrev pub avoid_from : Gap → List ℕ → State → ℕ → Repeat → List ℕ → List ℕ → List ℕ → Out3
-avoid_from (GapTo i n) src s k what t1 t t10 = avoid_list src (with_at s i) k what t1 t t10
-avoid_from (GapRefused f) src s k what t1 t t10 = tied3 (refused f s) t1 t t10
+abbrev pub avoid_from : Result (ℕ × ℕ) Refusal → List ℕ → State → ℕ → Repeat → List ℕ → List ℕ → List ℕ → Out3
+avoid_from (Ok (i, n)) src s k what t1 t t10 = avoid_list src (with_at s i) k what t1 t t10
+avoid_from (Err f) src s k what t1 t t10 = tied3 (refused f s) t1 t t10
 
 -- from behind the keyword on; "except where the keyword itself is the end"
 unfoldable pub avoid_decl : List ℕ → State → ℕ → Repeat → List ℕ → List ℕ → List ℕ → Out3

@@ -1,9 +1,7 @@
 -- What a line of words leaves of the tables, in words that are no step of a reading.
-use Rattle.std.specs.Prelude.{ℕ, ◌+◌, ◌≤◌, ◌<◌, ◌≡◌, List, Bool, true, get_or}
+use Rattle.std.specs.Prelude.{ℕ, ◌+◌, ◌≤◌, ◌<◌, ◌≡◌, List, Bool, true, get_or, Ok}
 use Rattle.scan.specs.declared.Place.{Place}
-use Rattle.spacing.specs.declared.Spaced.TheVariants.{To}
 use Rattle.spacing.specs.Spacing.{spaces_at}
-use Rattle.words.specs.declared.Token.TheVariants.{Found}
 use Rattle.words.specs.Words.{token_at}
 use Rattle.tables.specs.Table.{same_part}
 use Rattle.tables.specs.Rows.{row_at}
@@ -56,7 +54,7 @@ pub record RowFrom (src : List ℕ) (lev assoc i : ℕ) (x : List ℕ) : Type 0 
   pub place : Place
   pub end : ℕ
   pub quoted : Bool
-  pub stands : token_at src index ≡ Found place end quoted
+  pub stands : token_at src index ≡ Ok (place, end, quoted)
   pub is : x ≡ prec_row lev assoc place
 
 -- the level of row r of table 2
@@ -69,11 +67,11 @@ pub record TwoLists (src : List ℕ) (at₁ a at₂ b : ℕ) (s₀ s₁ s₂ : S
   -- the first is a line as it stands in the source,
   pub line : PrecLine s₀.kind src at₁ s₁.at
   -- and where a line end is counted behind a word of it, it is at its end;
-  pub stops : (w : LineWord) → In w line.words → (k n : ℕ) → spaces_at s₀.kind true src w.end ≡ To k n → 0 < n → k ≡ s₁.at
+  pub stops : (w : LineWord) → In w line.words → (k n : ℕ) → spaces_at s₀.kind true src w.end ≡ Ok (k, n) → 0 < n → k ≡ s₁.at
   -- its rows are rows of its words, with its level and association,
   pub first : (r : ℕ) → count s₀ precedences ≤ r → r < count s₁ precedences → RowOf (prec_row s₀.level a) line.words (row_at (width precedences) t r)
   -- and not of a token that stands behind it;
-  pub behind : (r : ℕ) → count s₀ precedences ≤ r → r < count s₁ precedences → (i : ℕ) → s₁.at ≤ i → (p : Place) (end : ℕ) (quoted : Bool) → token_at src i ≡ Found p end quoted → get_or (row_at (width precedences) t r) 0 0 < p.from
+  pub behind : (r : ℕ) → count s₀ precedences ≤ r → r < count s₁ precedences → (i : ℕ) → s₁.at ≤ i → (p : Place) (end : ℕ) (quoted : Bool) → token_at src i ≡ Ok (p, end, quoted) → get_or (row_at (width precedences) t r) 0 0 < p.from
   -- the rows of the second are rows of tokens behind its keyword, with the next level and its association,
   pub second : (r : ℕ) → count s₁ precedences ≤ r → r < count s₂ precedences → RowFrom src (s₀.level + 1) b at₂ (row_at (width precedences) t r)
   -- so no row of the one has the level of a row of the other.

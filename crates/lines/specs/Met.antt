@@ -1,13 +1,11 @@
 -- Document 01, "Declarations": what is given once to a name, by a line of words: which words are met first, and which are repeats.
-use Rattle.std.specs.Prelude.{ℕ, ◌≡◌, Bool, true, false, ◌⊎◌, length, get_or}
+use Rattle.std.specs.Prelude.{ℕ, ◌≡◌, Bool, true, false, ◌⊎◌, length, get_or, Option, Some, None}
 use mathlib.Core.List.{List, [], ◌∷◌, ◌++◌, map, Memᴰ}
-use Rattle.std.proofs.Math.Option.{Option, none, some}
 use Rattle.scan.specs.declared.Place.{Place}
 use Rattle.tables.specs.Table.{same_part}
 use Rattle.tables.specs.Rows.{rows_of}
 use Rattle.tables.specs.Layout.{tokens, precedences, avoided, repeats, tags, token_numbers, width}
 use Rattle.grammar.specs.declared.State.{State}
-use Rattle.grammar.specs.declared.Part.{Part}
 use Rattle.grammar.specs.declared.Repeat.{Repeat}
 use Rattle.grammar.specs.declared.Repeat.TheVariants.{RepeatedPrecedence}
 use Rattle.grammar.specs.declared.Answer.TheVariants.{Going}
@@ -25,8 +23,8 @@ alike src q p = same_part src q.from q.to p.from p.to
 
 -- the first of these places that has the bytes of p
 unfoldable pub namesake : List ℕ → List Place → Place → Option Place
-namesake src [] p = none
-namesake src (q ∷ qs) p = elim (alike src q p) [ true ↦ some q | false ↦ namesake src qs p ]
+namesake src [] p = None
+namesake src (q ∷ qs) p = elim (alike src q p) [ true ↦ Some q | false ↦ namesake src qs p ]
 
 -- What it is, without a recursion: q is one of the places and has the bytes of p, and no place before it has them.
 pub record Namesake (src : List ℕ) (xs : List Place) (p q : Place) : Type 0 where
@@ -38,8 +36,8 @@ pub record Namesake (src : List ℕ) (xs : List Place) (p q : Place) : Type 0 wh
 
 -- of the places ps, in order, those whose name neither a known place nor an earlier one has
 abbrev pub unless_known : Option Place → Place → List Place → List Place
-unless_known none p rest = p ∷ rest
-unless_known (some q) p rest = rest
+unless_known None p rest = p ∷ rest
+unless_known (Some q) p rest = rest
 
 unfoldable pub first_met : List ℕ → List Place → List Place → List Place
 first_met src known [] = []
@@ -51,8 +49,8 @@ pub record RepeatPlaces : Type 0 where
   pub repeated : Place
 
 abbrev pub where_known : Option Place → Place → List RepeatPlaces → List RepeatPlaces
-where_known none p rest = rest
-where_known (some q) p rest = record { first = q; repeated = p } ∷ rest
+where_known None p rest = rest
+where_known (Some q) p rest = record { first = q; repeated = p } ∷ rest
 
 unfoldable pub met_again : List ℕ → List Place → List Place → List RepeatPlaces
 met_again src known [] = []
@@ -121,14 +119,14 @@ abbrev pub PrecTables : ℕ → Type 0
 PrecTables j = OnceTables precedences j ⊎ ((j ≡ tags) ⊎ (j ≡ token_numbers))
 
 -- The words of a precedence line with this tag or none find room: in tables 2 and 10 as above, in 15 and 16 for their rows.
-pub record PrecFree (src : List ℕ) (s : State) (t2 t10 t15 t16 : List ℕ) (tag : Part) (ws : List LineWord) : Type 0 where
+pub record PrecFree (src : List ℕ) (s : State) (t2 t10 t15 t16 : List ℕ) (tag : Option (ℕ × ℕ)) (ws : List LineWord) : Type 0 where
   pub once : OnceFree src precedences (width precedences) (word_places ws) s t2 t10
   pub tagged : FreeRows (width tags) (count s tags) t15 (length (tag_rows tag (word_places ws)))
   pub numbered : FreeRows (width token_numbers) (count s token_numbers) t16 (length (number_rows (listed ws)))
 
 -- A precedence line of these words, up to j, was read: a row for each word that is the first of its name, with the line's level and association, and a repeat for
 -- each other one; for each word, repeated ones too, a row for the line's tag and one for its number, if there are such; the next line has the next level, and all else is as it was.
-pub record PrecRead (src : List ℕ) (s : State) (assoc : ℕ) (t2 t10 t15 t16 : List ℕ) (j : ℕ) (tag : Part) (ws : List LineWord) (o : Out4) : Type 0 where
+pub record PrecRead (src : List ℕ) (s : State) (assoc : ℕ) (t2 t10 t15 t16 : List ℕ) (j : ℕ) (tag : Option (ℕ × ℕ)) (ws : List LineWord) (o : Out4) : Type 0 where
   pub going : o.answer ≡ Going
   pub rows : OnceGiven src precedences (width precedences) (prec_row s.level assoc) RepeatedPrecedence (word_places ws) s t2 t10 o.state o.a o.b
   pub tagged : Appended (width tags) (count s tags) t15 (tag_rows tag (word_places ws)) (count o.state tags) o.c

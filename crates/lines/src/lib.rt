@@ -7,8 +7,7 @@ ghost use Rattle.grammar.specs.State.{Out3, Out4, Here, Passed, Moves, Onward, T
 ghost use Rattle.lines.specs.Precedences.{prec_item, prec_list, prec_body, prec_decl};
 ghost use Rattle.lines.specs.Avoided.{avoid_named, avoid_item, avoid_list, avoid_decl};
 
-use grammar::{Answer, Cause, Gap, Part, Refusal, Repeat, State, Step};
-use words::Token;
+use grammar::{Answer, Cause, Refusal, Repeat, State, Step};
 
 // One token of a precedence line, the row of its tag, and what stands behind it: done where that counted a line end.
 pub fn prec_item(
@@ -16,7 +15,7 @@ pub fn prec_item(
     s: State,
     level: u32,
     assoc: u32,
-    tag: Part,
+    tag: Option<(u32, u32)>,
     t2: &mut [u32],
     t10: &mut [u32],
     t15: &mut [u32],
@@ -30,7 +29,7 @@ pub fn prec_item(
 {
     let at = s.at;
     match words::parse_token(src, at) {
-        Token::Found(p, end, _) => {
+        Ok((p, end, _)) => {
             let from = p.from as u32;
             let to = p.to as u32;
             let row = [from, to, level, assoc];
@@ -49,7 +48,7 @@ pub fn prec_item(
             let q = marks::tag_row(r, tag, from, to, t15);
             marks::behind_word(src, q, from, to, end, true, t16)
         }
-        Token::NoToken(k) => Step {
+        Err(k) => Step {
             answer: Answer::Refused(Refusal::Fault(Cause::IllegalString, k as u32)),
             state: s,
         },
@@ -62,7 +61,7 @@ pub fn prec_list(
     s: State,
     level: u32,
     assoc: u32,
-    tag: Part,
+    tag: Option<(u32, u32)>,
     t2: &mut [u32],
     t10: &mut [u32],
     t15: &mut [u32],
@@ -155,14 +154,14 @@ pub fn prec_decl(
 {
     let behind = s.at;
     match grammar::pass_gap(src, s.kind, behind, false) {
-        Gap::GapTo(i, _) => {
+        Ok((i, _)) => {
             let level = s.level;
             let mut next = s;
             next.at = i;
             next.level = grammar::next_level(level);
             prec_body(src, next, level, assoc, t2, t10, t15, t16, fx)
         }
-        Gap::GapRefused(f) => Step {
+        Err(f) => Step {
             answer: Answer::Refused(f),
             state: s,
         },
@@ -239,7 +238,7 @@ pub fn avoid_item(
 {
     let at = s.at;
     match words::parse_token(src, at) {
-        Token::Found(p, end, _) => {
+        Ok((p, end, _)) => {
             avoid_named(
                 src,
                 s,
@@ -255,7 +254,7 @@ pub fn avoid_item(
                 fx,
             )
         }
-        Token::NoToken(i) => Step {
+        Err(i) => Step {
             answer: Answer::Refused(Refusal::Fault(Cause::IllegalString, i as u32)),
             state: s,
         },
@@ -326,12 +325,12 @@ pub fn avoid_decl(
         };
     }
     match grammar::pass_gap(src, s.kind, at, false) {
-        Gap::GapTo(i, _) => {
+        Ok((i, _)) => {
             let mut next = s;
             next.at = i;
             avoid_list(src, next, k, what, t1, t, t10, i1, fx)
         }
-        Gap::GapRefused(f) => Step {
+        Err(f) => Step {
             answer: Answer::Refused(f),
             state: s,
         },

@@ -1,16 +1,17 @@
 -- What the functions' proofs cite: the next production of a rule, here or further on, and cells stored one at a time. Assumes nothing.
+use Rattle.std.specs.Prelude.{Option, Some, None}
+use Rattle.std.specs.Option.{option_map, unwrap_or}
 use Prim.Native.Nat.{ℕ, ◌+◌, ◌-◌, ◌≤◌, ◌<◌}
 use mathlib.Core.Path.{◌≡◌, refl, sym, ap, ◌∙◌}
-use mathlib.Core.List.{List, ◌++◌, append-nil}
+use mathlib.Core.List.{List}
 use mathlib.Core.Bool.{true, false}
 use native.Mathlib.Omega.{arith}
 use borrow.Author.Tests.{eq-eqb, ne_eqb, eqb-true}
 use native.Mathlib.Decide.{ℕ_discrete}
-use lib.ListN.{length, get_or, set, drop, replicate, length-set, length-replicate, get_or-replicate, drop_of_length-le}
+use lib.ListN.{length, get_or, set, replicate, length-set, length-replicate, get_or-replicate}
 use lib.Seq.{get_or-set_same, get_or-set_other}
 use Rattle.tables.specs.Table.{cell, first_row}
 use Rattle.tables.specs.Layout.{productions, rule_row, width}
-use Rattle.tables.specs.declared.Found.{Found}
 use Rattle.tables.proofs.Laws.{first_hit, first_on, first_end}
 use Rattle.tables.proofs.Cases.{first_cases}
 use Rattle.links.specs.Links.{is_of_rule, row_or, next_of_rule, Heads, Nexts, Linked}
@@ -29,9 +30,14 @@ pub rule_of_lem : (t8 : List ℕ) (k r : ℕ) → is_of_rule t8 k r ≡ true →
 unfolding is_of_rule
 rule_of_lem t8 k r h = eqb-true _ k h
 
+-- the row that a search found, or n
+pub found_or : (n : ℕ) (f g : Option ℕ) → option_map (λ x. x) f ≡ g → unwrap_or f n ≡ row_or n g
+found_or n None g e = ap (row_or n) e
+found_or n (Some r) g e = ap (row_or n) e
+
 -- the next production of a rule
 module _ (t8 : List ℕ) (from n k : ℕ) where
-  pub next_is : (f : Found) → f ≡ first_row (is_of_rule t8 k) (n - from) from → row_or n f ≡ next_of_rule t8 from n k
+  pub next_is : (f : Option ℕ) → f ≡ first_row (is_of_rule t8 k) (n - from) from → row_or n f ≡ next_of_rule t8 from n k
   unfolding next_of_rule
   next_is f e = ap (row_or n) e
 
@@ -53,7 +59,7 @@ module _ (t8 : List ℕ) (from n k : ℕ) where
   unfolding next_of_rule
   next_cases h =
       first_cases (is_of_rule t8 k)
-      (λ (f : Found). (from ≤ row_or n f) × (row_or n f ≤ n) × ((r : ℕ) → from ≤ r → r < row_or n f → is_of_rule t8 k r ≡ false) × (row_or n f < n → is_of_rule t8 k (row_or n f) ≡ true))
+      (λ (f : Option ℕ). (from ≤ row_or n f) × (row_or n f ≤ n) × ((r : ℕ) → from ≤ r → r < row_or n f → is_of_rule t8 k r ≡ false) × (row_or n f < n → is_of_rule t8 k (row_or n f) ≡ true))
       from (n - from) from (omega arith) (λ q l x. absurd (omega arith))
       (λ r l x e none. (l, omega arith, none, λ y. e))
       (λ none. (h, omega arith, λ r l x. none r l (omega arith), λ y. absurd (omega arith)))
@@ -69,12 +75,6 @@ pub next_most : (t8 : List ℕ) (k r n q : ℕ) → q ≡ next_of_rule t8 (r + 1
 next_most t8 k r n q e h =
     let x = next_cases t8 (r + 1) n k (omega arith) in
     omega (arith, e, x.1)
-
--- all cells stored as one value
-pub all_filled : (v i : ℕ) (t : List ℕ) → i ≤ length t → length t ≤ i → replicate i v ++ drop i t ≡ replicate (length t) v
-all_filled v i t h k =
-    let e : i ≡ length t = omega arith in
-    rw (drop_of_length-le t k, append-nil, e)
 
 -- behind the last production every rule is at its end, and nothing is linked
 pub linked_none : (t8 : List ℕ) (n m : ℕ) (heads nexts : List ℕ) → heads ≡ replicate m n → Linked t8 n n heads nexts

@@ -1,9 +1,7 @@
 -- The productions of a rule, one behind the other: "rules in order, their productions in order" (document 01, "Validation, then use"). Where a rule's first production stands and where the next one of
 -- the same rule does, for each production, so that nobody has to go through all of table 8 for each rule.
-use Rattle.std.specs.Prelude.{ℕ, ◌+◌, ◌-◌, ◌<◌, ◌≤◌, ◌≡◌, Bool, List, eqb, length, get_or}
+use Rattle.std.specs.Prelude.{ℕ, ◌+◌, ◌-◌, ◌<◌, ◌≤◌, ◌≡◌, Bool, List, eqb, length, get_or, Option, Some, None}
 use Rattle.tables.specs.Table.{cell, first_row}
-use Rattle.tables.specs.declared.Found.{Found}
-use Rattle.tables.specs.declared.Found.TheVariants.{RowAt, NoRow}
 use Rattle.tables.specs.Layout.{productions, rule_row, width}
 
 -- whether production r is one of rule k
@@ -11,9 +9,9 @@ unfoldable pub is_of_rule : List ℕ → ℕ → ℕ → Bool
 is_of_rule t8 k r = eqb (cell (width productions) t8 r rule_row) k
 
 -- the row that was found, or n
-abbrev pub row_or : ℕ → Found → ℕ
-row_or n (RowAt r) = r
-row_or n NoRow = n
+abbrev pub row_or : ℕ → Option ℕ → ℕ
+row_or n (Some r) = r
+row_or n None = n
 
 -- the first production of rule k from a row on, or n, behind the last
 unfoldable pub next_of_rule : List ℕ → ℕ → ℕ → ℕ → ℕ

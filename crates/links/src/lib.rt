@@ -9,14 +9,9 @@ ghost use Rattle.links.specs.Links.{is_of_rule, next_of_rule, Heads, Nexts, Link
 pub fn next_of_rule(t8: &[u32], from: u32, n: u32, k: u32) -> u32
     ensures { result ≡ next_of_rule t8.now from n k }
 {
-    let mut r = from;
-    while r < n {
-        if tables::cell(t8, tables::PRODUCTION_WIDTH, r, tables::RULE_ROW) == k {
-            return r;
-        }
-        r += 1;
-    }
-    n
+    (from..n)
+        .find(|r| tables::cell(t8, tables::PRODUCTION_WIDTH, *r, tables::RULE_ROW) == k)
+        .unwrap_or(n)
 }
 
 // A cell as a row's number.
@@ -30,11 +25,7 @@ fn wide(v: u16) -> u32
 fn fill(t: &mut [u16], v: u16)
     ensures { t.new ≡ replicate (length t.old) v }
 {
-    let mut i = 0;
-    while i < t.len() {
-        t[i] = v;
-        i += 1;
-    }
+    t.fill(v);
 }
 
 // The first production of rule `k` from row `from` on, by `heads` where it has a cell for the rule.
@@ -88,9 +79,7 @@ pub fn link(t8: &[u32], n: u32, heads: &mut [u16], nexts: &mut [u16])
     ensures { Linked t8.now 0 n heads.new nexts.new }
 {
     fill(heads, n as u16);
-    let mut r = n;
-    while 0 < r {
-        r -= 1;
+    for r in (0..n).rev() {
         link_one(t8, n, r, heads, nexts);
     }
 }

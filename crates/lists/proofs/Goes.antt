@@ -1,24 +1,22 @@
 -- Where words stand and their rows fit, a list goes on behind them. Assumes nothing.
+use Rattle.std.specs.Prelude.{Option, None, Result, Ok, Bool}
 use Prim.Native.Nat.{ℕ, suc, ◌+◌, ◌-◌, ◌<◌, ◌*◌}
 use mathlib.Core.Path.{◌≡◌, refl, sym, ◌∙◌, ap, subst}
 use mathlib.Core.List.{List, [], ◌∷◌}
 use mathlib.Core.Bool.{true, false, false≢true}
 use native.Mathlib.Omega.{arith}
 use lib.ListN.{length, get_or, length-set, length-append}
+use Rattle.scan.proofs.Tuples.{ok_2}
+use Rattle.grammar.specs.declared.Refusal.{Refusal}
 use Rattle.scan.specs.Loop.{turns}
 use Rattle.scan.specs.declared.Place.{Place}
-use Rattle.words.specs.declared.Name.{Name}
-use Rattle.words.specs.declared.Token.{Token}
 use Rattle.tables.specs.Layout.{tokens, unused, tags, token_numbers, width}
 use Rattle.tables.specs.Table.{room, Inserted}
 use Rattle.tables.proofs.Cases.{enter_cases}
 use Rattle.grammar.specs.declared.Counts.{Counts}
 use Rattle.grammar.specs.declared.PosixCounts.{PosixCounts}
 use Rattle.grammar.specs.declared.State.{State}
-use Rattle.grammar.specs.declared.Part.{Part}
-use Rattle.grammar.specs.declared.Part.TheVariants.{Absent}
 use Rattle.grammar.specs.declared.Answer.TheVariants.{Going}
-use Rattle.grammar.specs.declared.Gap.TheVariants.{GapTo}
 use Rattle.grammar.specs.Cells.{kind_cells, token_cells}
 use Rattle.grammar.specs.State.{Out0, Out1, Out3, count, gap_at, enter_step, behind1, with_count, entered, with_at}
 use Rattle.grammar.proofs.Counting.{same_low}
@@ -30,8 +28,6 @@ use Rattle.marks.specs.Worded.{ListWord, Worded, word_places, tag_rows, number_o
 use Rattle.marks.proofs.Appended.{appended_add, free_as, free_split, free_behind, free_here, push_room}
 use Rattle.marks.proofs.Laws.{tag_kind, tag_counts, behind_counts}
 use Rattle.marks.proofs.Worded.{worded_token, word_behind, tag_added, tag_room, tag_others, tag_rows_on, number_rows_on}
-use Rattle.lists.specs.declared.Spelling.{Spelling}
-use Rattle.lists.specs.declared.Spelling.TheVariants.{Spelled}
 use Rattle.lists.specs.declared.WordList.{WordList}
 use Rattle.lists.specs.declared.WordList.TheVariants.{TokenList, UnusedList, TypeList}
 use Rattle.lists.specs.Lists.{token_found, token_item, spelled_token, spelled_name, spelled_at, unused_row, unused_spelled, unused_item, type_row, type_spelled, type_item, list_item, ends, list_turn, percent_list, list_decl}
@@ -41,15 +37,16 @@ use Rattle.lists.proofs.Meaning.{token_one, unused_one, type_one}
 
 -- an item that goes on where a word stands has read that word
 read : {kind : ℕ} {A : Type 0} {Word : ℕ → ℕ → A → Type 0} {P : A → Type 0} {src : List ℕ} {i : ℕ} {u : State} → ((i e f : ℕ) (x y : A) → Word i e x → Word i f y → (e ≡ f) × (x ≡ y))
-    → Went kind Word P src i u → {end to n : ℕ} {x : A} → Word i end x → gap_at kind true src end ≡ GapTo to n → (u.at ≡ to) × (u.kind ≡ kind) × P x
+    → Went kind Word P src i u → {end to n : ℕ} {x : A} → Word i end x → gap_at kind true src end ≡ Ok (to, n) → (u.at ≡ to) × (u.kind ≡ kind) × P x
 read {P = P} one w {to = to} {n = n} v g =
     let y = one _ _ _ _ _ w.word v in
-    let o : GapTo w.to w.lines ≡ GapTo to n = sym w.gap ∙ rw y.0 g in
+    let o : ◌≡◌ {A = Result (ℕ × ℕ) Refusal} (Ok (w.to, w.lines)) (Ok (to, n)) = sym w.gap ∙ rw y.0 g in
+    let o_parts = ok_2 o in
     let z : w.to ≡ to = cc in
     (w.at ∙ z, w.same, subst P y.1 w.came)
 
 -- Words go on, one by one, where each does that finds room: `Room o xs` is that there is room for the rows of the words xs.
-module _ (src : List ℕ) (what : WordList) (tag : Part) (kind : ℕ) {A : Type 0} (Word : ℕ → ℕ → A → Type 0) (Room : Out3 → List A → Type 0) where
+module _ (src : List ℕ) (what : WordList) (tag : Option (ℕ × ℕ)) (kind : ℕ) {A : Type 0} (Word : ℕ → ℕ → A → Type 0) (Room : Out3 → List A → Type 0) where
   -- an item goes on to `to`, with room for the words behind it
   record On (o : Out3) (to : ℕ) (xs : List A) : Type 0 where
     going : o.answer ≡ Going
@@ -58,7 +55,7 @@ module _ (src : List ℕ) (what : WordList) (tag : Part) (kind : ℕ) {A : Type 
     room : Room o xs
 
   abbrev Onwards : Type 0
-  Onwards = (o : Out3) → o.state.kind ≡ kind → (end to n : ℕ) (x : A) (xs : List A) → Word o.state.at end x → gap_at kind true src end ≡ GapTo to n → Room o (x ∷ xs) → On (list_item src o.state what tag o.a o.b o.c) to xs
+  Onwards = (o : Out3) → o.state.kind ≡ kind → (end to n : ℕ) (x : A) (xs : List A) → Word o.state.at end x → gap_at kind true src end ≡ Ok (to, n) → Room o (x ∷ xs) → On (list_item src o.state what tag o.a o.b o.c) to xs
 
   abbrev Goes : Out3 → Out3 → Type 0
   Goes o z = o.state.kind ≡ kind → (j : ℕ) (xs : List A) → Written kind Word src o.state.at j xs → Room o xs → o.answer ≡ Going → (z.answer ≡ Going) × (z.state.at ≡ j)
@@ -98,7 +95,7 @@ module _ (src : List ℕ) (s : State) (p : Place) (t : List ℕ) (ten : length s
       same n = same_low s tokens n (omega arith) (rw ten (omega arith))
 
 -- a list of tokens: room in tables 1, 15 and 16
-module _ (src : List ℕ) (tag : Part) (kind : ℕ) where
+module _ (src : List ℕ) (tag : Option (ℕ × ℕ)) (kind : ℕ) where
   record TokenRoom (o : Out3) (ws : List ListWord) : Type 0 where
     ten : length o.state.counts.n ≡ 10
     three : length o.state.posix.n ≡ 3
@@ -113,7 +110,7 @@ module _ (src : List ℕ) (tag : Part) (kind : ℕ) where
   numbers_split w ws = ap (λ (l : List (List ℕ)). length l) (number_rows_on w ws) ∙ length-append (number_of w.place w.number) (number_rows ws)
 
   -- an item goes on
-  module _ (s : State) (t t15 t16 : List ℕ) (end to n : ℕ) (w : ListWord) (m : ℕ) (ten : length s.counts.n ≡ 10) (v : Worded s.kind false src s.at end w) (g : gap_at s.kind true src end ≡ GapTo to n) (free : FreeRows (width tokens) (count s tokens) t (suc m))
+  module _ (s : State) (t t15 t16 : List ℕ) (end to n : ℕ) (w : ListWord) (m : ℕ) (ten : length s.counts.n ≡ 10) (v : Worded s.kind false src s.at end w) (g : gap_at s.kind true src end ≡ Ok (to, n)) (free : FreeRows (width tokens) (count s tokens) t (suc m))
       (free15 : FreeRows (width tags) (count s tags) t15 (length (tag_rows tag (w.place ∷ [])))) (free16 : FreeRows (width token_numbers) (count s token_numbers) t16 (length (number_of w.place w.number))) where
     record Through (o : Out3) : Type 0 where
       going : o.answer ≡ Going
@@ -133,7 +130,7 @@ module _ (src : List ℕ) (tag : Part) (kind : ℕ) where
         ap (λ (u : State). count u token_numbers) (tag_added p o.state t15 o.answer tag on).state ∙ tag_others o.state tag token_numbers (λ e. omega arith) ∙ ap (λ (c : PosixCounts). get_or c.n 1 0) posix in
         let same : r.state.kind ≡ s.kind = tag_kind o.answer o.state tag p.from p.to t15 ∙ enter_kind s src p.from p.to true t in
         let counts = behind_counts src false p.from p.to e r.answer r.state t16 ∙ tag_counts o.answer o.state tag p.from p.to t15 in
-        subst (λ (x : Token). Through (token_found x src s tag t t15 t16)) (sym f)
+        subst (λ (x : Result (Place × ℕ × Bool) ℕ). Through (token_found x src s tag t t15 t16)) (sym f)
         (record {
           going = word_behind src false s.at p e q f r.answer r.state t16 on (subst (λ (k : ℕ). Worded k false src s.at end w) (sym same) v) (ap (λ (k : ℕ). gap_at k true src end) same ∙ g) (free_as refl numbers free16);
           left = free_as refl (ap (λ (c : Counts). get_or c.n 0 0) counts) x.left;
@@ -163,22 +160,22 @@ module _ (src : List ℕ) (tag : Part) (kind : ℕ) where
       }
 
 -- how a word of the other lists is spelled
-word_spelled : (src : List ℕ) (i end : ℕ) (row : List ℕ) → UnusedWord src i end row → (kind : ℕ) × (from : ℕ) × (to : ℕ) × (spelled_at src i ≡ Spelled kind from to end) × (row ≡ kind_cells kind from to)
+word_spelled : (src : List ℕ) (i end : ℕ) (row : List ℕ) → UnusedWord src i end row → (kind : ℕ) × (from : ℕ) × (to : ℕ) × (spelled_at src i ≡ Ok (kind, from, to, end)) × (row ≡ kind_cells kind from to)
 unfolding spelled_at
-word_spelled src i end row (rule e) = (1, i, end, ap (λ (n : Name). spelled_name n src i) e, refl)
-word_spelled src i end row (quote {p = p} e f) = (2, p.from, p.to, ap (λ (n : Name). spelled_name n src i) e ∙ ap spelled_token f, refl)
+word_spelled src i end row (rule e) = (1, i, end, ap (λ (n : Result ℕ ℕ). spelled_name n src i) e, refl)
+word_spelled src i end row (quote {p = p} e f) = (2, p.from, p.to, ap (λ (n : Result ℕ ℕ). spelled_name n src i) e ∙ ap spelled_token f, refl)
 
 -- a list of words expected unused: room in table 6
-module _ (src : List ℕ) (tag : Part) (kind : ℕ) where
+module _ (src : List ℕ) (tag : Option (ℕ × ℕ)) (kind : ℕ) where
   record UnusedRoom (o : Out3) (rows : List (List ℕ)) : Type 0 where
     ten : length o.state.counts.n ≡ 10
     own : FreeRows (width unused) (count o.state unused) o.a (length rows)
 
-  unused_through : (s : State) (t : List ℕ) (end to n : ℕ) (row : List ℕ) → UnusedWord src s.at end row → gap_at s.kind true src end ≡ GapTo to n → room 3 (count s unused) t ≡ true → (unused_item src s t).answer ≡ Going
+  unused_through : (s : State) (t : List ℕ) (end to n : ℕ) (row : List ℕ) → UnusedWord src s.at end row → gap_at s.kind true src end ≡ Ok (to, n) → room 3 (count s unused) t ≡ true → (unused_item src s t).answer ≡ Going
   unfolding unused_item unused_row
   unused_through s t end to n row w g h =
       let (k, a, b, e, f) = word_spelled src s.at end row w in
-      subst (λ (x : Spelling). (unused_spelled x src s t).answer ≡ Going) (sym e)
+      subst (λ (x : Result (ℕ × ℕ × ℕ × ℕ) ℕ). (unused_spelled x src s t).answer ≡ Going) (sym e)
       (ap (λ (o : Out1). (behind1 src false end o).answer) (push_room s unused (kind_cells k a b) t h)
       ∙ ap (λ (o : Out0). o.answer) (pass_to src end Going (with_count s unused (count s unused + 1)) to n g refl))
 
@@ -191,7 +188,7 @@ module _ (src : List ℕ) (tag : Part) (kind : ℕ) where
       record { going = d; at = y.0; same = y.1 ∙ k; room = record { ten = y.2.ten r.ten; own = free_behind (y.2.rows r.ten) (omega arith) r.own } }
 
 -- a list of types: room in table 15
-module _ (src : List ℕ) (tag : Part) (kind : ℕ) where
+module _ (src : List ℕ) (tag : Option (ℕ × ℕ)) (kind : ℕ) where
   record TypeRoom (o : Out3) (ps : List Place) : Type 0 where
     three : length o.state.posix.n ≡ 3
     own : FreeRows (width tags) (count o.state tags) o.b (length (tag_rows tag ps))
@@ -199,14 +196,14 @@ module _ (src : List ℕ) (tag : Part) (kind : ℕ) where
   split : (p : Place) (ps : List Place) → length (tag_rows tag (p ∷ ps)) ≡ length (tag_rows tag (p ∷ [])) + length (tag_rows tag ps)
   split p ps = ap (λ (l : List (List ℕ)). length l) (tag_rows_on tag p ps) ∙ length-append (tag_rows tag (p ∷ [])) (tag_rows tag ps)
 
-  type_through : (s : State) (t : List ℕ) (end to n : ℕ) (p : Place) → TypeWord src s.at end p → gap_at s.kind true src end ≡ GapTo to n → FreeRows (width tags) (count s tags) t (length (tag_rows tag (p ∷ []))) → (type_item src s tag t).answer ≡ Going
+  type_through : (s : State) (t : List ℕ) (end to n : ℕ) (p : Place) → TypeWord src s.at end p → gap_at s.kind true src end ≡ Ok (to, n) → FreeRows (width tags) (count s tags) t (length (tag_rows tag (p ∷ []))) → (type_item src s tag t).answer ≡ Going
   unfolding type_item type_row tag_row
   type_through s t end to n p w g free =
       let (k, a, b, e, f) = word_spelled src s.at end _ w.1 in
       let q : p ≡ record { from = a; to = b } = ap (λ (r : List ℕ). record { from = get_or r 1 0; to = get_or r 2 0 }) f in
       let o = tag_given tag s a b t in
       let d = tag_room (record { from = a; to = b }) s t Going tag refl (rw q at free) in
-      subst (λ (x : Spelling). (type_spelled x src s tag t).answer ≡ Going) (sym e)
+      subst (λ (x : Result (ℕ × ℕ × ℕ × ℕ) ℕ). (type_spelled x src s tag t).answer ≡ Going) (sym e)
       (ap (λ (o : Out0). o.answer) (pass_to src end o.answer o.state to n (ap (λ (k : ℕ). gap_at k true src end) (tag_kind Going s tag a b t) ∙ g) d))
 
   type_on : Onwards src TypeList tag kind (TypeWord src) TypeRoom
@@ -220,7 +217,7 @@ module _ (src : List ℕ) (tag : Part) (kind : ℕ) where
 
 -- Where words stand behind the keyword and its tag, and there is room for their rows, the list goes on, to where they end.
 module _ (src : List ℕ) (s : State) (t t15 t16 : List ℕ) where
-  pub token_goes : length s.counts.n ≡ 10 → length s.posix.n ≡ 3 → (j : ℕ) (tag : Part) (ws : List ListWord) → TokensListed s.kind src s.at j tag ws
+  pub token_goes : length s.counts.n ≡ 10 → length s.posix.n ≡ 3 → (j : ℕ) (tag : Option (ℕ × ℕ)) (ws : List ListWord) → TokensListed s.kind src s.at j tag ws
       → FreeRows (width tokens) (count s tokens) t (length ws) → FreeRows (width tags) (count s tags) t15 (length (tag_rows tag (word_places ws))) → FreeRows (width token_numbers) (count s token_numbers) t16 (length (number_rows ws))
       → ((list_decl src s TokenList t t15 t16).answer ≡ Going) × ((list_decl src s TokenList t t15 t16).state.at ≡ j)
   unfolding percent_list
@@ -234,10 +231,10 @@ module _ (src : List ℕ) (s : State) (t t15 t16 : List ℕ) where
   unfolding percent_list
   unused_goes ten j rows l f =
       rw (listed_decl src s UnusedList t t15 t16 l)
-      (words_go src UnusedList Absent s.kind (UnusedWord src) (UnusedRoom src Absent s.kind) (unused_on src Absent s.kind) (suc (length src)) (record { answer = Going; state = with_at s l.head; a = t; b = t15; c = t16 }) (omega arith)
+      (words_go src UnusedList None s.kind (UnusedWord src) (UnusedRoom src None s.kind) (unused_on src None s.kind) (suc (length src)) (record { answer = Going; state = with_at s l.head; a = t; b = t15; c = t16 }) (omega arith)
       refl j rows l.words (record { ten = ten; own = f }) refl)
 
-  pub type_goes : length s.posix.n ≡ 3 → (j : ℕ) (tag : Part) (ps : List Place) → TypesListed s.kind src s.at j tag ps → FreeRows (width tags) (count s tags) t15 (length (tag_rows tag ps))
+  pub type_goes : length s.posix.n ≡ 3 → (j : ℕ) (tag : Option (ℕ × ℕ)) (ps : List Place) → TypesListed s.kind src s.at j tag ps → FreeRows (width tags) (count s tags) t15 (length (tag_rows tag ps))
       → ((list_decl src s TypeList t t15 t16).answer ≡ Going) × ((list_decl src s TypeList t t15 t16).state.at ≡ j)
   unfolding percent_list
   type_goes three j tag ps l f =

@@ -1,5 +1,6 @@
 -- The words of a list one by one: where an item goes on, a word stands there, and what it did; and a list by its words, for no list ends for want of turns. Assumes
 -- nothing.
+use Rattle.std.specs.Prelude.{Option, Some, None, Result, Ok, Err}
 use Prim.Native.Nat.{ℕ, zero, suc, ◌+◌, ◌-◌, ◌≤◌, ◌<◌}
 use mathlib.Core.Path.{◌≡◌, refl, sym, ◌∙◌, ap, subst}
 use mathlib.Core.List.{List, [], ◌∷◌}
@@ -8,6 +9,7 @@ use native.Mathlib.Omega.{arith}
 use lib.Dec.{leb, eqb}
 use lib.ListN.{length, get_or}
 use borrow.Author.Tests.{leb-false}
+use Rattle.scan.proofs.Tuples.{ok_3}
 use Rattle.scan.specs.Loop.{more, stop, turns}
 use Rattle.scan.specs.declared.Place.{Place}
 use Rattle.scan.specs.declared.Class.TheVariants.{NameByte, TokenStart, TokenByte, Unquoted}
@@ -15,26 +17,16 @@ use Rattle.scan.specs.Scan.{in_class, is_at, run_end_at}
 use Rattle.scan.proofs.Bytes.{on_test}
 use Rattle.scan.proofs.Loop.{Either, turns_keep}
 use Rattle.scan.proofs.Runs.{run_is}
-use Rattle.words.specs.declared.Word.{Word}
-use Rattle.words.specs.declared.Word.TheVariants.{WordTo, NoWord}
-use Rattle.words.specs.declared.Name.{Name}
-use Rattle.words.specs.declared.Name.TheVariants.{NameTo, NoName}
-use Rattle.words.specs.declared.Token.{Token}
-use Rattle.words.specs.declared.Token.TheVariants.{Found, NoToken}
 use Rattle.words.specs.Words.{word_at, name_at, is_quote, closed, quoted_at, bare, token_at, Tokened}
 use Rattle.words.proofs.Words.{token_placed}
 use Rattle.words.proofs.Meaning.{name_iff, bare_iff}
-use Rattle.tables.specs.declared.Entered.{Entered}
-use Rattle.tables.specs.declared.Entered.TheVariants.{Rows, Full}
 use Rattle.tables.specs.Table.{enter_token, flag}
 use Rattle.tables.specs.Layout.{tokens, unused, tags, token_numbers, width}
 use Rattle.grammar.specs.declared.PosixCounts.{PosixCounts}
 use Rattle.grammar.specs.declared.State.{State}
-use Rattle.grammar.specs.declared.Part.{Part}
 use Rattle.grammar.specs.declared.Answer.{Answer}
 use Rattle.grammar.specs.declared.Answer.TheVariants.{Going, Done, Refused}
-use Rattle.grammar.specs.declared.Gap.{Gap}
-use Rattle.grammar.specs.declared.Gap.TheVariants.{GapTo, GapRefused}
+use Rattle.grammar.specs.declared.Refusal.{Refusal}
 use Rattle.grammar.specs.Cells.{kind_cells, token_cells}
 use Rattle.grammar.specs.State.{Out1, Out3, count, with_at, gap_at, Gapped, push_row, entered, enter_step, onward, behind1}
 use Rattle.grammar.proofs.Counting.{same_low}
@@ -47,8 +39,6 @@ use Rattle.marks.specs.Worded.{ListWord, Worded, tag_rows, number_of}
 use Rattle.marks.proofs.Appended.{appended_as, push_appends}
 use Rattle.marks.proofs.Laws.{tag_counts, behind_counts, tag_kind, behind_kind}
 use Rattle.marks.proofs.Worded.{led, lead_goes, behind_word_lem, behind_went, worded_inside, tag_went, tag_added, number_others, tag_others, number_three, tag_three}
-use Rattle.lists.specs.declared.Spelling.{Spelling}
-use Rattle.lists.specs.declared.Spelling.TheVariants.{Spelled, Unspelled}
 use Rattle.lists.specs.declared.WordList.{WordList}
 use Rattle.lists.specs.declared.WordList.TheVariants.{TokenList, UnusedList, TypeList}
 use Rattle.lists.specs.Lists.{token_found, token_item, spelled_token, spelled_name, spelled_at, unused_row, unused_spelled, unused_item, type_row, type_spelled, type_item, list_item, ends, after_item, list_turn, percent_list, lead_list, list_led, list_body, list_from, list_decl}
@@ -63,16 +53,16 @@ pub record Went (kind : ℕ) {A : Type 0} (Word : ℕ → ℕ → A → Type 0) 
   pub lines : ℕ
   pub what : A
   pub word : Word i end what
-  pub gap : gap_at kind true src end ≡ GapTo to lines
+  pub gap : gap_at kind true src end ≡ Ok (to, lines)
   pub at : u.at ≡ to
   pub same : u.kind ≡ kind
   pub further : i < to
   pub came : P what
 
 -- spacing behind a word that ends in the source leads on
-gap_on : (kind : ℕ) (src : List ℕ) (end to n : ℕ) → end ≤ length src → gap_at kind true src end ≡ GapTo to n → end ≤ to
+gap_on : (kind : ℕ) (src : List ℕ) (end to n : ℕ) → end ≤ length src → gap_at kind true src end ≡ Ok (to, n) → end ≤ to
 gap_on kind src end to n l g =
-    let z : Gapped src end (GapTo to n) = rw g at (gapped kind true src end l) in
+    let z : Gapped src end (Ok (to, n)) = rw g at (gapped kind true src end l) in
     let k = z.0 in
     omega arith
 
@@ -102,22 +92,22 @@ pub enter_posix : (src : List ℕ) (s : State) (a b : ℕ) (d : Bool) (t : List 
 unfolding enter_step
 enter_posix src s a b d t = go (enter_token src (count s tokens) a b d t).entered
   where
-    go : (e : Entered) → (entered e s (token_cells a b (flag d)) (enter_token src (count s tokens) a b d t).cells).state.posix ≡ s.posix
-    go (Rows m) = refl
-    go Full = refl
+    go : (e : Option ℕ) → (entered e s (token_cells a b (flag d)) (enter_token src (count s tokens) a b d t).cells).state.posix ≡ s.posix
+    go (Some m) = refl
+    go None = refl
 
 -- a token of a list, and what became of the tables
-module _ (src : List ℕ) (s : State) (tag : Part) (t t15 t16 : List ℕ) where
+module _ (src : List ℕ) (s : State) (tag : Option (ℕ × ℕ)) (t t15 t16 : List ℕ) where
   pub token_marks : length s.counts.n ≡ 10 → Marks s.counts t (token_item src s tag t t15 t16).state.counts (token_item src s tag t t15 t16).a
   unfolding token_item
   token_marks ten = go (token_at src s.at)
     where
-      go : (w : Token) → Marks s.counts t (token_found w src s tag t t15 t16).state.counts (token_found w src s tag t t15 t16).a
-      go (Found p end q) =
+      go : (w : Result (Place × ℕ × Bool) ℕ) → Marks s.counts t (token_found w src s tag t t15 t16).state.counts (token_found w src s tag t t15 t16).a
+      go (Ok (p, end, q)) =
           let o = enter_step src s p.from p.to true t in
           let r = tag_row o.answer o.state tag p.from p.to t15 in
           rw (behind_counts src false p.from p.to end r.answer r.state t16, tag_counts o.answer o.state tag p.from p.to t15) (enter_marks src s p t ten)
-      go (NoToken k) = marks_still s.counts t
+      go (Err k) = marks_still s.counts t
 
   -- what became of table 1, and one row more in table 15 if there is a tag, in table 16 if there is a number
   pub record Came (o : Out3) (w : ListWord) : Type 0 where
@@ -133,8 +123,8 @@ module _ (src : List ℕ) (s : State) (tag : Part) (t t15 t16 : List ℕ) where
   unfolding token_item
   token_went = go (token_at src s.at) refl (token_placed src s.at (token_at src s.at) refl).1
     where
-      go : (w : Token) → token_at src s.at ≡ w → Tokened src s.at w → TokenWent (token_found w src s tag t t15 t16)
-      go (Found p end q) e x = λ g.
+      go : (w : Result (Place × ℕ × Bool) ℕ) → token_at src s.at ≡ w → Tokened src s.at w → TokenWent (token_found w src s tag t t15 t16)
+      go (Ok (p, end, q)) e x = λ g.
           let a = x.0 in
           let b = x.1 in
           let c = x.2 in
@@ -170,57 +160,57 @@ module _ (src : List ℕ) (s : State) (tag : Part) (t t15 t16 : List ℕ) where
               numbers = λ three. appended_as (ap (λ (u : State). count u token_numbers) v.state ∙ tag_others o.state tag token_numbers (λ e. omega arith) ∙ ap (λ (c : PosixCounts). get_or c.n 1 0) posix) refl (y.rows (long ∙ three));
             };
           }
-      go (NoToken k) e x = λ g. absurd (refused_going _ g)
+      go (Err k) e x = λ g. absurd (refused_going _ g)
 
 -- what reads as a word does not fail to
-pub name_none : (e k : ℕ) → NameTo e ≡ NoName k → ⊥
+pub name_none : (e k : ℕ) → ◌≡◌ {A = Result ℕ ℕ} (Ok e) (Err k) → ⊥
 name_none e k h = let z : ◌≡◌ {A = ℕ} 0 1 = cc in omega arith
 
-token_none : (k end : ℕ) (p : Place) (q : Bool) → NoToken k ≡ Found p end q → ⊥
+token_none : (k end : ℕ) (p : Place) (q : Bool) → ◌≡◌ {A = Result (Place × ℕ × Bool) ℕ} (Err k) (Ok (p, end, q)) → ⊥
 token_none k end p q h = let z : ◌≡◌ {A = ℕ} 0 1 = cc in omega arith
 
 -- where no name stands, a token is quoted: a bare one would be a name
-quoted_else : (src : List ℕ) (i k end : ℕ) (p : Place) (q : Bool) → name_at src i ≡ NoName k → token_at src i ≡ Found p end q → q ≡ true
+quoted_else : (src : List ℕ) (i k end : ℕ) (p : Place) (q : Bool) → name_at src i ≡ Err k → token_at src i ≡ Ok (p, end, q) → q ≡ true
 unfolding token_at quoted_at closed bare in_class
 quoted_else src i k end p q none e =
     on_test Is (leb (length src) i) _ _ (λ f r. absurd (token_none _ _ _ _ r))
     (λ f. on_test Is (is_quote c) _ _
     (λ t. on_test Is (leb (length src) (i + 1)) _ _ (λ g r. absurd (token_none _ _ _ _ r))
     (λ g. on_test Is (eqb (get_or src (i + 1) 0) 10) _ _ (λ h r. absurd (token_none _ _ _ _ r))
-    (λ h. on_test Is (is_at c src (run_end_at (in_class (Unquoted c)) src (i + 1 + 1))) _ _ (λ o r. cc) (λ o r. absurd (token_none _ _ _ _ r)))))
+    (λ h. on_test Is (is_at c src (run_end_at (in_class (Unquoted c)) src (i + 1 + 1))) _ _ (λ o r. sym (ok_3 r).2) (λ o r. absurd (token_none _ _ _ _ r)))))
     (λ t. bare_one (word_at TokenStart TokenByte src i))) e
   where
     c : ℕ
     c = get_or src i 0
 
-    Is : Token → Type 0
-    Is r = r ≡ Found p end q → q ≡ true
+    Is : Result (Place × ℕ × Bool) ℕ → Type 0
+    Is r = r ≡ Ok (p, end, q) → q ≡ true
 
-    bare_one : (w : Word) → Is (bare i w)
-    bare_one (WordTo j) r =
+    bare_one : (w : Option ℕ) → Is (bare i w)
+    bare_one (Some j) r =
         let x = (bare_iff src i j).0 (e ∙ sym r) in
         let l = x.inside in
         let b = ap (λ (b : Bool). b || eqb c 46) x.begins in
         let named = (name_iff src i _).1 (record { inside = l; begins = b; goes_on = run_is (in_class NameByte) src (i + 1) (omega arith) }) in
         absurd (name_none _ k (sym named ∙ none))
-    bare_one NoWord r = absurd (token_none _ _ _ _ r)
+    bare_one None r = absurd (token_none _ _ _ _ r)
 
 -- a word of an `%expect-unused` or a `%type` list
-abbrev Spelt : List ℕ → ℕ → Spelling → Type 0
-Spelt src i (Spelled kind from to end) = UnusedWord src i end (kind_cells kind from to)
-Spelt src i (Unspelled k) = Unit {0}
+abbrev Spelt : List ℕ → ℕ → Result (ℕ × ℕ × ℕ × ℕ) ℕ → Type 0
+Spelt src i (Ok (kind, from, to, end)) = UnusedWord src i end (kind_cells kind from to)
+Spelt src i (Err k) = Unit {0}
 
 spelt : (src : List ℕ) (i : ℕ) → Spelt src i (spelled_at src i)
 unfolding spelled_at
 spelt src i = name (name_at src i) refl
   where
-    quoted : (k : ℕ) → name_at src i ≡ NoName k → (w : Token) → token_at src i ≡ w → Spelt src i (spelled_token w)
-    quoted k f (Found p end q) e = quote f (rw (quoted_else src i k end p q f e) at e)
-    quoted k f (NoToken j) e = tt
+    quoted : (k : ℕ) → name_at src i ≡ Err k → (w : Result (Place × ℕ × Bool) ℕ) → token_at src i ≡ w → Spelt src i (spelled_token w)
+    quoted k f (Ok (p, end, q)) e = quote f (rw (quoted_else src i k end p q f e) at e)
+    quoted k f (Err j) e = tt
 
-    name : (w : Name) → name_at src i ≡ w → Spelt src i (spelled_name w src i)
-    name (NameTo j) e = rule e
-    name (NoName k) e = quoted k e (token_at src i) refl
+    name : (w : Result ℕ ℕ) → name_at src i ≡ w → Spelt src i (spelled_name w src i)
+    name (Ok j) e = rule e
+    name (Err k) e = quoted k e (token_at src i) refl
 
 -- a word expected unused, and its row
 module _ (src : List ℕ) (s : State) (t : List ℕ) where
@@ -236,8 +226,8 @@ module _ (src : List ℕ) (s : State) (t : List ℕ) where
   unfolding unused_item unused_row
   unused_went = go (spelled_at src s.at) (spells src s.at) (spelt src s.at)
     where
-      go : (x : Spelling) → Spells src s.at x → Spelt src s.at x → UnusedWent (unused_spelled x src s t)
-      go (Spelled kind from to end) x w =
+      go : (x : Result (ℕ × ℕ × ℕ × ℕ) ℕ) → Spells src s.at x → Spelt src s.at x → UnusedWent (unused_spelled x src s t)
+      go (Ok (kind, from, to, end)) x w =
           let row = kind_cells kind from to in
           let o = push_row s unused row t in
           went s.kind (UnusedWord src) _ src s.at end row o (push_kind s unused row t) w x.5 x.6
@@ -245,10 +235,10 @@ module _ (src : List ℕ) (s : State) (t : List ℕ) where
             ten = λ ten. ap (λ (u : State). length u.counts.n) e ∙ (push_apart s unused row t).ten ∙ ten;
             rows = λ ten. appended_as refl (sym (ap (λ (u : State). count u unused) e)) (push_appends s unused row t (same_low s unused (count s unused + 1) (omega arith) (rw ten (omega arith))) g);
           })
-      go (Unspelled k) x w = λ g. absurd (refused_going _ g)
+      go (Err k) x w = λ g. absurd (refused_going _ g)
 
 -- a word of a `%type` list, and its row
-module _ (src : List ℕ) (s : State) (tag : Part) (t : List ℕ) where
+module _ (src : List ℕ) (s : State) (tag : Option (ℕ × ℕ)) (t : List ℕ) where
   pub record Typed (o : Out1) (p : Place) : Type 0 where
     pub three : length o.state.posix.n ≡ length s.posix.n
     pub rows : length s.posix.n ≡ 3 → Appended (width tags) (count s tags) t (tag_rows tag (p ∷ [])) (count o.state tags) o.a
@@ -260,8 +250,8 @@ module _ (src : List ℕ) (s : State) (tag : Part) (t : List ℕ) where
   unfolding type_item type_row tag_row
   type_went = go (spelled_at src s.at) (spells src s.at) (spelt src s.at)
     where
-      go : (x : Spelling) → Spells src s.at x → Spelt src s.at x → TypeWent (type_spelled x src s tag t)
-      go (Spelled kind from to end) x w =
+      go : (x : Result (ℕ × ℕ × ℕ × ℕ) ℕ) → Spells src s.at x → Spelt src s.at x → TypeWent (type_spelled x src s tag t)
+      go (Ok (kind, from, to, end)) x w =
           let p : Place = record { from = from; to = to } in
           let o = tag_given tag s from to t in
           went s.kind (TypeWord src) _ src s.at end p o (tag_kind Going s tag from to t) (kind, w) x.5 x.6
@@ -269,7 +259,7 @@ module _ (src : List ℕ) (s : State) (tag : Part) (t : List ℕ) where
             three = ap (λ (u : State). length u.posix.n) (e ∙ ap (λ (u : State). with_at u j) v.state) ∙ tag_three s tag;
             rows = λ three. appended_as refl (sym (ap (λ (u : State). count u tags) e)) (v.rows three);
           })
-      go (Unspelled k) x w = λ g. absurd (refused_going _ g)
+      go (Err k) x w = λ g. absurd (refused_going _ g)
 
 -- where a list goes on
 module _ (src : List ℕ) where
@@ -282,13 +272,13 @@ module _ (src : List ℕ) where
       go false e f = leb-false _ _ e
 
   -- an item that goes on comes to stand further on
-  item_on : (what : WordList) (s : State) (tag : Part) (t t15 t16 : List ℕ) → (list_item src s what tag t t15 t16).answer ≡ Going → s.at < (list_item src s what tag t t15 t16).state.at
+  item_on : (what : WordList) (s : State) (tag : Option (ℕ × ℕ)) (t t15 t16 : List ℕ) → (list_item src s what tag t t15 t16).answer ≡ Going → s.at < (list_item src s what tag t t15 t16).state.at
   item_on TokenList s tag t t15 t16 g = let w = token_went src s tag t t15 t16 g in rw w.at w.further
   item_on UnusedList s tag t t15 t16 g = let w = unused_went src s t g in rw w.at w.further
   item_on TypeList s tag t t15 t16 g = let w = type_went src s tag t15 g in rw w.at w.further
 
 -- What holds of a list that is over, of one that halts, and of one with a word more where it holds behind the word, holds of a list: no list ends for want of turns.
-module _ (src : List ℕ) (what : WordList) (tag : Part) (C : Out3 → Out3 → Type 0) where
+module _ (src : List ℕ) (what : WordList) (tag : Option (ℕ × ℕ)) (C : Out3 → Out3 → Type 0) where
   abbrev pub step : Out3 → Out3
   step o = list_item src o.state what tag o.a o.b o.c
 
@@ -323,7 +313,7 @@ record LeadsTo (src : List ℕ) (s : State) (what : WordList) (i : ℕ) (l : Lea
 -- A list behind its keyword: nothing but the position has changed where it is over before its words; else they stand behind the spacing and the tag.
 module _ (src : List ℕ) (s : State) (what : WordList) (t t15 t16 : List ℕ) where
   pub decl_cases : (C : Out3 → Type 0) → ((a : Answer) (j : ℕ) → (a ≡ Going → ⊥) → C (record { answer = a; state = with_at s j; a = t; b = t15; c = t16 }))
-      → ((i n j : ℕ) (g : Part) → gap_at s.kind false src s.at ≡ GapTo i n → Leads what s.kind src i j g → C (percent_list src (with_at s j) what g t t15 t16))
+      → ((i n j : ℕ) (g : Option (ℕ × ℕ)) → gap_at s.kind false src s.at ≡ Ok (i, n) → Leads what s.kind src i j g → C (percent_list src (with_at s j) what g t t15 t16))
       → C (list_decl src s what t t15 t16)
   unfolding list_decl list_body
   decl_cases C none words = gap (gap_at s.kind false src s.at) refl
@@ -333,39 +323,39 @@ module _ (src : List ℕ) (s : State) (what : WordList) (t t15 t16 : List ℕ) w
       leads UnusedList i l e = rw e (record { before = λ g. (refl, refl); state = refl })
       leads TypeList i l e = let x = led src (with_at s i) true false in rw e (record { before = x.before; state = x.state })
 
-      body : (i n : ℕ) (l : Leading) → gap_at s.kind false src s.at ≡ GapTo i n → LeadsTo src s what i l → (a : Answer) → l.answer ≡ a → C (list_led a l src what t t15 t16)
+      body : (i n : ℕ) (l : Leading) → gap_at s.kind false src s.at ≡ Ok (i, n) → LeadsTo src s what i l → (a : Answer) → l.answer ≡ a → C (list_led a l src what t t15 t16)
       body i n l e x Going g = subst (λ (u : State). C (percent_list src u what l.tag t t15 t16)) (sym x.state) (words i n l.state.at l.tag e (x.before g))
       body i n l e x Done g = subst (λ (u : State). C (record { answer = Done; state = u; a = t; b = t15; c = t16 })) (sym x.state) (none Done l.state.at done_going)
       body i n l e x (Refused f) g = subst (λ (u : State). C (record { answer = Refused f; state = u; a = t; b = t15; c = t16 })) (sym x.state) (none (Refused f) l.state.at (refused_going f))
 
-      gap : (g : Gap) → gap_at s.kind false src s.at ≡ g → C (list_from g src s what t t15 t16)
-      gap (GapTo i n) e = let l = lead_list what src (with_at s i) in body i n l e (leads what i l refl) l.answer refl
-      gap (GapRefused f) e = none (Refused f) s.at (refused_going f)
+      gap : (g : Result (ℕ × ℕ) Refusal) → gap_at s.kind false src s.at ≡ g → C (list_from g src s what t t15 t16)
+      gap (Ok (i, n)) e = let l = lead_list what src (with_at s i) in body i n l e (leads what i l refl) l.answer refl
+      gap (Err f) e = none (Refused f) s.at (refused_going f)
 
   -- where spacing and tag stand, its words are read
-  lead_is : (w : WordList) (i j : ℕ) (g : Part) → Leads w s.kind src i j g → lead_list w src (with_at s i) ≡ record { answer = Going; state = with_at s j; tag = g }
+  lead_is : (w : WordList) (i j : ℕ) (g : Option (ℕ × ℕ)) → Leads w s.kind src i j g → lead_list w src (with_at s i) ≡ record { answer = Going; state = with_at s j; tag = g }
   lead_is TokenList i j g l = lead_goes src (with_at s i) false false l
   lead_is UnusedList i j g l = rw (l.0, l.1)
   lead_is TypeList i j g l = lead_goes src (with_at s i) true false l
 
-  pub listed_decl : {A : Type 0} {Word : ℕ → ℕ → A → Type 0} {j : ℕ} {g : Part} {xs : List A} (l : Listed what s.kind Word src s.at j g xs) → list_decl src s what t t15 t16 ≡ percent_list src (with_at s l.head) what g t t15 t16
+  pub listed_decl : {A : Type 0} {Word : ℕ → ℕ → A → Type 0} {j : ℕ} {g : Option (ℕ × ℕ)} {xs : List A} (l : Listed what s.kind Word src s.at j g xs) → list_decl src s what t t15 t16 ≡ percent_list src (with_at s l.head) what g t t15 t16
   unfolding list_decl list_body
-  listed_decl {g = g} l = ap (λ (x : Gap). list_from x src s what t t15 t16) l.gap ∙ ap (λ (x : Leading). list_led x.answer x src what t t15 t16) (lead_is what l.from l.head g l.lead)
+  listed_decl {g = g} l = ap (λ (x : Result (ℕ × ℕ) Refusal). list_from x src s what t t15 t16) l.gap ∙ ap (λ (x : Leading). list_led x.answer x src what t t15 t16) (lead_is what l.from l.head g l.lead)
 
   -- What holds in front of the words and is kept by each holds of the list, whatever its answer; P is what is known of the tag.
-  pub list_keeps : (C : Out3 → Type 0) (P : Part → Type 0) → ((a : Answer) (j : ℕ) → C (record { answer = a; state = with_at s j; a = t; b = t15; c = t16 }))
-      → ((i j : ℕ) (g : Part) → Leads what s.kind src i j g → P g)
-      → ((g : Part) → P g → (o : Out3) → C o → C (list_item src o.state what g o.a o.b o.c))
+  pub list_keeps : (C : Out3 → Type 0) (P : Option (ℕ × ℕ) → Type 0) → ((a : Answer) (j : ℕ) → C (record { answer = a; state = with_at s j; a = t; b = t15; c = t16 }))
+      → ((i j : ℕ) (g : Option (ℕ × ℕ)) → Leads what s.kind src i j g → P g)
+      → ((g : Option (ℕ × ℕ)) → P g → (o : Out3) → C o → C (list_item src o.state what g o.a o.b o.c))
       → C (list_decl src s what t t15 t16)
   unfolding list_turn percent_list
   list_keeps C P here tag item = decl_cases C (λ a j d. here a j) (λ i n j g e l. kept j g (tag i j g l))
     where
-      turn : (g : Part) → P g → (o : Out3) → C o → Either C C (list_turn src what g o)
+      turn : (g : Option (ℕ × ℕ)) → P g → (o : Out3) → C o → Either C C (list_turn src what g o)
       turn g p o c = go (ends src o.state.at)
         where
           go : (b : Bool) → Either C C (after_item b o (list_item src o.state what g o.a o.b o.c))
           go true = c
           go false = onward_keep C (list_item src o.state what g o.a o.b o.c).answer (list_item src o.state what g o.a o.b o.c) (item g p o c)
 
-      kept : (j : ℕ) (g : Part) → P g → C (percent_list src (with_at s j) what g t t15 t16)
+      kept : (j : ℕ) (g : Option (ℕ × ℕ)) → P g → C (percent_list src (with_at s j) what g t t15 t16)
       kept j g p = turns_keep C (list_turn src what g) (turn g p) (suc (length src)) _ (here Going j)

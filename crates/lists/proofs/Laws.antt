@@ -1,4 +1,5 @@
 -- Lists to the next `%`: one law for each answer. Assumes nothing.
+use Rattle.std.specs.Prelude.{Option, None, Result, Ok, Err}
 use Prim.Native.Nat.{ℕ, ◌≤◌, ◌<◌}
 use mathlib.Core.Path.{◌≡◌, refl, sym, ap, ◌∙◌}
 use mathlib.Core.List.{List}
@@ -8,35 +9,25 @@ use lib.ListN.{length, get_or}
 use borrow.Author.Tests.{eq-eqb, ne_eqb, le-leb, lt-leb}
 use Rattle.scan.specs.Loop.{more, stop}
 use Rattle.scan.specs.declared.Place.{Place}
-use Rattle.words.specs.declared.Name.{Name}
-use Rattle.words.specs.declared.Name.TheVariants.{NameTo, NoName}
-use Rattle.words.specs.declared.Token.{Token}
-use Rattle.words.specs.declared.Token.TheVariants.{Found, NoToken}
 use Rattle.words.specs.Words.{name_at, token_at, Named, Tokened}
 use Rattle.grammar.specs.declared.State.{State}
-use Rattle.grammar.specs.declared.Part.{Part}
-use Rattle.grammar.specs.declared.Part.TheVariants.{Absent}
 use Rattle.grammar.specs.declared.Answer.{Answer}
 use Rattle.grammar.specs.declared.Answer.TheVariants.{Going, Done, Refused}
 use Rattle.grammar.specs.declared.Cause.TheVariants.{IllegalString, UnknownSymbol}
 use Rattle.grammar.specs.declared.Refusal.{Refusal}
 use Rattle.grammar.specs.declared.Refusal.TheVariants.{Fault}
-use Rattle.grammar.specs.declared.Gap.{Gap}
-use Rattle.grammar.specs.declared.Gap.TheVariants.{GapTo, GapRefused}
 use Rattle.grammar.specs.State.{Out1, Out3, with_at, gap_at, enter_step, behind1}
 use Rattle.grammar.proofs.Touch.{pass_counts}
 use Rattle.marks.specs.Marks.{Leading, lead_tag, tag_given, tag_row, behind_word}
 use Rattle.marks.proofs.Laws.{tag_counts}
-use Rattle.lists.specs.declared.Spelling.{Spelling}
-use Rattle.lists.specs.declared.Spelling.TheVariants.{Spelled, Unspelled}
 use Rattle.lists.specs.declared.WordList.{WordList}
 use Rattle.lists.specs.declared.WordList.TheVariants.{TokenList, UnusedList, TypeList}
 use Rattle.lists.specs.Lists.{first3, second3, third3, token_tagged, token_entered, token_found, token_item, spelled_token, spelled_name, spelled_at, unused_row, unused_spelled, unused_item, type_row, type_spelled, type_item, list_item, ends, list_turn, percent_list, lead_list, list_led, list_body, list_from, list_decl}
 use Rattle.lists.specs.Written.{Spells}
 
 -- one token of a `%token` list: it is entered, the row of its tag follows, and what stands behind it
-module _ (src : List ℕ) (s : State) (tag : Part) (t1 t15 t16 : List ℕ) (r : Token) (q : r ≡ token_at src s.at) where
-  pub token_found_lem : (p : Place) (end : ℕ) (b : Bool) (x : Answer) (u : State) (a : List ℕ) (y : Answer) (v : State) (d : List ℕ) (z : Answer) (w : State) (c : List ℕ) → r ≡ Found p end b
+module _ (src : List ℕ) (s : State) (tag : Option (ℕ × ℕ)) (t1 t15 t16 : List ℕ) (r : Result (Place × ℕ × Bool) ℕ) (q : r ≡ token_at src s.at) where
+  pub token_found_lem : (p : Place) (end : ℕ) (b : Bool) (x : Answer) (u : State) (a : List ℕ) (y : Answer) (v : State) (d : List ℕ) (z : Answer) (w : State) (c : List ℕ) → r ≡ Ok (p, end, b)
       → ◌≡◌ {A = Out1} (record { answer = x; state = u; a = a }) (enter_step src s p.from p.to true t1)
       → ◌≡◌ {A = Out1} (record { answer = y; state = v; a = d }) (tag_row x u tag p.from p.to t15)
       → ◌≡◌ {A = Out1} (record { answer = z; state = w; a = c }) (behind_word src false p.from p.to end y v t16)
@@ -46,36 +37,36 @@ module _ (src : List ℕ) (s : State) (tag : Part) (t1 t15 t16 : List ℕ) (r : 
       ap (third3 a d) h
       ∙ ap (λ (o : Out1). token_tagged src p.from p.to end a o t16) g
       ∙ ap (λ (o : Out1). token_entered src tag p.from p.to end o t15 t16) f
-      ∙ ap (λ (o : Token). token_found o src s tag t1 t15 t16) (sym e ∙ q)
+      ∙ ap (λ (o : Result (Place × ℕ × Bool) ℕ). token_found o src s tag t1 t15 t16) (sym e ∙ q)
 
-  pub token_none : (k : ℕ) → r ≡ NoToken k → ◌≡◌ {A = Out3} (record { answer = Refused (Fault IllegalString k); state = s; a = t1; b = t15; c = t16 }) (token_item src s tag t1 t15 t16)
+  pub token_none : (k : ℕ) → r ≡ Err k → ◌≡◌ {A = Out3} (record { answer = Refused (Fault IllegalString k); state = s; a = t1; b = t15; c = t16 }) (token_item src s tag t1 t15 t16)
   unfolding token_item
-  token_none k e = ap (λ (o : Token). token_found o src s tag t1 t15 t16) (sym e ∙ q)
+  token_none k e = ap (λ (o : Result (Place × ℕ × Bool) ℕ). token_found o src s tag t1 t15 t16) (sym e ∙ q)
 
 -- a name or a quoted token
-module _ (src : List ℕ) (i : ℕ) (r : Name) (q : r ≡ name_at src i) where
-  pub spelled_name_lem : (j : ℕ) → r ≡ NameTo j → Spelled 1 i j j ≡ spelled_at src i
+module _ (src : List ℕ) (i : ℕ) (r : Result ℕ ℕ) (q : r ≡ name_at src i) where
+  pub spelled_name_lem : (j : ℕ) → r ≡ Ok j → Ok (1, i, j, j) ≡ spelled_at src i
   unfolding spelled_at
-  spelled_name_lem j e = ap (λ (n : Name). spelled_name n src i) (sym e ∙ q)
+  spelled_name_lem j e = ap (λ (n : Result ℕ ℕ). spelled_name n src i) (sym e ∙ q)
 
-  pub name_spells : (j : ℕ) → Named src i r → r ≡ NameTo j → Spells src i (Spelled 1 i j j)
+  pub name_spells : (j : ℕ) → Named src i r → r ≡ Ok j → Spells src i (Ok (1, i, j, j))
   name_spells j x e =
       let y = rw e at x in
       let a = y.0 in
       (omega arith, omega arith, omega arith, omega arith, omega arith, a, y.1)
 
-  module _ (k : ℕ) (none : r ≡ NoName k) (w : Token) (v : w ≡ token_at src i) where
-    spelled_by : (x : Token) → w ≡ x → spelled_token x ≡ spelled_at src i
+  module _ (k : ℕ) (none : r ≡ Err k) (w : Result (Place × ℕ × Bool) ℕ) (v : w ≡ token_at src i) where
+    spelled_by : (x : Result (Place × ℕ × Bool) ℕ) → w ≡ x → spelled_token x ≡ spelled_at src i
     unfolding spelled_at
-    spelled_by x e = ap spelled_token (sym e ∙ v) ∙ ap (λ (n : Name). spelled_name n src i) (sym none ∙ q)
+    spelled_by x e = ap spelled_token (sym e ∙ v) ∙ ap (λ (n : Result ℕ ℕ). spelled_name n src i) (sym none ∙ q)
 
-    pub spelled_token_lem : (p : Place) (end : ℕ) (b : Bool) → w ≡ Found p end b → Spelled 2 p.from p.to end ≡ spelled_at src i
-    spelled_token_lem p end b e = spelled_by (Found p end b) e
+    pub spelled_token_lem : (p : Place) (end : ℕ) (b : Bool) → w ≡ Ok (p, end, b) → Ok (2, p.from, p.to, end) ≡ spelled_at src i
+    spelled_token_lem p end b e = spelled_by (Ok (p, end, b)) e
 
-    pub spelled_none : (j : ℕ) → w ≡ NoToken j → Unspelled j ≡ spelled_at src i
-    spelled_none j e = spelled_by (NoToken j) e
+    pub spelled_none : (j : ℕ) → w ≡ Err j → Err j ≡ spelled_at src i
+    spelled_none j e = spelled_by (Err j) e
 
-pub token_spells : (src : List ℕ) (i : ℕ) (w : Token) (p : Place) (end : ℕ) (b : Bool) → Tokened src i w → w ≡ Found p end b → Spells src i (Spelled 2 p.from p.to end)
+pub token_spells : (src : List ℕ) (i : ℕ) (w : Result (Place × ℕ × Bool) ℕ) (p : Place) (end : ℕ) (b : Bool) → Tokened src i w → w ≡ Ok (p, end, b) → Spells src i (Ok (2, p.from, p.to, end))
 token_spells src i w p end b x e =
     let y = rw e at x in
     let a = y.0 in
@@ -83,30 +74,30 @@ token_spells src i w p end b x e =
     let d = y.2 in
     (omega arith, omega arith, omega arith, omega arith, omega arith, omega arith, y.3)
 
-pub none_spells : (src : List ℕ) (i : ℕ) (w : Token) (k : ℕ) → Tokened src i w → w ≡ NoToken k → k ≡ i
+pub none_spells : (src : List ℕ) (i : ℕ) (w : Result (Place × ℕ × Bool) ℕ) (k : ℕ) → Tokened src i w → w ≡ Err k → k ≡ i
 none_spells src i w k x e = rw e at x
 
 -- its rows
-module _ (src : List ℕ) (s : State) (r : Spelling) (q : r ≡ spelled_at src s.at) (t : List ℕ) where
-  pub unused_spelled_lem : (kind from to end : ℕ) (o : Out1) → r ≡ Spelled kind from to end → o ≡ unused_row src s kind from to end t → o ≡ unused_item src s t
+module _ (src : List ℕ) (s : State) (r : Result (ℕ × ℕ × ℕ × ℕ) ℕ) (q : r ≡ spelled_at src s.at) (t : List ℕ) where
+  pub unused_spelled_lem : (kind from to end : ℕ) (o : Out1) → r ≡ Ok (kind, from, to, end) → o ≡ unused_row src s kind from to end t → o ≡ unused_item src s t
   unfolding unused_item
-  unused_spelled_lem kind from to end o e h = h ∙ ap (λ (x : Spelling). unused_spelled x src s t) (sym e ∙ q)
+  unused_spelled_lem kind from to end o e h = h ∙ ap (λ (x : Result (ℕ × ℕ × ℕ × ℕ) ℕ). unused_spelled x src s t) (sym e ∙ q)
 
-  pub unused_none : (k : ℕ) → r ≡ Unspelled k → ◌≡◌ {A = Out1} (record { answer = Refused (Fault UnknownSymbol k); state = s; a = t }) (unused_item src s t)
+  pub unused_none : (k : ℕ) → r ≡ Err k → ◌≡◌ {A = Out1} (record { answer = Refused (Fault UnknownSymbol k); state = s; a = t }) (unused_item src s t)
   unfolding unused_item
-  unused_none k e = ap (λ (x : Spelling). unused_spelled x src s t) (sym e ∙ q)
+  unused_none k e = ap (λ (x : Result (ℕ × ℕ × ℕ × ℕ) ℕ). unused_spelled x src s t) (sym e ∙ q)
 
-  module _ (tag : Part) where
-    pub type_spelled_lem : (kind from to end : ℕ) (o : Out1) → r ≡ Spelled kind from to end → o ≡ type_row src s tag from to end t → o ≡ type_item src s tag t
+  module _ (tag : Option (ℕ × ℕ)) where
+    pub type_spelled_lem : (kind from to end : ℕ) (o : Out1) → r ≡ Ok (kind, from, to, end) → o ≡ type_row src s tag from to end t → o ≡ type_item src s tag t
     unfolding type_item
-    type_spelled_lem kind from to end o e h = h ∙ ap (λ (x : Spelling). type_spelled x src s tag t) (sym e ∙ q)
+    type_spelled_lem kind from to end o e h = h ∙ ap (λ (x : Result (ℕ × ℕ × ℕ × ℕ) ℕ). type_spelled x src s tag t) (sym e ∙ q)
 
-    pub type_none : (k : ℕ) → r ≡ Unspelled k → ◌≡◌ {A = Out1} (record { answer = Refused (Fault UnknownSymbol k); state = s; a = t }) (type_item src s tag t)
+    pub type_none : (k : ℕ) → r ≡ Err k → ◌≡◌ {A = Out1} (record { answer = Refused (Fault UnknownSymbol k); state = s; a = t }) (type_item src s tag t)
     unfolding type_item
-    type_none k e = ap (λ (x : Spelling). type_spelled x src s tag t) (sym e ∙ q)
+    type_none k e = ap (λ (x : Result (ℕ × ℕ × ℕ × ℕ) ℕ). type_spelled x src s tag t) (sym e ∙ q)
 
 -- a type's row is a tag's
-module _ (src : List ℕ) (s : State) (tag : Part) (from to end : ℕ) (t : List ℕ) where
+module _ (src : List ℕ) (s : State) (tag : Option (ℕ × ℕ)) (from to end : ℕ) (t : List ℕ) where
   pub type_is : (x : Out1) (o : Out1) → x ≡ tag_row Going s tag from to t → o ≡ behind1 src false end x → o ≡ type_row src s tag from to end t
   unfolding type_row tag_row
   type_is x o e h = h ∙ ap (behind1 src false end) e
@@ -115,16 +106,16 @@ module _ (src : List ℕ) (s : State) (tag : Part) (from to end : ℕ) (t : List
   unfolding type_row tag_row
   type_counts = pass_counts src false end (tag_given tag s from to t).answer (tag_given tag s from to t).state ∙ tag_counts Going s tag from to t
 
-pub types_count : (src : List ℕ) (s : State) (tag : Part) (t : List ℕ) → (type_item src s tag t).state.counts ≡ s.counts
+pub types_count : (src : List ℕ) (s : State) (tag : Option (ℕ × ℕ)) (t : List ℕ) → (type_item src s tag t).state.counts ≡ s.counts
 unfolding type_item
 types_count src s tag t = go (spelled_at src s.at)
   where
-    go : (x : Spelling) → (type_spelled x src s tag t).state.counts ≡ s.counts
-    go (Spelled kind from to end) = type_counts src s tag from to end t
-    go (Unspelled k) = refl
+    go : (x : Result (ℕ × ℕ × ℕ × ℕ) ℕ) → (type_spelled x src s tag t).state.counts ≡ s.counts
+    go (Ok (kind, from, to, end)) = type_counts src s tag from to end t
+    go (Err k) = refl
 
 -- an item of each list
-module _ (src : List ℕ) (s : State) (what : WordList) (tag : Part) (t t15 t16 : List ℕ) where
+module _ (src : List ℕ) (s : State) (what : WordList) (tag : Option (ℕ × ℕ)) (t t15 t16 : List ℕ) where
   pub item_token : (o : Out3) → what ≡ TokenList → o ≡ token_item src s tag t t15 t16 → o ≡ list_item src s what tag t t15 t16
   item_token o e h = rw e h
 
@@ -135,7 +126,7 @@ module _ (src : List ℕ) (s : State) (what : WordList) (tag : Part) (t t15 t16 
   item_type o e h = rw e (ap (λ (x : Out1). second3 t x t16) h)
 
 -- a turn of a list: it ends with the source or at `%`, else there is an item
-module _ (src : List ℕ) (what : WordList) (tag : Part) (s : State) (t t15 t16 : List ℕ) where
+module _ (src : List ℕ) (what : WordList) (tag : Option (ℕ × ℕ)) (s : State) (t t15 t16 : List ℕ) where
   abbrev here : Out3
   here = record { answer = Going; state = s; a = t; b = t15; c = t16 }
 
@@ -172,11 +163,11 @@ module _ (src : List ℕ) (s : State) (what : WordList) (l : Leading) where
   pub lead_types : what ≡ TypeList → l ≡ lead_tag src s true false → l ≡ lead_list what src s
   lead_types e h = rw e h
 
-pub lead_unused : (src : List ℕ) (s : State) (what : WordList) → what ≡ UnusedList → ◌≡◌ {A = Leading} (record { answer = Going; state = s; tag = Absent }) (lead_list what src s)
+pub lead_unused : (src : List ℕ) (s : State) (what : WordList) → what ≡ UnusedList → ◌≡◌ {A = Leading} (record { answer = Going; state = s; tag = None }) (lead_list what src s)
 lead_unused src s what e = rw e
 
 -- and the words behind it
-module _ (src : List ℕ) (s : State) (what : WordList) (t t15 t16 : List ℕ) (x : Answer) (u : State) (tag : Part) (q : ◌≡◌ {A = Leading} (record { answer = x; state = u; tag = tag }) (lead_list what src s)) where
+module _ (src : List ℕ) (s : State) (what : WordList) (t t15 t16 : List ℕ) (x : Answer) (u : State) (tag : Option (ℕ × ℕ)) (q : ◌≡◌ {A = Leading} (record { answer = x; state = u; tag = tag }) (lead_list what src s)) where
   body_by : list_led x (record { answer = x; state = u; tag = tag }) src what t t15 t16 ≡ list_body src s what t t15 t16
   unfolding list_body
   body_by = ap (λ (l : Leading). list_led l.answer l src what t t15 t16) q
@@ -194,11 +185,11 @@ module _ (src : List ℕ) (s : State) (what : WordList) (t t15 t16 : List ℕ) (
   body_refused f e = body_is (Refused f) e
 
 -- from behind the keyword on
-module _ (src : List ℕ) (s : State) (what : WordList) (t t15 t16 : List ℕ) (g : Gap) (q : g ≡ gap_at s.kind false src s.at) where
-  pub list_from_lem : (i n : ℕ) (o : Out3) → g ≡ GapTo i n → o ≡ list_body src (with_at s i) what t t15 t16 → o ≡ list_decl src s what t t15 t16
+module _ (src : List ℕ) (s : State) (what : WordList) (t t15 t16 : List ℕ) (g : Result (ℕ × ℕ) Refusal) (q : g ≡ gap_at s.kind false src s.at) where
+  pub list_from_lem : (i n : ℕ) (o : Out3) → g ≡ Ok (i, n) → o ≡ list_body src (with_at s i) what t t15 t16 → o ≡ list_decl src s what t t15 t16
   unfolding list_decl
-  list_from_lem i n o e h = h ∙ ap (λ (x : Gap). list_from x src s what t t15 t16) (sym e ∙ q)
+  list_from_lem i n o e h = h ∙ ap (λ (x : Result (ℕ × ℕ) Refusal). list_from x src s what t t15 t16) (sym e ∙ q)
 
-  pub list_refused : (f : Refusal) → g ≡ GapRefused f → ◌≡◌ {A = Out3} (record { answer = Refused f; state = s; a = t; b = t15; c = t16 }) (list_decl src s what t t15 t16)
+  pub list_refused : (f : Refusal) → g ≡ Err f → ◌≡◌ {A = Out3} (record { answer = Refused f; state = s; a = t; b = t15; c = t16 }) (list_decl src s what t t15 t16)
   unfolding list_decl
-  list_refused f e = ap (λ (x : Gap). list_from x src s what t t15 t16) (sym e ∙ q)
+  list_refused f e = ap (λ (x : Result (ℕ × ℕ) Refusal). list_from x src s what t t15 t16) (sym e ∙ q)

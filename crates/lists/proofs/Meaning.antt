@@ -1,4 +1,5 @@
 -- What `%token`, `%expect-unused` and `%type` lists do, by the words that stand in them. Assumes nothing.
+use Rattle.std.specs.Prelude.{Option, Ok, Result, Bool}
 use Prim.Native.Nat.{ℕ, suc, ◌*◌, ◌-◌, ◌≤◌, ◌<◌}
 use mathlib.Core.Path.{◌≡◌, refl, sym, ◌∙◌, ap, ap₂}
 use mathlib.Core.List.{List, [], ◌∷◌, Memᴰ}
@@ -6,16 +7,14 @@ use mathlib.Core.Bool.{true, false, false≢true}
 use mathlib.Core.Logic.{◌⊎◌}
 use native.Mathlib.Omega.{arith}
 use lib.ListN.{length, get_or}
+use Rattle.scan.proofs.Tuples.{ok_2, ok_3}
+use Rattle.grammar.specs.declared.Refusal.{Refusal}
 use Rattle.scan.specs.Loop.{turns}
 use Rattle.scan.specs.declared.Place.{Place}
-use Rattle.words.specs.declared.Name.TheVariants.{NameTo}
-use Rattle.words.specs.declared.Token.TheVariants.{Found}
 use Rattle.tables.specs.Layout.{tokens, declared, unused, tags, token_numbers, width}
 use Rattle.tables.specs.Table.{cell}
 use Rattle.grammar.specs.declared.State.{State}
-use Rattle.grammar.specs.declared.Part.{Part}
 use Rattle.grammar.specs.declared.Answer.TheVariants.{Going}
-use Rattle.grammar.specs.declared.Gap.TheVariants.{GapTo}
 use Rattle.grammar.specs.Cells.{kind_cells}
 use Rattle.grammar.specs.State.{Out3, count, with_at}
 use Rattle.marks.specs.Appended.{Appended}
@@ -30,18 +29,18 @@ use Rattle.lists.proofs.Marks.{Marks, Effect, marks_still, marks_on, effect_stil
 use Rattle.lists.proofs.Items.{token_marks, token_went, name_none, unused_went, type_went, runs, decl_cases}
 
 -- a list of tokens from o to z: the table, and where it goes on, its words and what they did
-record Said (src : List ℕ) (tag : Part) (o z : Out3) : Type 0 where
+record Said (src : List ℕ) (tag : Option (ℕ × ℕ)) (o z : Out3) : Type 0 where
   words : List ListWord
   written : Written o.state.kind (TokenWord o.state.kind src) src o.state.at z.state.at words
   effect : Effect src o.state.counts o.a z.state.counts z.a (word_places words)
   tags : length o.state.posix.n ≡ 3 → Appended (width tags) (count o.state tags) o.b (tag_rows tag (word_places words)) (count z.state tags) z.b
   numbers : length o.state.posix.n ≡ 3 → Appended (width token_numbers) (count o.state token_numbers) o.c (number_rows words) (count z.state token_numbers) z.c
 
-record Taken (src : List ℕ) (tag : Part) (o z : Out3) : Type 0 where
+record Taken (src : List ℕ) (tag : Option (ℕ × ℕ)) (o z : Out3) : Type 0 where
   marks : Marks o.state.counts o.a z.state.counts z.a
   said : z.answer ≡ Going → Said src tag o z
 
-module _ (src : List ℕ) (tag : Part) where
+module _ (src : List ℕ) (tag : Option (ℕ × ℕ)) where
   abbrev Tokens : Out3 → Out3 → Type 0
   Tokens o z = length o.state.counts.n ≡ 10 → Taken src tag o z
 
@@ -79,7 +78,7 @@ module _ (src : List ℕ) (tag : Part) where
             };
           }
 
-leads_one : (what : WordList) (kind : ℕ) (src : List ℕ) (i j k : ℕ) (g h : Part) → Leads what kind src i j g → Leads what kind src i k h → (j ≡ k) × (g ≡ h)
+leads_one : (what : WordList) (kind : ℕ) (src : List ℕ) (i j k : ℕ) (g h : Option (ℕ × ℕ)) → Leads what kind src i j g → Leads what kind src i k h → (j ≡ k) × (g ≡ h)
 leads_one TokenList kind src i j k g h x y = tag_before_one x y
 leads_one UnusedList kind src i j k g h x y = (x.0 ∙ sym y.0, x.1 ∙ sym y.1)
 leads_one TypeList kind src i j k g h x y = tag_before_one x y
@@ -92,14 +91,16 @@ module _ {kind : ℕ} {A : Type 0} {Word : ℕ → ℕ → A → Type 0} {src : 
   written_one (word e v g q) (over f) = absurd (false≢true (sym e ∙ f))
   written_one (word {k = k} {n = n} e v g q) (word {k = l} {n = m} f w h r) =
       let u = one _ _ _ _ _ v w in
-      let o : GapTo k n ≡ GapTo l m = sym g ∙ rw u.0 h in
+      let o : ◌≡◌ {A = Result (ℕ × ℕ) Refusal} (Ok (k, n)) (Ok (l, m)) = sym g ∙ rw u.0 h in
+      let o_parts = ok_2 o in
       let a : k ≡ l = cc in
       let z = written_one q (rw (← a) at r) in
       (z.0, ap₂ ◌∷◌ u.1 z.1)
 
-  pub listed_one : {what : WordList} {at j k : ℕ} {g h : Part} {xs ys : List A} → Listed what kind Word src at j g xs → Listed what kind Word src at k h ys → (j ≡ k) × (g ≡ h) × (xs ≡ ys)
+  pub listed_one : {what : WordList} {at j k : ℕ} {g h : Option (ℕ × ℕ)} {xs ys : List A} → Listed what kind Word src at j g xs → Listed what kind Word src at k h ys → (j ≡ k) × (g ≡ h) × (xs ≡ ys)
   listed_one {what} {g = g} {h = h} p q =
-      let o : GapTo p.from p.lines ≡ GapTo q.from q.lines = sym p.gap ∙ q.gap in
+      let o : ◌≡◌ {A = Result (ℕ × ℕ) Refusal} (Ok (p.from, p.lines)) (Ok (q.from, q.lines)) = sym p.gap ∙ q.gap in
+      let o_parts = ok_2 o in
       let a : p.from ≡ q.from = cc in
       let l = leads_one what kind src p.from p.head q.head g h p.lead (rw (← a) at q.lead) in
       let w = written_one p.words (rw (← l.0) at q.words) in
@@ -111,13 +112,14 @@ token_one kind src i e f x y p q = worded_one p q
 
 pub unused_one : (src : List ℕ) (i e f : ℕ) (x y : List ℕ) → UnusedWord src i e x → UnusedWord src i f y → (e ≡ f) × (x ≡ y)
 unused_one src i e f x y (rule p) (rule q) =
-    let o : NameTo e ≡ NameTo f = sym p ∙ q in
+    let o : ◌≡◌ {A = Result ℕ ℕ} (Ok e) (Ok f) = sym p ∙ q in
     let a : e ≡ f = cc in
     (a, ap (kind_cells 1 i) a)
 unused_one src i e f x y (rule p) (quote q w) = absurd (name_none e _ (sym p ∙ q))
 unused_one src i e f x y (quote p v) (rule q) = absurd (name_none f _ (sym q ∙ p))
 unused_one src i e f x y (quote {p = g} p v) (quote {p = h} q w) =
-    let o : Found g e true ≡ Found h f true = sym v ∙ w in
+    let o : ◌≡◌ {A = Result (Place × ℕ × Bool) ℕ} (Ok (g, e, true)) (Ok (h, f, true)) = sym v ∙ w in
+    let o_parts = ok_3 o in
     let a : g ≡ h = cc in
     (cc, ap (λ (z : Place). kind_cells 2 z.from z.to) a)
 
@@ -133,7 +135,7 @@ module _ (src : List ℕ) (s : State) (t t15 t16 : List ℕ) (ten : length s.cou
 
   -- its words and what they did, where it goes on; beside them the table, whatever the answer
   record Heard (o : Out3) : Type 0 where
-    tag : Part
+    tag : Option (ℕ × ℕ)
     words : List ListWord
     listed : TokensListed s.kind src s.at o.state.at tag words
     effect : Effect src s.counts t o.state.counts o.a (word_places words)
@@ -163,7 +165,7 @@ module _ (src : List ℕ) (s : State) (t t15 t16 : List ℕ) (ten : length s.cou
       })
 
   -- Where it goes on, words stand in it up to where it came, behind a tag or none: it runs to the next `%`.
-  pub token_words : after.answer ≡ Going → (tag : Part) × (ws : List ListWord) × TokensListed s.kind src s.at after.state.at tag ws
+  pub token_words : after.answer ≡ Going → (tag : Option (ℕ × ℕ)) × (ws : List ListWord) × TokensListed s.kind src s.at after.state.at tag ws
   token_words g = let x = begun.said g in (x.tag, x.words, x.listed)
 
   -- Every row that it adds is declared, whatever the answer,
@@ -178,7 +180,7 @@ module _ (src : List ℕ) (s : State) (t t15 t16 : List ℕ) (ten : length s.cou
   token_stays_lem r h = stays t after.a r (begun.marks.old r h)
 
   -- Where it goes on: whichever words stand in it, behind whichever tag,
-  module _ (g : after.answer ≡ Going) (j : ℕ) (tag : Part) (ws : List ListWord) (l : TokensListed s.kind src s.at j tag ws) where
+  module _ (g : after.answer ≡ Going) (j : ℕ) (tag : Option (ℕ × ℕ)) (ws : List ListWord) (l : TokensListed s.kind src s.at j tag ws) where
     same : (tag ≡ (begun.said g).tag) × (ws ≡ (begun.said g).words)
     same = let x = listed_one (token_one s.kind src) l (begun.said g).listed in (x.1, x.2)
 
@@ -211,7 +213,7 @@ record Counted (src : List ℕ) (o z : Out3) : Type 0 where
   written : Written o.state.kind (UnusedWord src) src o.state.at z.state.at rows
   added : Appended (width unused) (count o.state unused) o.a rows (count z.state unused) z.a
 
-module _ (src : List ℕ) (tag : Part) where
+module _ (src : List ℕ) (tag : Option (ℕ × ℕ)) where
   abbrev Unused : Out3 → Out3 → Type 0
   Unused o z = length o.state.counts.n ≡ 10 → z.answer ≡ Going → Counted src o z
 
@@ -258,12 +260,12 @@ module _ (src : List ℕ) (s : State) (t t15 t16 : List ℕ) (ten : length s.cou
       rw (listed_one (unused_one src) l k).2 x
 
 -- a list of types from o to z, where it goes on
-record Typings (src : List ℕ) (tag : Part) (o z : Out3) : Type 0 where
+record Typings (src : List ℕ) (tag : Option (ℕ × ℕ)) (o z : Out3) : Type 0 where
   places : List Place
   written : Written o.state.kind (TypeWord src) src o.state.at z.state.at places
   added : length o.state.posix.n ≡ 3 → Appended (width tags) (count o.state tags) o.b (tag_rows tag places) (count z.state tags) z.b
 
-module _ (src : List ℕ) (tag : Part) where
+module _ (src : List ℕ) (tag : Option (ℕ × ℕ)) where
   abbrev Types : Out3 → Out3 → Type 0
   Types o z = z.answer ≡ Going → Typings src tag o z
 
@@ -289,11 +291,11 @@ module _ (src : List ℕ) (s : State) (t t15 t16 : List ℕ) where
   abbrev typed : Out3
   typed = list_decl src s TypeList t t15 t16
 
-  abbrev TagsAdded : Out3 → Part → List Place → Type 0
+  abbrev TagsAdded : Out3 → Option (ℕ × ℕ) → List Place → Type 0
   TagsAdded o tag ps = length s.posix.n ≡ 3 → Appended (width tags) (count s tags) t15 (tag_rows tag ps) (count o.state tags) o.b
 
   abbrev Typed : Out3 → Type 0
-  Typed o = o.answer ≡ Going → (tag : Part) × (ps : List Place) × TypesListed s.kind src s.at o.state.at tag ps × TagsAdded o tag ps
+  Typed o = o.answer ≡ Going → (tag : Option (ℕ × ℕ)) × (ps : List Place) × TypesListed s.kind src s.at o.state.at tag ps × TagsAdded o tag ps
 
   told : Typed typed
   unfolding percent_list
@@ -303,11 +305,11 @@ module _ (src : List ℕ) (s : State) (t t15 t16 : List ℕ) where
       (g, x.places, record { from = i; lines = n; head = j; gap = e; lead = l; words = x.written }, x.added))
 
   -- Where it goes on, words stand in it up to where it came, behind a tag,
-  pub type_words : typed.answer ≡ Going → (tag : Part) × (ps : List Place) × TypesListed s.kind src s.at typed.state.at tag ps
+  pub type_words : typed.answer ≡ Going → (tag : Option (ℕ × ℕ)) × (ps : List Place) × TypesListed s.kind src s.at typed.state.at tag ps
   type_words g = let (tag, ps, l, x) = told g in (tag, ps, l)
 
   -- and table 15 has exactly one row more for each of them, in order, with the tag.
-  pub type_tags : typed.answer ≡ Going → (j : ℕ) (tag : Part) (ps : List Place) → TypesListed s.kind src s.at j tag ps → length s.posix.n ≡ 3 → Appended (width tags) (count s tags) t15 (tag_rows tag ps) (count typed.state tags) typed.b
+  pub type_tags : typed.answer ≡ Going → (j : ℕ) (tag : Option (ℕ × ℕ)) (ps : List Place) → TypesListed s.kind src s.at j tag ps → length s.posix.n ≡ 3 → Appended (width tags) (count s tags) t15 (tag_rows tag ps) (count typed.state tags) typed.b
   type_tags g j tag ps l =
       let (h, qs, k, x) = told g in
       let y = listed_one (type_one src) l k in

@@ -7,9 +7,8 @@ ghost use Rattle.marks.specs.Marks.{Leading};
 ghost use Rattle.lists.specs.Lists.{token_item, spelled_at, unused_row, unused_item, type_row, type_item, list_item, percent_list, lead_list, list_body, list_decl};
 ghost use Rattle.lists.specs.Written.{Spells, of_tokens};
 
-use grammar::{Answer, Cause, Gap, Part, Refusal, State, Step};
+use grammar::{Answer, Cause, Refusal, State, Step};
 use marks::Lead;
-use words::{Name, Token};
 
 // Which list it is.
 #[derive(Clone, Copy)]
@@ -19,18 +18,11 @@ pub enum WordList {
     TypeList,
 }
 
-// A name or a quoted token: its kind, its place and its end; or where it was sought.
-#[derive(Clone, Copy)]
-pub enum Spelling {
-    Spelled(u32, usize, usize, usize),
-    Unspelled(usize),
-}
-
 // One token of a `%token` list, the row of its tag, and what stands behind it.
 pub fn token_item(
     src: &[u8],
     s: State,
-    tag: Part,
+    tag: Option<(u32, u32)>,
     t1: &mut [u32],
     t15: &mut [u32],
     t16: &mut [u32],
@@ -43,31 +35,31 @@ pub fn token_item(
 {
     let at = s.at;
     match words::parse_token(src, at) {
-        Token::Found(p, end, _) => {
+        Ok((p, end, _)) => {
             let from = p.from as u32;
             let to = p.to as u32;
             let r = grammar::enter(src, s, from, to, true, t1, ix);
             let q = marks::tag_row(r, tag, from, to, t15);
             marks::behind_word(src, q, from, to, end, false, t16)
         }
-        Token::NoToken(k) => Step {
+        Err(k) => Step {
             answer: Answer::Refused(Refusal::Fault(Cause::IllegalString, k as u32)),
             state: s,
         },
     }
 }
 
-// The word that stands at `at`.
-pub fn spelled(src: &[u8], at: usize) -> Spelling
+// The name or the quoted token at `at`: its kind, its place and its end; or where it was sought.
+pub fn spelled(src: &[u8], at: usize) -> Result<(u32, usize, usize, usize), usize>
     requires { at ≤ length src.now }
     ensures is { result ≡ spelled_at src.now at }
     ensures moved { Spells src.now at result }
 {
     match words::parse_name(src, at) {
-        Name::NameTo(j) => Spelling::Spelled(1, at, j, j),
-        Name::NoName(_) => match words::parse_token(src, at) {
-            Token::Found(p, end, _) => Spelling::Spelled(2, p.from, p.to, end),
-            Token::NoToken(k) => Spelling::Unspelled(k),
+        Ok(j) => Ok((1, at, j, j)),
+        Err(_) => match words::parse_token(src, at) {
+            Ok((p, end, _)) => Ok((2, p.from, p.to, end)),
+            Err(k) => Err(k),
         },
     }
 }
@@ -99,10 +91,8 @@ pub fn unused_item(src: &[u8], s: State, t6: &mut [u32]) -> Step
 {
     let at = s.at;
     match spelled(src, at) {
-        Spelling::Spelled(kind, from, to, end) => {
-            unused_row(src, s, kind, from as u32, to as u32, end, t6)
-        }
-        Spelling::Unspelled(k) => Step {
+        Ok((kind, from, to, end)) => { unused_row(src, s, kind, from as u32, to as u32, end, t6) }
+        Err(k) => Step {
             answer: Answer::Refused(Refusal::Fault(Cause::UnknownSymbol, k as u32)),
             state: s,
         },
@@ -113,7 +103,7 @@ pub fn unused_item(src: &[u8], s: State, t6: &mut [u32]) -> Step
 pub fn type_row(
     src: &[u8],
     s: State,
-    tag: Part,
+    tag: Option<(u32, u32)>,
     from: u32,
     to: u32,
     end: usize,
@@ -133,7 +123,7 @@ pub fn type_row(
 }
 
 // One word of a `%type` list, and the spacing behind it.
-pub fn type_item(src: &[u8], s: State, tag: Part, t15: &mut [u32]) -> Step
+pub fn type_item(src: &[u8], s: State, tag: Option<(u32, u32)>, t15: &mut [u32]) -> Step
     requires { Here src.now s.at }
     ensures is { ◌≡◌ {A = Out1} (record { answer = result.answer; state = result.state; a = t15.new }) (type_item src.now s tag t15.old) }
     ensures moved { Moves src.now s.at result.answer result.state.at }
@@ -141,10 +131,8 @@ pub fn type_item(src: &[u8], s: State, tag: Part, t15: &mut [u32]) -> Step
 {
     let at = s.at;
     match spelled(src, at) {
-        Spelling::Spelled(_, from, to, end) => {
-            type_row(src, s, tag, from as u32, to as u32, end, t15)
-        }
-        Spelling::Unspelled(k) => Step {
+        Ok((_, from, to, end)) => { type_row(src, s, tag, from as u32, to as u32, end, t15) }
+        Err(k) => Step {
             answer: Answer::Refused(Refusal::Fault(Cause::UnknownSymbol, k as u32)),
             state: s,
         },
@@ -155,7 +143,7 @@ pub fn list_item(
     src: &[u8],
     s: State,
     what: WordList,
-    tag: Part,
+    tag: Option<(u32, u32)>,
     t: &mut [u32],
     t15: &mut [u32],
     t16: &mut [u32],
@@ -178,7 +166,7 @@ pub fn percent_list(
     src: &[u8],
     s: State,
     what: WordList,
-    tag: Part,
+    tag: Option<(u32, u32)>,
     t: &mut [u32],
     t15: &mut [u32],
     t16: &mut [u32],
@@ -233,7 +221,7 @@ pub fn lead_list(src: &[u8], s: State, what: WordList) -> Lead
         WordList::UnusedList => Lead {
             answer: Answer::Going,
             state: s,
-            tag: Part::Absent,
+            tag: None,
         },
         WordList::TypeList => marks::lead_tag(src, s, true, false),
     }
@@ -287,12 +275,12 @@ pub fn list_decl(
 {
     let at = s.at;
     match grammar::pass_gap(src, s.kind, at, false) {
-        Gap::GapTo(i, _) => {
+        Ok((i, _)) => {
             let mut next = s;
             next.at = i;
             list_body(src, next, what, t, t15, t16, ix)
         }
-        Gap::GapRefused(f) => Step {
+        Err(f) => Step {
             answer: Answer::Refused(f),
             state: s,
         },

@@ -2,26 +2,22 @@
 #![tactic(auto)]
 
 ghost use Rattle.std.specs.Prelude.{◌≡◌};
-ghost use Rattle.reader.specs.declared.Verdict.TheVariants.{Accepted};
 ghost use Rattle.validation.specs.Faults.{first, faults};
 ghost use Rattle.validation.specs.Walk.{Walkable};
 ghost use Rattle.loading.specs.Load.{judged, LoadResult, load_all};
 
 use grammar::{Counts, PosixCounts, Refusal, Singles};
-use reader::Verdict;
-use validation::{Flaw, Validity};
+use validation::{Flaw, ValidityError};
 
 #[derive(Clone, Copy)]
-pub enum Judgement {
-    // The end that was reached.
-    Loaded(u32),
+pub enum LoadError {
     NotRead(Refusal),
     NotValid(Flaw),
 }
 
 #[derive(Clone, Copy)]
 pub struct Loading {
-    pub answer: Judgement,
+    pub answer: Result<u32, LoadError>,
     pub counts: Counts,
     pub posix: PosixCounts,
     pub singles: Singles,
@@ -43,14 +39,14 @@ pub fn judge(
     t9: &[u32],
     i1: &[u32],
     i7: &[u32],
-) -> Judgement
+) -> Result<u32, LoadError>
     requires { Walkable src.now c t1.now t7.now t8.now t9.now i7.now }
-    ensures { result ≡ judged (Accepted end) (first (faults src.now c g t1.now t2.now t4.now t5.now t6.now t7.now t8.now t9.now)) }
+    ensures { result ≡ judged (Ok end) (first (faults src.now c g t1.now t2.now t4.now t5.now t6.now t7.now t8.now t9.now)) }
 {
     match validator::find_fault(src, c, g, t1, t2, t4, t5, t6, t7, t8, t9, i1, i7) {
-        Validity::Valid => Judgement::Loaded(end),
-        Validity::UnsoundTables => Judgement::Loaded(end),
-        Validity::Invalid(f) => Judgement::NotValid(f),
+        Ok(()) => Ok(end),
+        Err(ValidityError::UnsoundTables) => Ok(end),
+        Err(ValidityError::Invalid(f)) => Err(LoadError::NotValid(f)),
     }
 }
 
@@ -74,7 +70,7 @@ pub fn load(
     t16: &mut [u32],
     t17: &mut [u32],
 ) -> Loading
-    ensures { ◌≡◌ {A = LoadResult} (record { answer = result.answer; counts = result.counts; posix = result.posix; singles = result.singles; tables = record { t1 = t1.exit.now; t2 = t2.new; t3 = t3.new; t4 = t4.new; t5 = t5.new; t6 = t6.new; t7 = t7.new; t8 = t8.new; t9 = t9.new; t10 = t10.new; t15 = t15.new; t16 = t16.new; t17 = t17.new }; indexes = record { tokens = i1.new; rules = i7.new } }) (load_all src.now kind (record { t1 = t1.entry.now; t2 = t2.old; t3 = t3.old; t4 = t4.old; t5 = t5.old; t6 = t6.old; t7 = t7.old; t8 = t8.old; t9 = t9.old; t10 = t10.old; t15 = t15.old; t16 = t16.old; t17 = t17.old }) (record { tokens = i1.old; rules = i7.old })) }
+    ensures { ◌≡◌ {A = LoadResult} (record { answer = result.answer; counts = result.counts; posix = result.posix; singles = result.singles; tables = record { t1 = t1.new; t2 = t2.new; t3 = t3.new; t4 = t4.new; t5 = t5.new; t6 = t6.new; t7 = t7.new; t8 = t8.new; t9 = t9.new; t10 = t10.new; t15 = t15.new; t16 = t16.new; t17 = t17.new }; indexes = record { tokens = i1.new; rules = i7.new } }) (load_all src.now kind (record { t1 = t1.old; t2 = t2.old; t3 = t3.old; t4 = t4.old; t5 = t5.old; t6 = t6.old; t7 = t7.old; t8 = t8.old; t9 = t9.old; t10 = t10.old; t15 = t15.old; t16 = t16.old; t17 = t17.old }) (record { tokens = i1.old; rules = i7.old })) }
 {
     let r = runs::read(
         src, kind, t1, t2, t3, t4, t5, t6, t7, t8, t9, t10, t15, t16, t17, i1, i7,
@@ -84,7 +80,7 @@ pub fn load(
     let p = r.posix;
     let g = r.singles;
     match v {
-        Verdict::Accepted(end) => {
+        Ok(end) => {
             let j = judge(src, end, c, g, t1, t2, t4, t5, t6, t7, t8, t9, i1, i7);
             Loading {
                 answer: j,
@@ -93,8 +89,8 @@ pub fn load(
                 singles: g,
             }
         }
-        Verdict::Rejected(f) => Loading {
-            answer: Judgement::NotRead(f),
+        Err(f) => Loading {
+            answer: Err(LoadError::NotRead(f)),
             counts: c,
             posix: p,
             singles: g,

@@ -1,4 +1,5 @@
 -- Tags and numbers keep soundness so far, whatever their answer. Assumes nothing.
+use Rattle.std.specs.Prelude.{Option, Some, None, Result, Ok, Err}
 use Prim.Native.Nat.{ℕ, ◌≤◌, ◌<◌}
 use mathlib.Core.Path.{refl}
 use mathlib.Core.List.{List}
@@ -6,18 +7,17 @@ use mathlib.Core.Bool.{Bool, true, false}
 use native.Mathlib.Omega.{arith}
 use lib.Dec.{eqb, ltb}
 use lib.ListN.{length}
-use Rattle.words.specs.declared.Int.{Int}
-use Rattle.words.specs.declared.Int.TheVariants.{Value, NoDigits, TooLarge}
-use Rattle.words.specs.declared.Tag.{Tag}
-use Rattle.words.specs.declared.Tag.TheVariants.{TagTo, OpenTag, NoTag}
+use Rattle.words.specs.declared.IntError.{IntError}
+use Rattle.words.specs.declared.IntError.TheVariants.{NoDigits, TooLarge}
+use Rattle.words.specs.declared.TagError.{TagError}
+use Rattle.scan.specs.declared.Place.{Place}
+use Rattle.words.specs.declared.TagError.TheVariants.{OpenTag, NoTag}
 use Rattle.words.specs.Numbers.{int_at, Counted}
 use Rattle.words.specs.Tags.{tag_at, Tagged}
 use Rattle.words.proofs.Numbers.{int_placed}
 use Rattle.words.proofs.Tags.{tag_placed}
 use Rattle.tables.specs.Layout.{tags, token_numbers}
 use Rattle.grammar.specs.declared.State.{State}
-use Rattle.grammar.specs.declared.Part.{Part}
-use Rattle.grammar.specs.declared.Part.TheVariants.{Absent, At}
 use Rattle.grammar.specs.declared.Answer.{Answer}
 use Rattle.grammar.specs.declared.Answer.TheVariants.{Going, Done, Refused}
 use Rattle.grammar.specs.Cells.{tag_cells, number_cells}
@@ -42,15 +42,15 @@ module _ {src : List ℕ} {done : ℕ} {s : State} {T : AllTables} (f : Far src 
       none true i = record { far = f; tag = tt }
       none false i = record { far = f; tag = tt }
 
-      tag : (t : Tag) → Tagged src s.at t → LeadFar src done T (tag_found t src s wanted line)
-      tag (TagTo p end) x =
+      tag : (t : Result (Place × ℕ) TagError) → Tagged src s.at t → LeadFar src done T (tag_found t src s wanted line)
+      tag (Ok (p, end)) x =
           let a = x.0 in
           let b = x.1 in
           let c = x.2 in
           let d = x.3 in
           record { far = past_far f line end (omega arith) d; tag = record { onward = b; inside = omega arith } }
-      tag (OpenTag i) x = record { far = f; tag = tt }
-      tag (NoTag i) x = none wanted i
+      tag (Err (OpenTag i)) x = record { far = f; tag = tt }
+      tag (Err (NoTag i)) x = none wanted i
 
       by : Bool → Leading
       by b = elim b [ true ↦ tag_found (tag_at src s.at) src s wanted line | false ↦ untagged (record { answer = Going; state = s }) ]
@@ -60,10 +60,10 @@ module _ {src : List ℕ} {done : ℕ} {s : State} {T : AllTables} (f : Far src 
       kind false = record { far = f; tag = tt }
 
   -- a row for a word of a list that has a tag,
-  pub tag_held : (a : Answer) (g : Part) (from to : ℕ) → Lies src g → Passed src from to → Held src done T tags s (tag_row a s g from to T.t15)
+  pub tag_held : (a : Answer) (g : Option (ℕ × ℕ)) (from to : ℕ) → Lies src g → Passed src from to → Held src done T tags s (tag_row a s g from to T.t15)
   unfolding tag_row
-  tag_held Going Absent from to l p = record { far = f; stays = refl; level = refl }
-  tag_held Going (At i j) from to l p = push_held f tags (omega arith) (λ e. omega arith) (tag_cells from to i j) refl (record { name = p; tag = l }) (λ r h. tt)
+  tag_held Going None from to l p = record { far = f; stays = refl; level = refl }
+  tag_held Going (Some (i, j)) from to l p = push_held f tags (omega arith) (λ e. omega arith) (tag_cells from to i j) refl (record { name = p; tag = l }) (λ r h. tt)
   tag_held Done g from to l p = record { far = f; stays = refl; level = refl }
   tag_held (Refused e) g from to l p = record { far = f; stays = refl; level = refl }
 
@@ -79,10 +79,10 @@ module _ {src : List ℕ} {done : ℕ} {s : State} {T : AllTables} (f : Far src 
       large v end h k true = f
       large v end h k false = behind1_far line end _ (omega arith) k (push_held f token_numbers (omega arith) (λ e. omega arith) (number_cells from to v) refl (record { name = p }) (λ r l. tt))
 
-      int : (i : Int) → Counted src s.at i → Far1 src done T token_numbers (number_given i src line from to s T.t16)
-      int (Value v end) x = large v end x.0 x.1 (ltb 4294967295 v)
-      int (NoDigits k) x = f
-      int (TooLarge k) x = f
+      int : (i : Result (ℕ × ℕ) IntError) → Counted src s.at i → Far1 src done T token_numbers (number_given i src line from to s T.t16)
+      int (Ok (v, end)) x = large v end x.0 x.1 (ltb 4294967295 v)
+      int (Err (NoDigits k)) x = f
+      int (Err (TooLarge k)) x = f
 
       by : Bool → Out1
       by b = elim b [ true ↦ number_given (int_at src s.at) src line from to s T.t16 | false ↦ record { answer = Going; state = s; a = T.t16 } ]

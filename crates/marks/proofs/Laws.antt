@@ -1,4 +1,5 @@
 -- Tags and numbers: one law for each answer. Assumes nothing.
+use Rattle.std.specs.Prelude.{Option, Some, None, Result, Ok, Err}
 use Prim.Native.Nat.{ℕ, ◌≤◌, ◌<◌}
 use mathlib.Core.Path.{◌≡◌, refl, sym, ap, ◌∙◌}
 use mathlib.Core.List.{List}
@@ -8,23 +9,19 @@ use lib.Dec.{eqb, ltb}
 use lib.ListN.{length}
 use borrow.Author.Tests.{eq-eqb, ne_eqb, lt-ltb, le-ltb}
 use Rattle.scan.specs.declared.Place.{Place}
-use Rattle.words.specs.declared.Int.{Int}
-use Rattle.words.specs.declared.Int.TheVariants.{Value, NoDigits, TooLarge}
-use Rattle.words.specs.declared.Tag.{Tag}
-use Rattle.words.specs.declared.Tag.TheVariants.{TagTo, OpenTag, NoTag}
+use Rattle.words.specs.declared.IntError.{IntError}
+use Rattle.words.specs.declared.IntError.TheVariants.{NoDigits, TooLarge}
+use Rattle.words.specs.declared.TagError.{TagError}
+use Rattle.words.specs.declared.TagError.TheVariants.{OpenTag, NoTag}
 use Rattle.words.specs.Numbers.{int_at}
 use Rattle.words.specs.Tags.{tag_at, Tagged}
 use Rattle.tables.specs.Layout.{tags, token_numbers, posix_from}
 use Rattle.grammar.specs.declared.State.{State}
-use Rattle.grammar.specs.declared.Part.{Part}
-use Rattle.grammar.specs.declared.Part.TheVariants.{Absent, At}
 use Rattle.grammar.specs.declared.Cause.TheVariants.{IntegerTooLarge, TagNotClosed, TagMissing}
 use Rattle.grammar.specs.declared.Refusal.{Refusal}
 use Rattle.grammar.specs.declared.Refusal.TheVariants.{Fault}
 use Rattle.grammar.specs.declared.Answer.{Answer}
 use Rattle.grammar.specs.declared.Answer.TheVariants.{Going, Done, Refused}
-use Rattle.grammar.specs.declared.Gap.{Gap}
-use Rattle.grammar.specs.declared.Gap.TheVariants.{GapTo, GapRefused}
 use Rattle.grammar.specs.Cells.{tag_cells, number_cells}
 use Rattle.grammar.specs.State.{Out0, Out1, Onward, Gapped, with_at, gap_at, push_row, past, past_gap, pass_on, tied1, behind1, refused}
 use Rattle.grammar.proofs.Kept.{gapped}
@@ -35,36 +32,36 @@ use Rattle.marks.specs.Marks.{Leading, untagged, tagged_by, no_tag, tag_found, l
 -- the tag of a list
 module _ (src : List ℕ) (s : State) (wanted line : Bool) where
   -- kinds 1 to 3 have none
-  pub lead_none : (s.kind ≡ 4 → ⊥) → ◌≡◌ {A = Leading} (record { answer = Going; state = s; tag = Absent }) (lead_tag src s wanted line)
+  pub lead_none : (s.kind ≡ 4 → ⊥) → ◌≡◌ {A = Leading} (record { answer = Going; state = s; tag = None }) (lead_tag src s wanted line)
   unfolding lead_tag
   lead_none d = rw (ne_eqb s.kind 4 d, lead_tag)
 
-  module _ (k : s.kind ≡ 4) (r : Tag) (q : r ≡ tag_at src s.at) where
+  module _ (k : s.kind ≡ 4) (r : Result (Place × ℕ) TagError) (q : r ≡ tag_at src s.at) where
     lead_by : tag_found r src s wanted line ≡ lead_tag src s wanted line
     unfolding lead_tag
-    lead_by = rw (eq-eqb s.kind 4 k, lead_tag) (ap (λ (t : Tag). tag_found t src s wanted line) q)
+    lead_by = rw (eq-eqb s.kind 4 k, lead_tag) (ap (λ (t : Result (Place × ℕ) TagError). tag_found t src s wanted line) q)
 
-    pub lead_found : (p : Place) (end : ℕ) (a : Answer) (u : State) → r ≡ TagTo p end → ◌≡◌ {A = Out0} (record { answer = a; state = u }) (past_gap src line end s) → ◌≡◌ {A = Leading} (record { answer = a; state = u; tag = At p.from p.to }) (lead_tag src s wanted line)
-    lead_found p end a u e h = ap (λ (o : Out0). tagged_by o p.from p.to) h ∙ ap (λ (t : Tag). tag_found t src s wanted line) (sym e) ∙ lead_by
+    pub lead_found : (p : Place) (end : ℕ) (a : Answer) (u : State) → r ≡ Ok (p, end) → ◌≡◌ {A = Out0} (record { answer = a; state = u }) (past_gap src line end s) → ◌≡◌ {A = Leading} (record { answer = a; state = u; tag = Some (p.from, p.to) }) (lead_tag src s wanted line)
+    lead_found p end a u e h = ap (λ (o : Out0). tagged_by o p.from p.to) h ∙ ap (λ (t : Result (Place × ℕ) TagError). tag_found t src s wanted line) (sym e) ∙ lead_by
 
-    pub lead_open : (i : ℕ) → r ≡ OpenTag i → ◌≡◌ {A = Leading} (record { answer = Refused (Fault TagNotClosed i); state = s; tag = Absent }) (lead_tag src s wanted line)
-    lead_open i e = ap (λ (t : Tag). tag_found t src s wanted line) (sym e) ∙ lead_by
+    pub lead_open : (i : ℕ) → r ≡ Err (OpenTag i) → ◌≡◌ {A = Leading} (record { answer = Refused (Fault TagNotClosed i); state = s; tag = None }) (lead_tag src s wanted line)
+    lead_open i e = ap (λ (t : Result (Place × ℕ) TagError). tag_found t src s wanted line) (sym e) ∙ lead_by
 
-    pub lead_wanted : (i : ℕ) → r ≡ NoTag i → wanted ≡ true → ◌≡◌ {A = Leading} (record { answer = Refused (Fault TagMissing i); state = s; tag = Absent }) (lead_tag src s wanted line)
-    lead_wanted i e w = ap (λ (b : Bool). no_tag b i s) (sym w) ∙ ap (λ (t : Tag). tag_found t src s wanted line) (sym e) ∙ lead_by
+    pub lead_wanted : (i : ℕ) → r ≡ Err (NoTag i) → wanted ≡ true → ◌≡◌ {A = Leading} (record { answer = Refused (Fault TagMissing i); state = s; tag = None }) (lead_tag src s wanted line)
+    lead_wanted i e w = ap (λ (b : Bool). no_tag b i s) (sym w) ∙ ap (λ (t : Result (Place × ℕ) TagError). tag_found t src s wanted line) (sym e) ∙ lead_by
 
-    pub lead_without : (i : ℕ) → r ≡ NoTag i → wanted ≡ false → ◌≡◌ {A = Leading} (record { answer = Going; state = s; tag = Absent }) (lead_tag src s wanted line)
-    lead_without i e w = ap (λ (b : Bool). no_tag b i s) (sym w) ∙ ap (λ (t : Tag). tag_found t src s wanted line) (sym e) ∙ lead_by
+    pub lead_without : (i : ℕ) → r ≡ Err (NoTag i) → wanted ≡ false → ◌≡◌ {A = Leading} (record { answer = Going; state = s; tag = None }) (lead_tag src s wanted line)
+    lead_without i e w = ap (λ (b : Bool). no_tag b i s) (sym w) ∙ ap (λ (t : Result (Place × ℕ) TagError). tag_found t src s wanted line) (sym e) ∙ lead_by
 
 -- where a tag lies
-module _ (src : List ℕ) (at : ℕ) (r : Tag) (x : Tagged src at r) where
-  pub tag_placed : (p : Place) (end : ℕ) → r ≡ TagTo p end → Tagged src at (TagTo p end)
+module _ (src : List ℕ) (at : ℕ) (r : Result (Place × ℕ) TagError) (x : Tagged src at r) where
+  pub tag_placed : (p : Place) (end : ℕ) → r ≡ Ok (p, end) → Tagged src at (Ok (p, end))
   tag_placed p end e = rw e at x
 
-  pub open_placed : (i : ℕ) → r ≡ OpenTag i → i ≡ at
+  pub open_placed : (i : ℕ) → r ≡ Err (OpenTag i) → i ≡ at
   open_placed i e = rw e at x
 
-  pub none_placed : (i : ℕ) → r ≡ NoTag i → i ≡ at
+  pub none_placed : (i : ℕ) → r ≡ Err (NoTag i) → i ≡ at
   none_placed i e = rw e at x
 
 -- a step that stays where it stood
@@ -73,19 +70,19 @@ standing src at a = record { forth = λ h. omega arith; inside = λ h. h; beyond
 
 -- the row of a tag
 module _ (a : Answer) (s : State) (from to : ℕ) (t : List ℕ) where
-  pub tag_none : (g : Part) → a ≡ Going → g ≡ Absent → ◌≡◌ {A = Out1} (record { answer = Going; state = s; a = t }) (tag_row a s g from to t)
+  pub tag_none : (g : Option (ℕ × ℕ)) → a ≡ Going → g ≡ None → ◌≡◌ {A = Out1} (record { answer = Going; state = s; a = t }) (tag_row a s g from to t)
   unfolding tag_row
   tag_none g e h = rw (e, h)
 
-  pub tag_pushed : (g : Part) (i j : ℕ) (o : Out1) → a ≡ Going → g ≡ At i j → o ≡ push_row s tags (tag_cells from to i j) t → o ≡ tag_row a s g from to t
+  pub tag_pushed : (g : Option (ℕ × ℕ)) (i j : ℕ) (o : Out1) → a ≡ Going → g ≡ Some (i, j) → o ≡ push_row s tags (tag_cells from to i j) t → o ≡ tag_row a s g from to t
   unfolding tag_row
   tag_pushed g i j o e h q = rw (e, h) q
 
-  pub tag_done : (g : Part) → a ≡ Done → ◌≡◌ {A = Out1} (record { answer = Done; state = s; a = t }) (tag_row a s g from to t)
+  pub tag_done : (g : Option (ℕ × ℕ)) → a ≡ Done → ◌≡◌ {A = Out1} (record { answer = Done; state = s; a = t }) (tag_row a s g from to t)
   unfolding tag_row
   tag_done g e = rw e
 
-  pub tag_refused : (g : Part) (f : Refusal) → a ≡ Refused f → ◌≡◌ {A = Out1} (record { answer = Refused f; state = s; a = t }) (tag_row a s g from to t)
+  pub tag_refused : (g : Option (ℕ × ℕ)) (f : Refusal) → a ≡ Refused f → ◌≡◌ {A = Out1} (record { answer = Refused f; state = s; a = t }) (tag_row a s g from to t)
   unfolding tag_row
   tag_refused g f e = rw e
 
@@ -95,25 +92,25 @@ module _ (src : List ℕ) (line : Bool) (from to : ℕ) (s : State) (t : List �
   unfolding number_behind
   number_other d = rw (ne_eqb s.kind 4 d, number_behind)
 
-  module _ (k : s.kind ≡ 4) (r : Int) (q : r ≡ int_at src s.at) where
+  module _ (k : s.kind ≡ 4) (r : Result (ℕ × ℕ) IntError) (q : r ≡ int_at src s.at) where
     number_by : number_given r src line from to s t ≡ number_behind src line from to s t
     unfolding number_behind
-    number_by = rw (eq-eqb s.kind 4 k, number_behind) (ap (λ (i : Int). number_given i src line from to s t) q)
+    number_by = rw (eq-eqb s.kind 4 k, number_behind) (ap (λ (i : Result (ℕ × ℕ) IntError). number_given i src line from to s t) q)
 
-    number_is : (i : Int) → r ≡ i → number_given i src line from to s t ≡ number_behind src line from to s t
-    number_is i e = ap (λ (x : Int). number_given x src line from to s t) (sym e) ∙ number_by
+    number_is : (i : Result (ℕ × ℕ) IntError) → r ≡ i → number_given i src line from to s t ≡ number_behind src line from to s t
+    number_is i e = ap (λ (x : Result (ℕ × ℕ) IntError). number_given x src line from to s t) (sym e) ∙ number_by
 
-    pub number_large : (v end : ℕ) → r ≡ Value v end → 4294967295 < v → ◌≡◌ {A = Out1} (record { answer = Refused (Fault IntegerTooLarge s.at); state = s; a = t }) (number_behind src line from to s t)
-    number_large v end e h = rw (lt-ltb 4294967295 v h, number_given) at (number_is (Value v end) e)
+    pub number_large : (v end : ℕ) → r ≡ Ok (v, end) → 4294967295 < v → ◌≡◌ {A = Out1} (record { answer = Refused (Fault IntegerTooLarge s.at); state = s; a = t }) (number_behind src line from to s t)
+    number_large v end e h = rw (lt-ltb 4294967295 v h, number_given) at (number_is (Ok (v, end)) e)
 
-    pub number_taken : (v end : ℕ) (o : Out1) → r ≡ Value v end → v ≤ 4294967295 → o ≡ behind1 src line end (push_row s token_numbers (number_cells from to v) t) → o ≡ number_behind src line from to s t
-    number_taken v end o e h b = b ∙ (rw (le-ltb 4294967295 v h, number_given) at (number_is (Value v end) e))
+    pub number_taken : (v end : ℕ) (o : Out1) → r ≡ Ok (v, end) → v ≤ 4294967295 → o ≡ behind1 src line end (push_row s token_numbers (number_cells from to v) t) → o ≡ number_behind src line from to s t
+    number_taken v end o e h b = b ∙ (rw (le-ltb 4294967295 v h, number_given) at (number_is (Ok (v, end)) e))
 
-    pub number_no : (i : ℕ) → r ≡ NoDigits i → ◌≡◌ {A = Out1} (record { answer = Going; state = s; a = t }) (number_behind src line from to s t)
-    number_no i e = number_is (NoDigits i) e
+    pub number_no : (i : ℕ) → r ≡ Err (NoDigits i) → ◌≡◌ {A = Out1} (record { answer = Going; state = s; a = t }) (number_behind src line from to s t)
+    number_no i e = number_is (Err (NoDigits i)) e
 
-    pub number_wide : (i : ℕ) → r ≡ TooLarge i → ◌≡◌ {A = Out1} (record { answer = Refused (Fault IntegerTooLarge i); state = s; a = t }) (number_behind src line from to s t)
-    number_wide i e = number_is (TooLarge i) e
+    pub number_wide : (i : ℕ) → r ≡ Err (TooLarge i) → ◌≡◌ {A = Out1} (record { answer = Refused (Fault IntegerTooLarge i); state = s; a = t }) (number_behind src line from to s t)
+    number_wide i e = number_is (Err (TooLarge i)) e
 
 -- spacing behind a word, and then its number
 module _ (src : List ℕ) (line : Bool) (from to end : ℕ) (a : Answer) (s : State) (t : List ℕ) (b : Answer) (u : State) (h : ◌≡◌ {A = Out0} (record { answer = b; state = u }) (pass_on src line end a s)) where
@@ -136,9 +133,9 @@ module _ {X : Type 0} (part : State → X) (moved : (s : State) (i : ℕ) → pa
   unfolding past_gap
   pass_keeps src line j Going s = go (gap_at s.kind true src j)
     where
-      go : (g : Gap) → part (past line g s).state ≡ part s
-      go (GapTo i n) = moved s i
-      go (GapRefused e) = refl
+      go : (g : Result (ℕ × ℕ) Refusal) → part (past line g s).state ≡ part s
+      go (Ok (i, n)) = moved s i
+      go (Err e) = refl
   pass_keeps src line j Done s = refl
   pass_keeps src line j (Refused f) s = refl
 
@@ -150,10 +147,10 @@ module _ {X : Type 0} (part : State → X) (moved : (s : State) (i : ℕ) → pa
       none true i = refl
       none false i = refl
 
-      tag : (t : Tag) → part (tag_found t src s wanted line).state ≡ part s
-      tag (TagTo p end) = pass_keeps src line end Going s
-      tag (OpenTag i) = refl
-      tag (NoTag i) = none wanted i
+      tag : (t : Result (Place × ℕ) TagError) → part (tag_found t src s wanted line).state ≡ part s
+      tag (Ok (p, end)) = pass_keeps src line end Going s
+      tag (Err (OpenTag i)) = refl
+      tag (Err (NoTag i)) = none wanted i
 
       by : Bool → Leading
       by b = elim b [ true ↦ tag_found (tag_at src s.at) src s wanted line | false ↦ untagged (record { answer = Going; state = s }) ]
@@ -175,10 +172,10 @@ module _ {X : Type 0} (part : State → X) (moved : (s : State) (i : ℕ) → pa
           pass_keeps src line end (push_row s token_numbers (number_cells from to v) t).answer (push_row s token_numbers (number_cells from to v) t).state
           ∙ added s token_numbers (number_cells from to v) t (omega arith)
 
-      int : (i : Int) → part (number_given i src line from to s t).state ≡ part s
-      int (Value v end) = large v end (ltb 4294967295 v)
-      int (NoDigits k) = refl
-      int (TooLarge k) = refl
+      int : (i : Result (ℕ × ℕ) IntError) → part (number_given i src line from to s t).state ≡ part s
+      int (Ok (v, end)) = large v end (ltb 4294967295 v)
+      int (Err (NoDigits k)) = refl
+      int (Err (TooLarge k)) = refl
 
       by : Bool → Out1
       by b = elim b [ true ↦ number_given (int_at src s.at) src line from to s t | false ↦ record { answer = Going; state = s; a = t } ]
@@ -196,10 +193,10 @@ module _ {X : Type 0} (part : State → X) (moved : (s : State) (i : ℕ) → pa
       go o Done e = e
       go o (Refused f) e = e
 
-  pub tag_keeps : (a : Answer) (s : State) (g : Part) (from to : ℕ) (t : List ℕ) → part (tag_row a s g from to t).state ≡ part s
+  pub tag_keeps : (a : Answer) (s : State) (g : Option (ℕ × ℕ)) (from to : ℕ) (t : List ℕ) → part (tag_row a s g from to t).state ≡ part s
   unfolding tag_row
-  tag_keeps Going s Absent from to t = refl
-  tag_keeps Going s (At i j) from to t = added s tags (tag_cells from to i j) t (omega arith)
+  tag_keeps Going s None from to t = refl
+  tag_keeps Going s (Some (i, j)) from to t = added s tags (tag_cells from to i j) t (omega arith)
   tag_keeps Done s g from to t = refl
   tag_keeps (Refused f) s g from to t = refl
 
@@ -212,7 +209,7 @@ number_counts = number_keeps (λ s. s.counts) (λ s i. refl) push_ten
 pub behind_counts : (src : List ℕ) (line : Bool) (from to end : ℕ) (a : Answer) (s : State) (t : List ℕ) → (behind_word src line from to end a s t).state.counts ≡ s.counts
 behind_counts = behind_keeps (λ s. s.counts) (λ s i. refl) push_ten
 
-pub tag_counts : (a : Answer) (s : State) (g : Part) (from to : ℕ) (t : List ℕ) → (tag_row a s g from to t).state.counts ≡ s.counts
+pub tag_counts : (a : Answer) (s : State) (g : Option (ℕ × ℕ)) (from to : ℕ) (t : List ℕ) → (tag_row a s g from to t).state.counts ≡ s.counts
 tag_counts = tag_keeps (λ s. s.counts) (λ s i. refl) push_ten
 
 pub lead_level : (src : List ℕ) (s : State) (wanted line : Bool) → (lead_tag src s wanted line).state.level ≡ s.level
@@ -227,7 +224,7 @@ lead_kind = lead_keeps (λ s. s.kind) (λ s i. refl) (λ s k row t h. push_kind 
 pub behind_kind : (src : List ℕ) (line : Bool) (from to end : ℕ) (a : Answer) (s : State) (t : List ℕ) → (behind_word src line from to end a s t).state.kind ≡ s.kind
 behind_kind = behind_keeps (λ s. s.kind) (λ s i. refl) (λ s k row t h. push_kind s k row t)
 
-pub tag_kind : (a : Answer) (s : State) (g : Part) (from to : ℕ) (t : List ℕ) → (tag_row a s g from to t).state.kind ≡ s.kind
+pub tag_kind : (a : Answer) (s : State) (g : Option (ℕ × ℕ)) (from to : ℕ) (t : List ℕ) → (tag_row a s g from to t).state.kind ≡ s.kind
 tag_kind = tag_keeps (λ s. s.kind) (λ s i. refl) (λ s k row t h. push_kind s k row t)
 
 -- and where one stands behind another, it stands behind where that began.
@@ -243,5 +240,5 @@ onward_then src j before mid after b a e x y =
 pub pass_inside : (src : List ℕ) (line : Bool) (j : ℕ) (a : Answer) (s : State) (b : Answer) (u : State) → ◌≡◌ {A = Out0} (record { answer = b; state = u }) (pass_on src line j a s) → j ≤ length src → b ≡ Going → u.at ≤ length src
 pass_inside src line j a s b u e h g =
     let y = pass_going src line j a s (ap (λ (o : Out0). o.answer) (sym e) ∙ g) in
-    let z : Gapped src j (GapTo y.to y.lines) = rw y.gap at (gapped s.kind true src j h) in
+    let z : Gapped src j (Ok (y.to, y.lines)) = rw y.gap at (gapped s.kind true src j h) in
     rw (ap (λ (o : Out0). o.state.at) e ∙ y.at) z.1

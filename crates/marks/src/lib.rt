@@ -5,15 +5,15 @@ ghost use Rattle.std.specs.Prelude.{◌≡◌};
 ghost use Rattle.grammar.specs.State.{Out1, Here, Onward};
 ghost use Rattle.marks.specs.Marks.{Leading, lead_tag, tag_row, number_behind, behind_word};
 
-use grammar::{Answer, Cause, Part, Refusal, State, Step};
-use words::{Int, Tag};
+use grammar::{Answer, Cause, Refusal, State, Step};
+use words::{IntError, TagError};
 
 // The tag of a list, given or not, or why there is none.
 #[derive(Clone, Copy)]
 pub struct Lead {
     pub answer: Answer,
     pub state: State,
-    pub tag: Part,
+    pub tag: Option<(u32, u32)>,
 }
 
 // The tag that may stand here, or has to, and the spacing behind it; in a list that ends with its line, done where that counted a line end.
@@ -27,45 +27,45 @@ pub fn lead_tag(src: &[u8], s: State, wanted: bool, line: bool) -> Lead
         return Lead {
             answer: Answer::Going,
             state: s,
-            tag: Part::Absent,
+            tag: None,
         };
     }
     let at = s.at;
     match words::parse_tag(src, at) {
-        Tag::TagTo(p, end) => {
+        Ok((p, end)) => {
             let q = grammar::past_gap(src, s, end, line);
             let answer = q.answer;
             let state = q.state;
             Lead {
                 answer,
                 state,
-                tag: Part::At(p.from as u32, p.to as u32),
+                tag: Some((p.from as u32, p.to as u32)),
             }
         }
-        Tag::OpenTag(i) => Lead {
+        Err(TagError::OpenTag(i)) => Lead {
             answer: Answer::Refused(Refusal::Fault(Cause::TagNotClosed, i as u32)),
             state: s,
-            tag: Part::Absent,
+            tag: None,
         },
-        Tag::NoTag(i) => {
+        Err(TagError::NoTag(i)) => {
             if wanted {
                 return Lead {
                     answer: Answer::Refused(Refusal::Fault(Cause::TagMissing, i as u32)),
                     state: s,
-                    tag: Part::Absent,
+                    tag: None,
                 };
             }
             Lead {
                 answer: Answer::Going,
                 state: s,
-                tag: Part::Absent,
+                tag: None,
             }
         }
     }
 }
 
 // Behind a step that goes on, a row of table 15 for the word from `from` to `to`, if its list has a tag.
-pub fn tag_row(r: Step, tag: Part, from: u32, to: u32, t15: &mut [u32]) -> Step
+pub fn tag_row(r: Step, tag: Option<(u32, u32)>, from: u32, to: u32, t15: &mut [u32]) -> Step
     ensures is { ◌≡◌ {A = Out1} (record { answer = result.answer; state = result.state; a = t15.new }) (tag_row r.answer r.state tag from to t15.old) }
     ensures kept { result.state.at ≡ r.state.at }
     ensures counted { result.state.counts ≡ r.state.counts }
@@ -74,11 +74,11 @@ pub fn tag_row(r: Step, tag: Part, from: u32, to: u32, t15: &mut [u32]) -> Step
     let s = r.state;
     match a {
         Answer::Going => match tag {
-            Part::Absent => Step {
+            None => Step {
                 answer: Answer::Going,
                 state: s,
             },
-            Part::At(i, j) => {
+            Some((i, j)) => {
                 let row = [from, to, i, j];
                 grammar::push(s, tables::TAGS, &row, t15)
             }
@@ -109,7 +109,7 @@ pub fn number_behind(src: &[u8], s: State, from: u32, to: u32, line: bool, t16: 
     }
     let at = s.at;
     match words::parse_int(src, at) {
-        Int::Value(v, end) => {
+        Ok((v, end)) => {
             if 4294967295 < v {
                 return Step {
                     answer: Answer::Refused(Refusal::Fault(Cause::IntegerTooLarge, at as u32)),
@@ -120,11 +120,11 @@ pub fn number_behind(src: &[u8], s: State, from: u32, to: u32, line: bool, t16: 
             let r = grammar::push(s, tables::TOKEN_NUMBERS, &row, t16);
             grammar::pass_on(src, r, end, line)
         }
-        Int::NoDigits(_) => Step {
+        Err(IntError::NoDigits(_)) => Step {
             answer: Answer::Going,
             state: s,
         },
-        Int::TooLarge(k) => Step {
+        Err(IntError::TooLarge(k)) => Step {
             answer: Answer::Refused(Refusal::Fault(Cause::IntegerTooLarge, k as u32)),
             state: s,
         },

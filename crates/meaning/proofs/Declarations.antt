@@ -1,4 +1,5 @@
 -- The declarations keep what is known of a reading's rows, whatever their answer; `%parse-param` alone gives the parse parameter. Assumes nothing.
+use Rattle.std.specs.Prelude.{Option, Some, None, Result, Ok, Err}
 use Prim.Native.Nat.{ℕ, suc, ◌+◌}
 use mathlib.Core.Path.{◌≡◌, refl, sym, ◌∙◌, ap₂}
 use mathlib.Core.List.{List, [], ◌∷◌}
@@ -12,26 +13,19 @@ use Rattle.scan.proofs.Bytes.{on_test}
 use Rattle.scan.proofs.Loop.{Either, turns_keep}
 use Rattle.scan.proofs.Table.{same_iff}
 use Rattle.whole.specs.Encode.{Text}
-use Rattle.words.specs.declared.Name.{Name}
-use Rattle.words.specs.declared.Name.TheVariants.{NameTo, NoName}
-use Rattle.words.specs.declared.Token.{Token}
-use Rattle.words.specs.declared.Token.TheVariants.{Found, NoToken}
-use Rattle.words.specs.declared.Int.{Int}
-use Rattle.words.specs.declared.Int.TheVariants.{Value, NoDigits, TooLarge}
-use Rattle.words.specs.declared.Tag.{Tag}
-use Rattle.words.specs.declared.Tag.TheVariants.{TagTo, OpenTag, NoTag}
-use Rattle.words.specs.declared.Quote.{Quote}
-use Rattle.words.specs.declared.Quote.TheVariants.{Closed, NotOpened, LineInside, BadEscape, NotClosed}
+use Rattle.scan.specs.declared.Place.{Place}
+use Rattle.words.specs.declared.IntError.{IntError}
+use Rattle.words.specs.declared.IntError.TheVariants.{NoDigits, TooLarge}
+use Rattle.words.specs.declared.TagError.{TagError}
+use Rattle.words.specs.declared.TagError.TheVariants.{OpenTag, NoTag}
+use Rattle.words.specs.declared.QuoteError.{QuoteError}
+use Rattle.words.specs.declared.QuoteError.TheVariants.{NotOpened, LineInside, BadEscape, NotClosed}
 use Rattle.words.specs.Words.{name_at, token_at}
 use Rattle.words.specs.Numbers.{int_at}
 use Rattle.words.specs.Strings.{string_at}
 use Rattle.words.specs.Tags.{tag_at}
-use Rattle.texts.specs.declared.ColonText.{ColonText}
-use Rattle.texts.specs.declared.ColonText.TheVariants.{Upto, NoColon}
 use Rattle.texts.specs.Colon.{colon_text_at}
 use Rattle.texts.specs.Line.{line_end_at}
-use Rattle.texts.specs.declared.Brace.{Brace}
-use Rattle.texts.specs.declared.Brace.TheVariants.{Closes, NeverCloses}
 use Rattle.texts.specs.Action.{braced_at}
 use Rattle.texts.specs.Mark.{marked_at}
 use Rattle.keywords.specs.declared.Keyword.{Keyword}
@@ -40,26 +34,18 @@ use Rattle.keywords.specs.declared.Seen.{Seen}
 use Rattle.keywords.specs.Keywords.{Entry, keywords, knows, first_of, seen_at}
 use Rattle.keywords.specs.Cases.{number_of}
 use Rattle.tables.specs.Layout.{precedences, avoided, implicit, epps, unused, tags, token_numbers, bodies, key_name, width}
-use Rattle.grammar.specs.declared.Part.{Part}
-use Rattle.grammar.specs.declared.Part.TheVariants.{Absent, At}
-use Rattle.grammar.specs.declared.Expect.{Expect}
-use Rattle.grammar.specs.declared.Expect.TheVariants.{NotExpected, Expected}
-use Rattle.grammar.specs.declared.Param.TheVariants.{ParamAt}
 use Rattle.grammar.specs.declared.Repeat.{Repeat}
 use Rattle.grammar.specs.declared.Repeat.TheVariants.{RepeatedPrecedence, RepeatedAvoidInsert, RepeatedImplicitTokens, RepeatedStart, RepeatedActiontype, RepeatedEpp}
 use Rattle.grammar.specs.declared.State.{State}
 use Rattle.grammar.specs.declared.Answer.{Answer}
 use Rattle.grammar.specs.declared.Answer.TheVariants.{Going, Done, Refused}
-use Rattle.grammar.specs.declared.Gap.{Gap}
-use Rattle.grammar.specs.declared.Gap.TheVariants.{GapTo, GapRefused}
+use Rattle.grammar.specs.declared.Refusal.{Refusal}
 use Rattle.grammar.specs.Cells.{kind_cells, precedence_cells, name_cells, epp_cells, tag_cells, number_cells, body_cells}
 use Rattle.grammar.specs.State.{Out0, Out1, Out3, Out4, with_at, with_level, next_level, with_singles, gap_at, push_row, enter_step, once_step, pass_on}
 use Rattle.grammar.proofs.Kept.{onward_keep}
 use Rattle.settings.specs.Singles.{with_param, with_expected, expected_of}
 use Rattle.settings.specs.Settings.{start_given, start_named, start_name, start_from, start_decl, repeated_expect, expect_seen, expect_given, expect_int, expect_from, expect_decl, actiontype_given, actiontype_named, actiontype_from, actiontype_decl, param_given, param_typed, param_text, param_from, param_decl, generics_from, generics_decl}
 use Rattle.marks.specs.Marks.{Leading, no_tag, tag_found, lead_tag, tag_given, tag_row, number_given, number_behind, number_after, behind_word}
-use Rattle.lists.specs.declared.Spelling.{Spelling}
-use Rattle.lists.specs.declared.Spelling.TheVariants.{Spelled, Unspelled}
 use Rattle.lists.specs.declared.WordList.{WordList}
 use Rattle.lists.specs.declared.WordList.TheVariants.{TokenList, UnusedList, TypeList}
 use Rattle.lists.specs.Lists.{token_found, token_item, spelled_at, unused_row, unused_spelled, unused_item, type_row, type_spelled, type_item, list_item, ends, after_item, list_turn, percent_list, lead_list, list_led, list_body, list_from, list_decl}
@@ -122,61 +108,61 @@ module _ (src : List ℕ) (kind : ℕ) (t7 t8 t9 : List ℕ) where
     unfolding start_decl start_named
     start_made t = go (gap_at s.kind false src s.at)
       where
-        given : (q : Part) (i j : ℕ) → I (start_given q s i j t).state
-        given Absent i j = x
-        given (At a b) i j = repeat_made src kind s t7 t8 t9 x RepeatedStart a b i j t
+        given : (q : Option (ℕ × ℕ)) (i j : ℕ) → I (start_given q s i j t).state
+        given None i j = x
+        given (Some (a, b)) i j = repeat_made src kind s t7 t8 t9 x RepeatedStart a b i j t
 
-        name : (i : ℕ) (n : Name) → I (start_name n i src s t).state
-        name i (NameTo j) = let o = start_named s i j t in pass_made src kind o.state t7 t8 t9 (given s.singles.start i j) false j o.answer
-        name i (NoName k) = x
+        name : (i : ℕ) (n : Result ℕ ℕ) → I (start_name n i src s t).state
+        name i (Ok j) = let o = start_named s i j t in pass_made src kind o.state t7 t8 t9 (given s.singles.start i j) false j o.answer
+        name i (Err k) = x
 
-        go : (g : Gap) → I (start_from g src s t).state
-        go (GapTo i n) = name i (name_at src i)
-        go (GapRefused f) = x
+        go : (g : Result (ℕ × ℕ) Refusal) → I (start_from g src s t).state
+        go (Ok (i, n)) = name i (name_at src i)
+        go (Err f) = x
 
     -- `%expect` and `%expect_rr`,
     expect_made : (rr : Bool) (t : List ℕ) → I (expect_decl src s rr t).state
     unfolding expect_decl expect_given
     expect_made rr t = go (gap_at s.kind false src s.at)
       where
-        one : (r : Bool) (e : Expect) → I (with_singles s (with_expected s.singles r e))
+        one : (r : Bool) (e : Option (ℕ × ℕ × ℕ)) → I (with_singles s (with_expected s.singles r e))
         one true e = x
         one false e = x
 
-        given : (e : Expect) (v i j : ℕ) → I (expect_seen e s rr v i j t).state
-        given NotExpected v i j = one rr (Expected v i j)
-        given (Expected w a b) v i j = repeat_made src kind s t7 t8 t9 x (repeated_expect rr) a b i j t
+        given : (e : Option (ℕ × ℕ × ℕ)) (v i j : ℕ) → I (expect_seen e s rr v i j t).state
+        given None v i j = one rr (Some (v, i, j))
+        given (Some (w, a, b)) v i j = repeat_made src kind s t7 t8 t9 x (repeated_expect rr) a b i j t
 
-        int : (i : ℕ) (n : Int) → I (expect_int n i src s rr t).state
-        int i (Value v j) = let o = expect_given s rr v i j t in pass_made src kind o.state t7 t8 t9 (given (expected_of rr s.singles) v i j) false j o.answer
-        int i (NoDigits k) = x
-        int i (TooLarge k) = x
+        int : (i : ℕ) (n : Result (ℕ × ℕ) IntError) → I (expect_int n i src s rr t).state
+        int i (Ok (v, j)) = let o = expect_given s rr v i j t in pass_made src kind o.state t7 t8 t9 (given (expected_of rr s.singles) v i j) false j o.answer
+        int i (Err (NoDigits k)) = x
+        int i (Err (TooLarge k)) = x
 
-        go : (g : Gap) → I (expect_from g src s rr t).state
-        go (GapTo i n) = int i (int_at src i)
-        go (GapRefused f) = x
+        go : (g : Result (ℕ × ℕ) Refusal) → I (expect_from g src s rr t).state
+        go (Ok (i, n)) = int i (int_at src i)
+        go (Err f) = x
 
     -- `%actiontype`,
     actiontype_made : (t : List ℕ) → I (actiontype_decl src s t).state
     unfolding actiontype_decl actiontype_named
     actiontype_made t = go (gap_at s.kind false src s.at)
       where
-        given : (q : Part) (i j : ℕ) → I (actiontype_given q s i j t).state
-        given Absent i j = x
-        given (At a b) i j = repeat_made src kind s t7 t8 t9 x RepeatedActiontype a b i j t
+        given : (q : Option (ℕ × ℕ)) (i j : ℕ) → I (actiontype_given q s i j t).state
+        given None i j = x
+        given (Some (a, b)) i j = repeat_made src kind s t7 t8 t9 x RepeatedActiontype a b i j t
 
-        go : (g : Gap) → I (actiontype_from g src s t).state
-        go (GapTo i n) = let j = line_end_at src i in let o = actiontype_named s i j t in pass_made src kind o.state t7 t8 t9 (given s.actiontype i j) false j o.answer
-        go (GapRefused f) = x
+        go : (g : Result (ℕ × ℕ) Refusal) → I (actiontype_from g src s t).state
+        go (Ok (i, n)) = let j = line_end_at src i in let o = actiontype_named s i j t in pass_made src kind o.state t7 t8 t9 (given s.actiontype i j) false j o.answer
+        go (Err f) = x
 
     -- `%parse-generics`,
     generics_made : I (generics_decl src s).state
     unfolding generics_decl
     generics_made = go (gap_at s.kind false src s.at)
       where
-        go : (g : Gap) → I (generics_from g src s).state
-        go (GapTo i n) = pass_made src kind _ t7 t8 t9 x false (line_end_at src i) Going
-        go (GapRefused f) = x
+        go : (g : Result (ℕ × ℕ) Refusal) → I (generics_from g src s).state
+        go (Ok (i, n)) = pass_made src kind _ t7 t8 t9 x false (line_end_at src i) Going
+        go (Err f) = x
 
     -- a tag in front of a list's words, and a row of table 15 for each,
     lead_made : (wanted line : Bool) → I (lead_tag src s wanted line).state
@@ -187,16 +173,16 @@ module _ (src : List ℕ) (kind : ℕ) (t7 t8 t9 : List ℕ) where
         none true i = x
         none false i = x
 
-        tag : (t : Tag) → I (tag_found t src s wanted line).state
-        tag (TagTo p end) = pass_made src kind s t7 t8 t9 x line end Going
-        tag (OpenTag i) = x
-        tag (NoTag i) = none wanted i
+        tag : (t : Result (Place × ℕ) TagError) → I (tag_found t src s wanted line).state
+        tag (Ok (p, end)) = pass_made src kind s t7 t8 t9 x line end Going
+        tag (Err (OpenTag i)) = x
+        tag (Err (NoTag i)) = none wanted i
 
-    given_made : (g : Part) (from to : ℕ) (t : List ℕ) → I (tag_given g s from to t).state
-    given_made Absent from to t = x
-    given_made (At i j) from to t = push_other src kind s t7 t8 t9 x tags (tag_cells from to i j) t (high_other tags (omega arith))
+    given_made : (g : Option (ℕ × ℕ)) (from to : ℕ) (t : List ℕ) → I (tag_given g s from to t).state
+    given_made None from to t = x
+    given_made (Some (i, j)) from to t = push_other src kind s t7 t8 t9 x tags (tag_cells from to i j) t (high_other tags (omega arith))
 
-    tag_made : (a : Answer) (g : Part) (from to : ℕ) (t : List ℕ) → I (tag_row a s g from to t).state
+    tag_made : (a : Answer) (g : Option (ℕ × ℕ)) (from to : ℕ) (t : List ℕ) → I (tag_row a s g from to t).state
     unfolding tag_row
     tag_made Going g from to t = given_made g from to t
     tag_made Done g from to t = x
@@ -207,14 +193,14 @@ module _ (src : List ℕ) (kind : ℕ) (t7 t8 t9 : List ℕ) where
     unfolding number_behind
     number_made line from to t = on_test (λ (o : Out1). I o.state) (eqb s.kind 4) _ _ (λ e. int (int_at src s.at)) (λ e. x)
       where
-        int : (i : Int) → I (number_given i src line from to s t).state
-        int (Value v end) =
+        int : (i : Result (ℕ × ℕ) IntError) → I (number_given i src line from to s t).state
+        int (Ok (v, end)) =
             let row = number_cells from to v in
             let o = push_row s token_numbers row t in
             on_test (λ (o : Out1). I o.state) (ltb 4294967295 v) _ _ (λ e. x)
             (λ e. pass_made src kind o.state t7 t8 t9 (push_other src kind s t7 t8 t9 x token_numbers row t (high_other token_numbers (omega arith))) line end o.answer)
-        int (NoDigits k) = x
-        int (TooLarge k) = x
+        int (Err (NoDigits k)) = x
+        int (Err (TooLarge k)) = x
 
     -- a body,
     body_made : (sort from to end : ℕ) (t : List ℕ) → I (body_row src s sort from to end t).state
@@ -228,25 +214,25 @@ module _ (src : List ℕ) (kind : ℕ) (t7 t8 t9 : List ℕ) where
     unfolding prologue_decl
     prologue_made at t = go (marked_at src s.at)
       where
-        go : (b : Brace) → I (prologue_closed b src s at t).state
-        go (Closes to n) = body_made 1 s.at to (to + 2) t
-        go NeverCloses = x
+        go : (b : Option (ℕ × ℕ)) → I (prologue_closed b src s at t).state
+        go (Some (to, n)) = body_made 1 s.at to (to + 2) t
+        go None = x
 
     union_made : (at : ℕ) (t : List ℕ) → I (union_decl src s at t).state
     unfolding union_decl union_body
     union_made at t = gap (gap_at s.kind false src s.at)
       where
-        brace : (i : ℕ) (b : Brace) → I (union_closed b src s at i t).state
-        brace i (Closes to n) = body_made 2 (i + 1) to (to + 1) t
-        brace i NeverCloses = x
+        brace : (i : ℕ) (b : Option (ℕ × ℕ)) → I (union_closed b src s at i t).state
+        brace i (Some (to, n)) = body_made 2 (i + 1) to (to + 1) t
+        brace i None = x
 
         opened : (i : ℕ) (b : Bool) → I (union_opened b src s at i t).state
         opened i true = brace i (braced_at src (i + 1))
         opened i false = x
 
-        gap : (g : Gap) → I (union_from g src s at t).state
-        gap (GapTo i n) = opened i (is_at 123 src i)
-        gap (GapRefused f) = x
+        gap : (g : Result (ℕ × ℕ) Refusal) → I (union_from g src s at t).state
+        gap (Ok (i, n)) = opened i (is_at 123 src i)
+        gap (Err f) = x
 
     -- one of an avoid or implicit list,
     avoid_item_made : (k : ℕ) → Other k → (what : Repeat) (t1 t t10 : List ℕ) → I (avoid_item src s k what t1 t t10).state
@@ -260,9 +246,9 @@ module _ (src : List ℕ) (kind : ℕ) (t7 t8 t9 : List ℕ) where
         entry Done e from to end y = y
         entry (Refused f) e from to end y = y
 
-        go : (r : Token) → I (avoid_found r src s k what t1 t t10).state
-        go (Found p end q) = let e = enter_step src s p.from p.to false t1 in entry e.answer e p.from p.to end (enter_made src kind s t7 t8 t9 x p.from p.to false t1)
-        go (NoToken i) = x
+        go : (r : Result (Place × ℕ × Bool) ℕ) → I (avoid_found r src s k what t1 t t10).state
+        go (Ok (p, end, q)) = let e = enter_step src s p.from p.to false t1 in entry e.answer e p.from p.to end (enter_made src kind s t7 t8 t9 x p.from p.to false t1)
+        go (Err i) = x
 
     -- `%epp`.
     epp_made : (t5 t10 : List ℕ) → I (epp_decl src s t5 t10).state
@@ -275,46 +261,46 @@ module _ (src : List ℕ) (kind : ℕ) (t7 t8 t9 : List ℕ) where
             let o = once_step src s epps (width epps) key_name RepeatedEpp row t5 t10 in
             pass_made src kind o.state t7 t8 t9 (once_made src kind s t7 t8 t9 x epps (width epps) key_name RepeatedEpp row t5 t10 (low_other epps (omega arith))) false e o.answer
 
-        string : (i j from to v : ℕ) (q : Quote) → I (epp_string q src s i j from to v t5 t10).state
-        string i j from to v (Closed e) = given i j from to v e
-        string i j from to v (NotOpened k) = x
-        string i j from to v (LineInside k) = x
-        string i j from to v (BadEscape k) = x
-        string i j from to v (NotClosed k) = x
+        string : (i j from to v : ℕ) (q : Result ℕ QuoteError) → I (epp_string q src s i j from to v t5 t10).state
+        string i j from to v (Ok e) = given i j from to v e
+        string i j from to v (Err (NotOpened k)) = x
+        string i j from to v (Err (LineInside k)) = x
+        string i j from to v (Err (BadEscape k)) = x
+        string i j from to v (Err (NotClosed k)) = x
 
-        text : (i j from to : ℕ) (g : Gap) → I (epp_gap g src s i j from to t5 t10).state
-        text i j from to (GapTo v n) = string i j from to v (string_at src v)
-        text i j from to (GapRefused f) = x
+        text : (i j from to : ℕ) (g : Result (ℕ × ℕ) Refusal) → I (epp_gap g src s i j from to t5 t10).state
+        text i j from to (Ok (v, n)) = string i j from to v (string_at src v)
+        text i j from to (Err f) = x
 
-        key : (i : ℕ) (r : Token) → I (epp_key r i src s t5 t10).state
-        key i (Found p end q) = text i end p.from p.to (gap_at s.kind false src end)
-        key i (NoToken k) = x
+        key : (i : ℕ) (r : Result (Place × ℕ × Bool) ℕ) → I (epp_key r i src s t5 t10).state
+        key i (Ok (p, end, q)) = text i end p.from p.to (gap_at s.kind false src end)
+        key i (Err k) = x
 
-        go : (g : Gap) → I (epp_from g src s t5 t10).state
-        go (GapTo i n) = key i (token_at src i)
-        go (GapRefused f) = x
+        go : (g : Result (ℕ × ℕ) Refusal) → I (epp_from g src s t5 t10).state
+        go (Ok (i, n)) = key i (token_at src i)
+        go (Err f) = x
 
     -- The parse parameter, behind its keyword.
     param_made : Text src → (at : ℕ) → starts_at param_word src at ≡ true → s.at ≡ at + length param_word → I (param_decl src s).state
     unfolding param_decl param_typed
     param_made t at k b = go (gap_at s.kind false src s.at) refl
       where
-        given : (a c : ℕ) → ParamMade kind src a c → (g : Gap) → I (param_given g src s a c).state
-        given a c y (GapTo i n) =
+        given : (a c : ℕ) → ParamMade kind src a c → (g : Result (ℕ × ℕ) Refusal) → I (param_given g src s a c).state
+        given a c y (Ok (i, n)) =
             let j = line_end_at src i in
-            let u = with_singles s (with_param s.singles (ParamAt a c i j)) in
+            let u = with_singles s (with_param s.singles (Some (a, c, i, j))) in
             pass_made src kind u t7 t8 t9 (record { rules = x.0.rules; productions = x.0.productions; symbols = x.0.symbols; param = y }, x.1) false j Going
-        given a c y (GapRefused f) = x
+        given a c y (Err f) = x
 
-        text : (i n : ℕ) → gap_at s.kind false src s.at ≡ GapTo i n → (r : ColonText) → colon_text_at src i ≡ r → I (param_text r src s).state
-        text i n g (Upto j l p) e =
-            let h : gap_at kind false src (at + length param_word) ≡ GapTo i n = ap₂ (λ (q j : ℕ). gap_at q false src j) (sym x.1) (sym b) ∙ g in
+        text : (i n : ℕ) → gap_at s.kind false src s.at ≡ Ok (i, n) → (r : Result (ℕ × ℕ × Place) ℕ) → colon_text_at src i ≡ r → I (param_text r src s).state
+        text i n g (Ok (j, l, p)) e =
+            let h : gap_at kind false src (at + length param_word) ≡ Ok (i, n) = ap₂ (λ (q j : ℕ). gap_at q false src j) (sym x.1) (sym b) ∙ g in
             given p.from p.to (record { at = at; keyword = k; name = word_region src t kind param_word false at i n j l p k (omega arith) (omega arith) h e }) (gap_at s.kind false src (j + 1))
-        text i n g (NoColon l) e = x
+        text i n g (Err l) e = x
 
-        go : (g : Gap) → gap_at s.kind false src s.at ≡ g → I (param_from g src s).state
-        go (GapTo i n) e = text i n e (colon_text_at src i) refl
-        go (GapRefused f) e = x
+        go : (g : Result (ℕ × ℕ) Refusal) → gap_at s.kind false src s.at ≡ g → I (param_from g src s).state
+        go (Ok (i, n)) e = text i n e (colon_text_at src i) refl
+        go (Err f) e = x
 
   -- the spacing behind a word, and what number follows it
   behind_made : (line : Bool) (from to end : ℕ) (a : Answer) (s : State) (t : List ℕ) → I s → I (behind_word src line from to end a s t).state
@@ -327,44 +313,44 @@ module _ (src : List ℕ) (kind : ℕ) (t7 t8 t9 : List ℕ) where
       go o (Refused f) y = y
 
   -- behind a step, the row of a word's tag, the spacing and a number
-  word_made : (line : Bool) (tag : Part) (from to end : ℕ) (a : Answer) (s : State) (t15 t16 : List ℕ) → I s → let r = tag_row a s tag from to t15 in I (behind_word src line from to end r.answer r.state t16).state
+  word_made : (line : Bool) (tag : Option (ℕ × ℕ)) (from to end : ℕ) (a : Answer) (s : State) (t15 t16 : List ℕ) → I s → let r = tag_row a s tag from to t15 in I (behind_word src line from to end r.answer r.state t16).state
   word_made line tag from to end a s t15 t16 x = let r = tag_row a s tag from to t15 in behind_made line from to end r.answer r.state t16 (tag_made s x a tag from to t15)
 
   module _ (s : State) (x : I s) where
     -- a declared token, what is expected unused, and what has a type,
-    list_item_made : (what : WordList) (tag : Part) (t t15 t16 : List ℕ) → I (list_item src s what tag t t15 t16).state
+    list_item_made : (what : WordList) (tag : Option (ℕ × ℕ)) (t t15 t16 : List ℕ) → I (list_item src s what tag t t15 t16).state
     unfolding token_item unused_item unused_row type_item type_row
     list_item_made TokenList tag t t15 t16 = go (token_at src s.at)
       where
-        go : (r : Token) → I (token_found r src s tag t t15 t16).state
-        go (Found p end q) =
+        go : (r : Result (Place × ℕ × Bool) ℕ) → I (token_found r src s tag t t15 t16).state
+        go (Ok (p, end, q)) =
             let o = enter_step src s p.from p.to true t in
             word_made false tag p.from p.to end o.answer o.state t15 t16 (enter_made src kind s t7 t8 t9 x p.from p.to true t)
-        go (NoToken k) = x
+        go (Err k) = x
     list_item_made UnusedList tag t t15 t16 = go (spelled_at src s.at)
       where
-        go : (r : Spelling) → I (unused_spelled r src s t).state
-        go (Spelled sort from to end) =
+        go : (r : Result (ℕ × ℕ × ℕ × ℕ) ℕ) → I (unused_spelled r src s t).state
+        go (Ok (sort, from, to, end)) =
             let o = push_row s unused (kind_cells sort from to) t in
             pass_made src kind o.state t7 t8 t9 (push_other src kind s t7 t8 t9 x unused (kind_cells sort from to) t (low_other unused (omega arith))) false end o.answer
-        go (Unspelled k) = x
+        go (Err k) = x
     list_item_made TypeList tag t t15 t16 = go (spelled_at src s.at)
       where
-        go : (r : Spelling) → I (type_spelled r src s tag t15).state
-        go (Spelled sort from to end) = let o = tag_given tag s from to t15 in pass_made src kind o.state t7 t8 t9 (given_made s x tag from to t15) false end o.answer
-        go (Unspelled k) = x
+        go : (r : Result (ℕ × ℕ × ℕ × ℕ) ℕ) → I (type_spelled r src s tag t15).state
+        go (Ok (sort, from, to, end)) = let o = tag_given tag s from to t15 in pass_made src kind o.state t7 t8 t9 (given_made s x tag from to t15) false end o.answer
+        go (Err k) = x
 
     -- and a word of a precedence line.
-    prec_item_made : (level assoc : ℕ) (tag : Part) (t2 t10 t15 t16 : List ℕ) → I (prec_item src s level assoc tag t2 t10 t15 t16).state
+    prec_item_made : (level assoc : ℕ) (tag : Option (ℕ × ℕ)) (t2 t10 t15 t16 : List ℕ) → I (prec_item src s level assoc tag t2 t10 t15 t16).state
     unfolding prec_item
     prec_item_made level assoc tag t2 t10 t15 t16 = go (token_at src s.at)
       where
-        go : (r : Token) → I (prec_found r src s level assoc tag t2 t10 t15 t16).state
-        go (Found p end q) =
+        go : (r : Result (Place × ℕ × Bool) ℕ) → I (prec_found r src s level assoc tag t2 t10 t15 t16).state
+        go (Ok (p, end, q)) =
             let row = precedence_cells p.from p.to level assoc in
             let o = once_step src s precedences (width precedences) 0 RepeatedPrecedence row t2 t10 in
             word_made true tag p.from p.to end o.answer o.state t15 t16 (once_made src kind s t7 t8 t9 x precedences (width precedences) 0 RepeatedPrecedence row t2 t10 (low_other precedences (omega arith)))
-        go (NoToken k) = x
+        go (Err k) = x
 
   -- lists
   list_made : (s : State) → I s → (what : WordList) (t t15 t16 : List ℕ) → I (list_decl src s what t t15 t16).state
@@ -374,7 +360,7 @@ module _ (src : List ℕ) (kind : ℕ) (t7 t8 t9 : List ℕ) where
       J : Out3 → Type 0
       J o = I o.state
 
-      turn : (tag : Part) (o : Out3) → J o → Either J J (list_turn src what tag o)
+      turn : (tag : Option (ℕ × ℕ)) (o : Out3) → J o → Either J J (list_turn src what tag o)
       turn tag o y = by (ends src o.state.at)
         where
           by : (b : Bool) → Either J J (after_item b o (list_item src o.state what tag o.a o.b o.c))
@@ -391,9 +377,9 @@ module _ (src : List ℕ) (kind : ℕ) (t7 t8 t9 : List ℕ) where
       led Done l y = y
       led (Refused f) l y = y
 
-      go : (g : Gap) → J (list_from g src s what t t15 t16)
-      go (GapTo i n) = let u = with_at s i in led (lead_list what src u).answer (lead_list what src u) (lead what u x)
-      go (GapRefused f) = x
+      go : (g : Result (ℕ × ℕ) Refusal) → J (list_from g src s what t t15 t16)
+      go (Ok (i, n)) = let u = with_at s i in led (lead_list what src u).answer (lead_list what src u) (lead what u x)
+      go (Err f) = x
 
   prec_made : (s : State) → I s → (assoc : ℕ) (t2 t10 t15 t16 : List ℕ) → I (prec_decl src s assoc t2 t10 t15 t16).state
   unfolding prec_decl prec_body prec_list prec_turn
@@ -407,7 +393,7 @@ module _ (src : List ℕ) (kind : ℕ) (t7 t8 t9 : List ℕ) where
       next Done p y = y
       next (Refused f) p y = y
 
-      turn : (tag : Part) (o : Out4) → J o → Either J J (prec_turn src s.level assoc tag o)
+      turn : (tag : Option (ℕ × ℕ)) (o : Out4) → J o → Either J J (prec_turn src s.level assoc tag o)
       turn tag o y = by (leb (length src) o.state.at)
         where
           by : (b : Bool) → Either J J (after_end b o (prec_item src o.state s.level assoc tag o.a o.b o.c o.d))
@@ -419,9 +405,9 @@ module _ (src : List ℕ) (kind : ℕ) (t7 t8 t9 : List ℕ) where
       led Done l y = y
       led (Refused f) l y = y
 
-      go : (g : Gap) → J (prec_from g src s assoc t2 t10 t15 t16)
-      go (GapTo i n) = let u = with_level (with_at s i) (next_level s.level) in led (lead_tag src u false true).answer (lead_tag src u false true) (lead_made u x false true)
-      go (GapRefused f) = x
+      go : (g : Result (ℕ × ℕ) Refusal) → J (prec_from g src s assoc t2 t10 t15 t16)
+      go (Ok (i, n)) = let u = with_level (with_at s i) (next_level s.level) in led (lead_tag src u false true).answer (lead_tag src u false true) (lead_made u x false true)
+      go (Err f) = x
 
   avoid_made : (s : State) → I s → (k : ℕ) → Other k → (what : Repeat) (t1 t t10 : List ℕ) → I (avoid_decl src s k what t1 t t10).state
   unfolding avoid_decl avoid_list avoid_turn
@@ -438,9 +424,9 @@ module _ (src : List ℕ) (kind : ℕ) (t7 t8 t9 : List ℕ) where
       turn : (o : Out3) → J o → Either J J (avoid_turn src k what o)
       turn o y = let p = avoid_item src o.state k what o.a o.b o.c in next p.answer p (avoid_item_made o.state y k other what o.a o.b o.c)
 
-      go : (g : Gap) → J (avoid_from g src s k what t1 t t10)
-      go (GapTo i n) = turns_keep J (avoid_turn src k what) turn (suc (length src)) _ x
-      go (GapRefused f) = x
+      go : (g : Result (ℕ × ℕ) Refusal) → J (avoid_from g src s k what t1 t t10)
+      go (Ok (i, n)) = turns_keep J (avoid_turn src k what) turn (suc (length src)) _ x
+      go (Err f) = x
 
   module _ (t : Text src) where
     abbrev K : Out → Type 0
@@ -485,6 +471,6 @@ module _ (src : List ℕ) (kind : ℕ) (t7 t8 t9 : List ℕ) where
     unfolding decl_all decl_run
     declarations_made s x D = go (gap_at s.kind true src s.at)
       where
-        go : (g : Gap) → K (all_from g src s D)
-        go (GapTo i n) = turns_keep K (decl_turn src) turn_made (suc (length src)) _ x
-        go (GapRefused f) = x
+        go : (g : Result (ℕ × ℕ) Refusal) → K (all_from g src s D)
+        go (Ok (i, n)) = turns_keep K (decl_turn src) turn_made (suc (length src)) _ x
+        go (Err f) = x

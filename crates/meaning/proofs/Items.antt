@@ -1,4 +1,5 @@
 -- Each item of a production, and the items of a rule, keep what is known of a reading's rows, whatever their answer. Assumes nothing.
+use Rattle.std.specs.Prelude.{Option, Some, None, Result, Ok, Err}
 use Prim.Native.Nat.{ℕ, zero, suc, ◌+◌, ◌<◌}
 use mathlib.Core.Path.{◌≡◌, refl, sym, ◌∙◌}
 use mathlib.Core.List.{List, [], ◌∷◌}
@@ -12,25 +13,18 @@ use Rattle.scan.specs.Loop.{Turn, more, stop, turns}
 use Rattle.scan.proofs.Bytes.{on_test, told, at_here, starts_fits, starts_byte}
 use Rattle.scan.proofs.Loop.{Either}
 use Rattle.whole.specs.Encode.{Text}
-use Rattle.words.specs.declared.Token.{Token}
-use Rattle.words.specs.declared.Token.TheVariants.{Found, NoToken}
 use Rattle.words.specs.Words.{is_quote, token_at, Tokened, IsToken, bare_token, quoted_token}
 use Rattle.words.proofs.Words.{token_placed}
 use Rattle.words.proofs.Meaning.{token_iff, token_no_dot}
-use Rattle.texts.specs.declared.Action.{Action}
-use Rattle.texts.specs.declared.Action.TheVariants.{Body, OpenAction}
 use Rattle.texts.specs.Action.{action_at}
 use Rattle.tables.specs.Layout.{tokens, symbols}
 use Rattle.grammar.specs.declared.State.{State}
 use Rattle.grammar.specs.declared.Answer.{Answer}
 use Rattle.grammar.specs.declared.Answer.TheVariants.{Going, Done, Refused}
-use Rattle.grammar.specs.declared.Gap.{Gap}
-use Rattle.grammar.specs.declared.Gap.TheVariants.{GapTo, GapRefused}
+use Rattle.grammar.specs.declared.Refusal.{Refusal}
 use Rattle.grammar.specs.Cells.{symbol_cells}
 use Rattle.grammar.specs.State.{Out1, count, with_at, gap_at, push_row, enter_step}
 use Rattle.grammar.proofs.Touch.{refused_going}
-use Rattle.productions.specs.declared.Act.{Act}
-use Rattle.productions.specs.declared.Act.TheVariants.{NoAction, ActionAt}
 use Rattle.productions.specs.declared.Production.{Production}
 use Rattle.productions.specs.Cells.{action_cells, production_cells, push_production}
 use Rattle.items.specs.declared.Sort.{Sort}
@@ -55,30 +49,30 @@ turns_through {X} I J f out step (suc n) x i = go (f x) (step x i) (turns_throug
     go (stop y) k ih = k
 
 -- the action of a production under way that ends at `to`: it opens there, and "only `|` or `;` may stand" where the reading stands
-abbrev pub Acts : List ℕ → ℕ → ℕ → Act → Type 0
-Acts src at to NoAction = Unit {0}
-Acts src at to (ActionAt a b c d) = ActionMade src to a b c d × (may_end src at ≡ true)
+abbrev pub Acts : List ℕ → ℕ → ℕ → Option (ℕ × ℕ × ℕ × ℕ) → Type 0
+Acts src at to None = Unit {0}
+Acts src at to (Some (a, b, c, d)) = ActionMade src to a b c d × (may_end src at ≡ true)
 
 -- where neither stands, there is no action
-acts_on : (src : List ℕ) (at to i end : ℕ) (act : Act) → Acts src at to act → (may_end src at ≡ true → ⊥) → Acts src i end act
-acts_on src at to i end NoAction x n = tt
-acts_on src at to i end (ActionAt a b c d) x n = absurd (n x.1)
+acts_on : (src : List ℕ) (at to i end : ℕ) (act : Option (ℕ × ℕ × ℕ × ℕ)) → Acts src at to act → (may_end src at ≡ true → ⊥) → Acts src i end act
+acts_on src at to i end None x n = tt
+acts_on src at to i end (Some (a, b, c, d)) x n = absurd (n x.1)
 
 -- the row of a production
 production_row_lem : (src : List ℕ) (at n : ℕ) (d : Production) → Acts src at d.to d.action → ProductionMade src (production_cells (with_last d n))
 production_row_lem src at n d x = record { acted = go d.action x }
   where
-    go : (z : Act) → Acts src at d.to z → get_or (action_cells z) 0 0 ≡ 1 → ActionMade src d.to (get_or (action_cells z) 1 0) (get_or (action_cells z) 2 0) (get_or (action_cells z) 3 0) (get_or (action_cells z) 4 0)
-    go NoAction y e = absurd (omega arith)
-    go (ActionAt a b c e) y q = y.0
+    go : (z : Option (ℕ × ℕ × ℕ × ℕ)) → Acts src at d.to z → get_or (action_cells z) 0 0 ≡ 1 → ActionMade src d.to (get_or (action_cells z) 1 0) (get_or (action_cells z) 2 0) (get_or (action_cells z) 3 0) (get_or (action_cells z) 4 0)
+    go None y e = absurd (omega arith)
+    go (Some (a, b, c, e)) y q = y.0
 
 -- the row of a symbol
-symbol_row_lem : (src : List ℕ) (at kind end : ℕ) (p : Place) (quoted : Bool) → token_at src at ≡ Found p end quoted → (kind ≡ 1 → quoted ≡ false) → SymbolMade src (symbol_cells kind p.from p.to)
+symbol_row_lem : (src : List ℕ) (at kind end : ℕ) (p : Place) (quoted : Bool) → token_at src at ≡ Ok (p, end, quoted) → (kind ≡ 1 → quoted ≡ false) → SymbolMade src (symbol_cells kind p.from p.to)
 symbol_row_lem src at kind end p quoted e h =
-    record { at = at; end = end; quoted = quoted; token = e; rule = h; plain = λ q. token_no_dot src at p end (told (λ (b : Bool). token_at src at ≡ Found p end b) q e) }
+    record { at = at; end = end; quoted = quoted; token = e; rule = h; plain = λ q. token_no_dot src at p end (told (λ (b : Bool). token_at src at ≡ Ok (p, end, b)) q e) }
 
 -- what is read where no quote stands is bare
-bare_of : (src : List ℕ) (at end : ℕ) (p : Place) (quoted : Bool) → is_quote (get_or src at 0) ≡ false → token_at src at ≡ Found p end quoted → quoted ≡ false
+bare_of : (src : List ℕ) (at end : ℕ) (p : Place) (quoted : Bool) → is_quote (get_or src at 0) ≡ false → token_at src at ≡ Ok (p, end, quoted) → quoted ≡ false
 bare_of src at end p quoted u e = go ((token_iff src at p end quoted).0 e)
   where
     go : {p : Place} {end : ℕ} {quoted : Bool} → IsToken src at p end quoted → quoted ≡ false
@@ -138,8 +132,8 @@ module _ (src : List ℕ) (t : Text src) (kind : ℕ) (t7 : List ℕ) where
     unfolding bare_item
     bare_made t1 n = go (token_at src s.at) refl (token_placed src s.at (token_at src s.at) refl).1
       where
-        go : (r : Token) → token_at src s.at ≡ r → Tokened src s.at r → let o = bare_found r src s d t1 t9 in MadeAt src kind o.state t7 t8 o.a
-        go (Found p end q) e y =
+        go : (r : Result (Place × ℕ × Bool) ℕ) → token_at src s.at ≡ r → Tokened src s.at r → let o = bare_found r src s d t1 t9 in MadeAt src kind o.state t7 t8 o.a
+        go (Ok (p, end, q)) e y =
             let a = y.0 in
             let b = y.1 in
             let c = y.2 in
@@ -147,7 +141,7 @@ module _ (src : List ℕ) (t : Text src) (kind : ℕ) (t7 : List ℕ) where
             let k = symbol_kind src (count s tokens) t1 p.from p.to in
             let o = push_row s symbols (symbol_cells k p.from p.to) t9 in
             pass_made src kind o.state t7 t8 o.a (symbol_made src kind s t7 t8 t9 x (symbol_cells k p.from p.to) refl (symbol_row_lem src s.at k end p q e (λ z. bare_of src s.at end p q (n (omega arith)) e))) false end o.answer
-        go (NoToken k) e y = x
+        go (Err k) e y = x
 
     -- a quoted one,
     token_symbol_made : (t1 : List ℕ) (from to : ℕ) → SymbolMade src (symbol_cells 2 from to) → let o = token_symbol src s from to t1 t9 in MadeAt src kind o.state t7 t8 o.b
@@ -164,56 +158,56 @@ module _ (src : List ℕ) (t : Text src) (kind : ℕ) (t7 : List ℕ) where
     unfolding prec_name
     prec_name_made t1 = go (token_at src s.at)
       where
-        go : (r : Token) → MadeAt src kind (prec_found r src s d t1).state t7 t8 t9
-        go (Found p end q) = let e = enter_step src s p.from p.to false t1 in pass_made src kind e.state t7 t8 t9 (enter_made src kind s t7 t8 t9 x p.from p.to false t1) false end e.answer
-        go (NoToken k) = x
+        go : (r : Result (Place × ℕ × Bool) ℕ) → MadeAt src kind (prec_found r src s d t1).state t7 t8 t9
+        go (Ok (p, end, q)) = let e = enter_step src s p.from p.to false t1 in pass_made src kind e.state t7 t8 t9 (enter_made src kind s t7 t8 t9 x p.from p.to false t1) false end e.answer
+        go (Err k) = x
 
     -- an action,
     after_made : (end : ℕ) → MadeAt src kind (after_action src s d end).state t7 t8 t9
     unfolding after_action
     after_made end = go (gap_at s.kind true src end)
       where
-        go : (g : Gap) → MadeAt src kind (action_gap g src s d).state t7 t8 t9
-        go (GapTo i n) = on_test (λ (o : Made0). MadeAt src kind o.state t7 t8 t9) (may_end src i) _ _ (λ e. x) (λ e. x)
-        go (GapRefused f) = x
+        go : (g : Result (ℕ × ℕ) Refusal) → MadeAt src kind (action_gap g src s d).state t7 t8 t9
+        go (Ok (i, n)) = on_test (λ (o : Made0). MadeAt src kind o.state t7 t8 t9) (may_end src i) _ _ (λ e. x) (λ e. x)
+        go (Err f) = x
 
     -- and `%empty`.
     empty_made : (first : ℕ) → MadeAt src kind (empty_item src s d first).state t7 t8 t9
     unfolding empty_item
     empty_made first = go (gap_at s.kind true src s.at)
       where
-        go : (g : Gap) → MadeAt src kind (empty_gap g src s d first).state t7 t8 t9
-        go (GapTo k n) = on_test (λ (o : Made0). MadeAt src kind o.state t7 t8 t9) (eqb (count s symbols) d.first && may_follow src k) _ _ (λ e. x) (λ e. x)
-        go (GapRefused f) = x
+        go : (g : Result (ℕ × ℕ) Refusal) → MadeAt src kind (empty_gap g src s d first).state t7 t8 t9
+        go (Ok (k, n)) = on_test (λ (o : Made0). MadeAt src kind o.state t7 t8 t9) (eqb (count s symbols) d.first && may_follow src k) _ _ (λ e. x) (λ e. x)
+        go (Err f) = x
 
   module _ (s : State) (d : Production) (t8 t9 : List ℕ) (x : MadeAt src kind s t7 t8 t9) where
     quoted_made : (t1 : List ℕ) → let o = quoted_item src s d t1 t9 in MadeAt src kind o.state t7 t8 o.b
     unfolding quoted_item quoted_rows
     quoted_made t1 = go (token_at src s.at) refl
       where
-        rows : (p : Place) (end : ℕ) → SymbolMade src (symbol_cells 2 p.from p.to) → (g : Gap) → let o = quoted_gap g src s d p.from p.to end t1 t9 in MadeAt src kind o.state t7 t8 o.b
-        rows p end y (GapTo i n) = token_symbol_made (with_at s i) d t8 t9 x t1 p.from p.to y
-        rows p end y (GapRefused f) = x
+        rows : (p : Place) (end : ℕ) → SymbolMade src (symbol_cells 2 p.from p.to) → (g : Result (ℕ × ℕ) Refusal) → let o = quoted_gap g src s d p.from p.to end t1 t9 in MadeAt src kind o.state t7 t8 o.b
+        rows p end y (Ok (i, n)) = token_symbol_made (with_at s i) d t8 t9 x t1 p.from p.to y
+        rows p end y (Err f) = x
 
-        go : (r : Token) → token_at src s.at ≡ r → let o = quoted_found r src s d t1 t9 in MadeAt src kind o.state t7 t8 o.b
-        go (Found p end q) e = rows p end (symbol_row_lem src s.at 2 end p q e (λ z. absurd (omega arith))) (gap_at s.kind true src end)
-        go (NoToken k) e = x
+        go : (r : Result (Place × ℕ × Bool) ℕ) → token_at src s.at ≡ r → let o = quoted_found r src s d t1 t9 in MadeAt src kind o.state t7 t8 o.b
+        go (Ok (p, end, q)) e = rows p end (symbol_row_lem src s.at 2 end p q e (λ z. absurd (omega arith))) (gap_at s.kind true src end)
+        go (Err k) e = x
 
     prec_made : (t1 : List ℕ) → MadeAt src kind (prec_item src s d t1).state t7 t8 t9
     unfolding prec_item
     prec_made t1 = go (gap_at s.kind true src s.at)
       where
-        go : (g : Gap) → MadeAt src kind (prec_gap g src s d t1).state t7 t8 t9
-        go (GapTo i n) = prec_name_made (with_at s i) d t8 t9 x t1
-        go (GapRefused f) = x
+        go : (g : Result (ℕ × ℕ) Refusal) → MadeAt src kind (prec_gap g src s d t1).state t7 t8 t9
+        go (Ok (i, n)) = prec_name_made (with_at s i) d t8 t9 x t1
+        go (Err f) = x
 
     action_made : MadeAt src kind (action_item src s d).state t7 t8 t9
     unfolding action_item
     action_made = go (action_at src s.at)
       where
-        go : (r : Action) → MadeAt src kind (action_found r src s d).state t7 t8 t9
-        go (Body end n p q) = after_made s (with_action (with_to d s.at) p.from p.to q.from q.to) t8 t9 x end
-        go (OpenAction i) = x
+        go : (r : Result (ℕ × ℕ × Place × Place) ℕ) → MadeAt src kind (action_found r src s d).state t7 t8 t9
+        go (Ok (end, n, p, q)) = after_made s (with_action (with_to d s.at) p.from p.to q.from q.to) t8 t9 x end
+        go (Err i) = x
 
     -- a production's end
     end_made : (at : ℕ) → Acts src at d.to d.action → let o = end_production s d t8 in MadeAt src kind o.state t7 o.a t9
@@ -226,41 +220,41 @@ module _ (src : List ℕ) (t : Text src) (kind : ℕ) (t7 : List ℕ) where
     unfolding quoted_item quoted_rows
     quoted_acts t1 t9 = go (token_at src s.at)
       where
-        rows : (from to end : ℕ) (g : Gap) → let o = quoted_gap g src s d from to end t1 t9 in Acts src o.state.at o.draft.to o.draft.action
-        rows from to end (GapTo i n) = none _ _
-        rows from to end (GapRefused f) = none _ _
+        rows : (from to end : ℕ) (g : Result (ℕ × ℕ) Refusal) → let o = quoted_gap g src s d from to end t1 t9 in Acts src o.state.at o.draft.to o.draft.action
+        rows from to end (Ok (i, n)) = none _ _
+        rows from to end (Err f) = none _ _
 
-        go : (r : Token) → let o = quoted_found r src s d t1 t9 in Acts src o.state.at o.draft.to o.draft.action
-        go (Found p end q) = rows p.from p.to end (gap_at s.kind true src end)
-        go (NoToken k) = none _ _
+        go : (r : Result (Place × ℕ × Bool) ℕ) → let o = quoted_found r src s d t1 t9 in Acts src o.state.at o.draft.to o.draft.action
+        go (Ok (p, end, q)) = rows p.from p.to end (gap_at s.kind true src end)
+        go (Err k) = none _ _
 
     prec_acts : (t1 : List ℕ) → let o = prec_item src s d t1 in Acts src o.state.at o.draft.to o.draft.action
     unfolding prec_item prec_name
     prec_acts t1 = go (gap_at s.kind true src s.at)
       where
-        name : (i : ℕ) (r : Token) → let o = prec_found r src (with_at s i) d t1 in Acts src o.state.at o.draft.to o.draft.action
-        name i (Found p end q) = none _ _
-        name i (NoToken k) = none _ _
+        name : (i : ℕ) (r : Result (Place × ℕ × Bool) ℕ) → let o = prec_found r src (with_at s i) d t1 in Acts src o.state.at o.draft.to o.draft.action
+        name i (Ok (p, end, q)) = none _ _
+        name i (Err k) = none _ _
 
-        go : (g : Gap) → let o = prec_gap g src s d t1 in Acts src o.state.at o.draft.to o.draft.action
-        go (GapTo i n) = name i (token_at src i)
-        go (GapRefused f) = none _ _
+        go : (g : Result (ℕ × ℕ) Refusal) → let o = prec_gap g src s d t1 in Acts src o.state.at o.draft.to o.draft.action
+        go (Ok (i, n)) = name i (token_at src i)
+        go (Err f) = none _ _
 
     empty_acts : (first : ℕ) → let o = empty_item src s d first in Acts src o.state.at o.draft.to o.draft.action
     unfolding empty_item
     empty_acts first = go (gap_at s.kind true src s.at)
       where
-        go : (g : Gap) → let o = empty_gap g src s d first in Acts src o.state.at o.draft.to o.draft.action
-        go (GapTo k n) = on_test (λ (o : Made0). Acts src o.state.at o.draft.to o.draft.action) (eqb (count s symbols) d.first && may_follow src k) _ _ (λ e. none _ _) (λ e. none _ _)
-        go (GapRefused f) = none _ _
+        go : (g : Result (ℕ × ℕ) Refusal) → let o = empty_gap g src s d first in Acts src o.state.at o.draft.to o.draft.action
+        go (Ok (k, n)) = on_test (λ (o : Made0). Acts src o.state.at o.draft.to o.draft.action) (eqb (count s symbols) d.first && may_follow src k) _ _ (λ e. none _ _) (λ e. none _ _)
+        go (Err f) = none _ _
 
     bare_acts : (t1 t9 : List ℕ) → let o = bare_item src s d t1 t9 in Acts src o.state.at o.draft.to o.draft.action
     unfolding bare_item
     bare_acts t1 t9 = go (token_at src s.at)
       where
-        go : (r : Token) → let o = bare_found r src s d t1 t9 in Acts src o.state.at o.draft.to o.draft.action
-        go (Found p end q) = none _ _
-        go (NoToken k) = none _ _
+        go : (r : Result (Place × ℕ × Bool) ℕ) → let o = bare_found r src s d t1 t9 in Acts src o.state.at o.draft.to o.draft.action
+        go (Ok (p, end, q)) = none _ _
+        go (Err k) = none _ _
 
   -- behind an action where the reading goes on, it is one as it stands in the source
   action_acts : (s : State) (d : Production) → s.at < length src → get_or src s.at 0 ≡ 123 → let o = action_item src s d in o.answer ≡ Going → Acts src o.state.at o.draft.to o.draft.action
@@ -270,13 +264,13 @@ module _ (src : List ℕ) (t : Text src) (kind : ℕ) (t7 : List ℕ) where
       Goes : Made0 → Type 0
       Goes o = o.answer ≡ Going → Acts src o.state.at o.draft.to o.draft.action
 
-      gap : (a b c e : ℕ) → ActionMade src s.at a b c e → (g : Gap) → Goes (action_gap g src s (with_action (with_to d s.at) a b c e))
-      gap a b c e y (GapTo i n) = on_test Goes (may_end src i) _ _ (λ m g. (y, m)) (λ m g. absurd (refused_going _ g))
-      gap a b c e y (GapRefused f) = λ g. absurd (refused_going f g)
+      gap : (a b c e : ℕ) → ActionMade src s.at a b c e → (g : Result (ℕ × ℕ) Refusal) → Goes (action_gap g src s (with_action (with_to d s.at) a b c e))
+      gap a b c e y (Ok (i, n)) = on_test Goes (may_end src i) _ _ (λ m g. (y, m)) (λ m g. absurd (refused_going _ g))
+      gap a b c e y (Err f) = λ g. absurd (refused_going f g)
 
-      go : (r : Action) → action_at src s.at ≡ r → Goes (action_found r src s d)
-      go (Body end n p q) e = gap p.from p.to q.from q.to (action_region src t s.at end n p q h b e) (gap_at s.kind true src end)
-      go (OpenAction i) e = λ g. absurd (refused_going _ g)
+      go : (r : Result (ℕ × ℕ × Place × Place) ℕ) → action_at src s.at ≡ r → Goes (action_found r src s d)
+      go (Ok (end, n, p, q)) e = gap p.from p.to q.from q.to (action_region src t s.at end n p q h b e) (gap_at s.kind true src end)
+      go (Err i) e = λ g. absurd (refused_going _ g)
 
   module _ (s : State) (d : Production) (t1 t8 t9 : List ℕ) (x : MadeAt src kind s t7 t8 t9) (y : Acts src s.at d.to d.action) where
     none : (may_end src s.at ≡ true → ⊥) → (i to : ℕ) → Acts src i to d.action

@@ -1,5 +1,6 @@
 -- What the rows of a reading are in its source, whatever the source, the kind, the lent tables and the answer: a read that was refused for more than repeats leaves
 -- no row and no parse parameter. Assumes nothing.
+use Rattle.std.specs.Prelude.{Option, Some, None, Ok, Err, Result}
 use Prim.Native.Nat.{ℕ, ◌+◌, ◌≤◌, ◌<◌}
 use mathlib.Core.Path.{◌≡◌, refl}
 use mathlib.Core.List.{List}
@@ -8,8 +9,6 @@ use native.Mathlib.Omega.{arith}
 use lib.Dec.{ltb, eqb}
 use lib.ListN.{length, get_or}
 use Rattle.scan.proofs.Bytes.{on_test, told}
-use Rattle.whole.specs.declared.Checked.{Checked}
-use Rattle.whole.specs.declared.Checked.TheVariants.{Good, BadAt}
 use Rattle.whole.specs.Whole.{check_at}
 use Rattle.whole.specs.Encode.{Text}
 use Rattle.whole.proofs.Theorems.{good_iff}
@@ -17,8 +16,6 @@ use Rattle.tables.specs.Rows.{row_at}
 use Rattle.tables.specs.Layout.{rules, productions, symbols, repeats, place, action, kind_name, known_row, width}
 use Rattle.symbols.specs.Symbols.{Lexicon, filled_rows}
 use Rattle.symbols.proofs.Laws.{fill_cell}
-use Rattle.grammar.specs.declared.Param.{Param}
-use Rattle.grammar.specs.declared.Param.TheVariants.{NoParam, ParamAt}
 use Rattle.grammar.specs.declared.Counts.{Counts}
 use Rattle.grammar.specs.declared.State.{State}
 use Rattle.grammar.specs.declared.Answer.{Answer}
@@ -27,11 +24,10 @@ use Rattle.grammar.specs.State.{count, fresh}
 use Rattle.grammar.specs.Sound.{AllTables, Indexes, zero_all}
 use Rattle.declarations.specs.Declarations.{Out, decl_all}
 use Rattle.rules.specs.Rules.{Ruled, rules_all}
-use Rattle.sections.specs.declared.Admission.{Admission}
-use Rattle.sections.specs.declared.Admission.TheVariants.{Fit, Unfit}
+use Rattle.grammar.specs.declared.Refusal.{Refusal}
 use Rattle.sections.specs.Sections.{as_text, sized, sized_text, admitted, rest_from, rest_all, declared, sections_from, sections_all, attempt_of, attempted}
 use Rattle.reader.specs.declared.Reading.{Reading}
-use Rattle.reader.specs.Read.{Result, ended_at, finished, finished_run, indexed, filled_in, read_names, read_all}
+use Rattle.reader.specs.Read.{ReadResult, ended_at, finished, finished_run, indexed, filled_in, read_names, read_all}
 use Rattle.meaning.specs.Regions.{ParamMade, ActionMade}
 use Rattle.meaning.specs.Made.{SymbolMade, TypeMade, ParamFrom, Made, MadeAt}
 use Rattle.meaning.specs.Left.{MadeOf}
@@ -39,7 +35,7 @@ use Rattle.meaning.proofs.Rules.{MadeIn, rules_made, programs_made}
 use Rattle.meaning.proofs.Declarations.{declarations_made}
 
 -- no row and no parse parameter
-none_made : (src : List ℕ) (kind : ℕ) (c : Counts) (t7 t8 t9 : List ℕ) → get_or c.n rules 0 ≡ 0 → get_or c.n productions 0 ≡ 0 → get_or c.n symbols 0 ≡ 0 → Made src kind c NoParam t7 t8 t9
+none_made : (src : List ℕ) (kind : ℕ) (c : Counts) (t7 t8 t9 : List ℕ) → get_or c.n rules 0 ≡ 0 → get_or c.n productions 0 ≡ 0 → get_or c.n symbols 0 ≡ 0 → Made src kind c None t7 t8 t9
 none_made src kind c t7 t8 t9 a b d = record { rules = λ q r l. absurd (omega arith); productions = λ r l. absurd (omega arith); symbols = λ r l. absurd (omega arith); param = tt }
 
 module _ (src : List ℕ) (kind : ℕ) where
@@ -61,7 +57,7 @@ module _ (src : List ℕ) (kind : ℕ) where
       go (Refused f) o x = x
 
   -- a symbol's row number has nothing to do with its name
-  made_filled : (c : Counts) (p : Param) (t7 t8 t9 : List ℕ) (g : Lexicon) (n : ℕ) → Made src kind c p t7 t8 t9 → Made src kind c p t7 t8 (filled_rows g t9 n)
+  made_filled : (c : Counts) (p : Option (ℕ × ℕ × ℕ × ℕ)) (t7 t8 t9 : List ℕ) (g : Lexicon) (n : ℕ) → Made src kind c p t7 t8 t9 → Made src kind c p t7 t8 (filled_rows g t9 n)
   made_filled c p t7 t8 t9 g n x =
       record {
         rules = x.rules;
@@ -86,17 +82,17 @@ module _ (src : List ℕ) (kind : ℕ) where
       go (Refused f) = none_made src kind _ _ _ _ refl refl refl
 
   -- a source that can be read is a text
-  abbrev Admits : Admission → Type 0
-  Admits Fit = Text src
-  Admits (Unfit f) = Unit {0}
+  abbrev Admits : Result (Unit {0}) Refusal → Type 0
+  Admits (Ok _) = Text src
+  Admits (Err f) = Unit {0}
 
   admits : (fit : Bool) → Admits (admitted src kind fit)
   unfolding admitted
   admits fit = on_test Admits (ltb kind 1 || ltb 4 kind) _ _ (λ e. tt) (λ e. by fit)
     where
-      go : (c : Checked) → check_at src 0 ≡ c → Admits (as_text c)
-      go Good e = (good_iff src).0 e
-      go (BadAt i) e = tt
+      go : (c : Result (Unit {0}) ℕ) → check_at src 0 ≡ c → Admits (as_text c)
+      go (Ok _) e = (good_iff src).0 e
+      go (Err i) e = tt
 
       by : (b : Bool) → Admits (sized_text b src)
       by true = on_test Admits (ltb 65536 (length src)) _ _ (λ h. tt) (λ h. go (check_at src 0) refl)
@@ -107,12 +103,12 @@ module _ (src : List ℕ) (kind : ℕ) where
   unfolding read_all read_names attempted
   read_made T X = go (admitted src kind (sized T X)) (admits (sized T X))
     where
-      go : (m : Admission) → Admits m → MadeOf src kind (filled_in src (indexed src X (finished_run (attempt_of m src kind (zero_all T)))))
-      go Fit t = let r = sections_all src (fresh kind) (zero_all T) in finished_made X r.answer r.state r.tables (sections_made t (zero_all T))
-      go (Unfit f) t = none_made src kind _ _ _ _ refl refl refl
+      go : (m : Result (Unit {0}) Refusal) → Admits m → MadeOf src kind (filled_in src (indexed src X (finished_run (attempt_of m src kind (zero_all T)))))
+      go (Ok _) t = let r = sections_all src (fresh kind) (zero_all T) in finished_made X r.answer r.state r.tables (sections_made t (zero_all T))
+      go (Err f) t = none_made src kind _ _ _ _ refl refl refl
 
   module _ (T : AllTables) (X : Indexes) where
-    abbrev o : Result
+    abbrev o : ReadResult
     o = read_all src kind T X
 
     -- Every symbol is a token as it stands in the source, a rule's name in a production is a bare one, and a bare one has no dot.
@@ -132,5 +128,5 @@ module _ (src : List ℕ) (kind : ℕ) where
     type_trimmed = (read_made T X).rules
 
     -- The parse parameter's name is what trimming leaves of the region from behind a `%parse-param` to a single colon.
-    pub param_trimmed : (a b c d : ℕ) → o.singles.param ≡ ParamAt a b c d → ParamMade kind src a b
+    pub param_trimmed : (a b c d : ℕ) → o.singles.param ≡ Some (a, b, c, d) → ParamMade kind src a b
     param_trimmed a b c d e = told (ParamFrom kind src) e (read_made T X).param

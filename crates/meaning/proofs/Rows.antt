@@ -1,4 +1,5 @@
 -- The steps that add a row, and those that leave tables 7, 8 and 9 alone, keep what is known of a reading's rows, whatever their answer. Assumes nothing.
+use Rattle.std.specs.Prelude.{Option, Some, None, Result, Ok, Err}
 use Prim.Native.Nat.{ℕ, zero, suc, ◌+◌, ◌*◌, ◌≤◌, ◌<◌}
 use mathlib.Core.Path.{◌≡◌, refl}
 use mathlib.Core.List.{List, [], ◌∷◌}
@@ -7,23 +8,16 @@ use native.Mathlib.Omega.{arith}
 use native.Mathlib.Decide.{dec_lt}
 use lib.ListN.{length, get_or, set}
 use lib.Seq.{get_or-set_other}
-use Rattle.tables.specs.declared.Found.{Found}
-use Rattle.tables.specs.declared.Found.TheVariants.{RowAt, NoRow}
-use Rattle.tables.specs.declared.Entered.{Entered}
-use Rattle.tables.specs.declared.Entered.TheVariants.{Rows, Full}
 use Rattle.tables.specs.Table.{Added, put, add_row, flag, enter_token, cell, find_name}
 use Rattle.tables.specs.Rows.{row_at}
 use Rattle.tables.specs.Layout.{tokens, rules, productions, symbols, repeats, row_place, width}
 use Rattle.tables.proofs.Rows.{row_new, row_old}
 use Rattle.tables.proofs.Cases.{add_cases}
-use Rattle.grammar.specs.declared.Part.{Part}
-use Rattle.grammar.specs.declared.Part.TheVariants.{Absent, At}
 use Rattle.grammar.specs.declared.Repeat.{Repeat}
 use Rattle.grammar.specs.declared.State.{State}
 use Rattle.grammar.specs.declared.Answer.{Answer}
 use Rattle.grammar.specs.declared.Answer.TheVariants.{Going, Done, Refused}
-use Rattle.grammar.specs.declared.Gap.{Gap}
-use Rattle.grammar.specs.declared.Gap.TheVariants.{GapTo, GapRefused}
+use Rattle.grammar.specs.declared.Refusal.{Refusal}
 use Rattle.grammar.specs.Refusals.{number_of_repeat}
 use Rattle.grammar.specs.Cells.{token_cells, rule_cells, repeat_cells}
 use Rattle.grammar.specs.State.{count, with_count, gap_at, pushed, push_row, list_repeat, entered, enter_step, once_found, once_step, past, past_gap, pass_on}
@@ -58,9 +52,9 @@ pub high_other : (k : ℕ) → symbols < k → Other k
 high_other k h = record { no_rules = λ e. omega arith; no_productions = λ e. omega arith; no_symbols = λ e. omega arith }
 
 -- the type of a rule whose name ends at `end`, in kind 2
-abbrev pub TypeGiven : ℕ → List ℕ → ℕ → Part → Type 0
-TypeGiven kind src end Absent = ⊥
-TypeGiven kind src end (At a b) = Arrowed kind src end a b
+abbrev pub TypeGiven : ℕ → List ℕ → ℕ → Option (ℕ × ℕ) → Type 0
+TypeGiven kind src end None = ⊥
+TypeGiven kind src end (Some (a, b)) = Arrowed kind src end a b
 
 module _ (src : List ℕ) (kind : ℕ) (s : State) (t7 t8 t9 : List ℕ) (x : MadeAt src kind s t7 t8 t9) where
   -- another count,
@@ -94,27 +88,27 @@ module _ (src : List ℕ) (kind : ℕ) (s : State) (t7 t8 t9 : List ℕ) (x : Ma
   unfolding once_step
   once_made k w name what row t t10 o = go (find_name src w name (count s k) t (get_or row name 0) (get_or row (name + 1) 0))
     where
-      go : (f : Found) → MadeAt src kind (once_found f s k w what row t t10).state t7 t8 t9
-      go (RowAt r) = repeat_made what (cell w t r (row_place k)) (cell w t r (row_place k + 1)) (get_or row (row_place k) 0) (get_or row (row_place k + 1) 0) t10
-      go NoRow = push_other k row t o
+      go : (f : Option ℕ) → MadeAt src kind (once_found f s k w what row t t10).state t7 t8 t9
+      go (Some r) = repeat_made what (cell w t r (row_place k)) (cell w t r (row_place k + 1)) (get_or row (row_place k) 0) (get_or row (row_place k + 1) 0) t10
+      go None = push_other k row t o
 
   -- a token entered,
   pub enter_made : (a b : ℕ) (d : Bool) (t : List ℕ) → MadeAt src kind (enter_step src s a b d t).state t7 t8 t9
   unfolding enter_step
   enter_made a b d t = go (enter_token src (count s tokens) a b d t).entered (enter_token src (count s tokens) a b d t).cells
     where
-      go : (q : Entered) (u : List ℕ) → MadeAt src kind (entered q s (token_cells a b (flag d)) u).state t7 t8 t9
-      go (Rows m) u = count_made tokens m (low_other tokens (omega arith))
-      go Full u = x
+      go : (q : Option ℕ) (u : List ℕ) → MadeAt src kind (entered q s (token_cells a b (flag d)) u).state t7 t8 t9
+      go (Some m) u = count_made tokens m (low_other tokens (omega arith))
+      go None u = x
 
   -- spacing,
   pub pass_made : (line : Bool) (j : ℕ) (a : Answer) → MadeAt src kind (pass_on src line j a s).state t7 t8 t9
   unfolding past_gap
   pass_made line j Going = go (gap_at s.kind true src j)
     where
-      go : (g : Gap) → MadeAt src kind (past line g s).state t7 t8 t9
-      go (GapTo i n) = x
-      go (GapRefused f) = x
+      go : (g : Result (ℕ × ℕ) Refusal) → MadeAt src kind (past line g s).state t7 t8 t9
+      go (Ok (i, n)) = x
+      go (Err f) = x
   pass_made line j Done = x
   pass_made line j (Refused f) = x
 
@@ -151,7 +145,7 @@ module _ (src : List ℕ) (kind : ℕ) (s : State) (t7 t8 t9 : List ℕ) (x : Ma
       (λ full. x)
 
   -- and a rule's row, with its type in kind 2.
-  pub rule_made : (from to : ℕ) (given : Part) → (kind ≡ 2 → TypeGiven kind src to given) → let o = push_row s rules (rule_cells from to given) t7 in MadeAt src kind o.state o.a t8 t9
+  pub rule_made : (from to : ℕ) (given : Option (ℕ × ℕ)) → (kind ≡ 2 → TypeGiven kind src to given) → let o = push_row s rules (rule_cells from to given) t7 in MadeAt src kind o.state o.a t8 t9
   unfolding push_row
   rule_made from to given h =
       add_cases (λ (o : Added). let z = pushed o.ok s rules row o.cells in MadeAt src kind z.state z.a t8 t9) (count s rules) row t7
@@ -169,7 +163,7 @@ module _ (src : List ℕ) (kind : ℕ) (s : State) (t7 t8 t9 : List ℕ) (x : Ma
       row : List ℕ
       row = rule_cells from to given
 
-      typed : (g : Part) → TypeGiven kind src to g → let r = rule_cells from to g in count s rules * length r + length r ≤ length t7 → EachRow (TypeMade kind src) (width rules) (count s rules) t7 → EachRow (TypeMade kind src) (width rules) (get_or (set s.counts.n rules (count s rules + 1)) rules 0) (put t7 (count s rules * length r) r)
-      typed Absent y room z = absurd y
-      typed (At a b) y room z =
-          each_add (TypeMade kind src) (width rules) (count s rules) _ (rule_cells from to (At a b)) t7 refl room (set_most s.counts.n rules (count s rules + 1)) (record { given = refl; arrowed = y }) z
+      typed : (g : Option (ℕ × ℕ)) → TypeGiven kind src to g → let r = rule_cells from to g in count s rules * length r + length r ≤ length t7 → EachRow (TypeMade kind src) (width rules) (count s rules) t7 → EachRow (TypeMade kind src) (width rules) (get_or (set s.counts.n rules (count s rules + 1)) rules 0) (put t7 (count s rules * length r) r)
+      typed None y room z = absurd y
+      typed (Some (a, b)) y room z =
+          each_add (TypeMade kind src) (width rules) (count s rules) _ (rule_cells from to (Some (a, b))) t7 refl room (set_most s.counts.n rules (count s rules + 1)) (record { given = refl; arrowed = y }) z

@@ -1,4 +1,5 @@
 -- The rules section keeps what is known of a reading's rows, whatever its answer. Assumes nothing.
+use Rattle.std.specs.Prelude.{Option, Some, None, Result, Ok, Err}
 use Prim.Native.Nat.{ℕ, suc, ◌+◌}
 use mathlib.Core.Path.{◌≡◌, refl, ◌∙◌}
 use mathlib.Core.List.{List, [], ◌∷◌}
@@ -11,25 +12,17 @@ use Rattle.scan.specs.Scan.{starts_at}
 use Rattle.scan.proofs.Bytes.{on_test, told}
 use Rattle.scan.proofs.Loop.{Either, turns_keep}
 use Rattle.whole.specs.Encode.{Text}
-use Rattle.words.specs.declared.Name.{Name}
-use Rattle.words.specs.declared.Name.TheVariants.{NameTo, NoName}
 use Rattle.words.specs.Words.{name_at}
-use Rattle.texts.specs.declared.ColonText.{ColonText}
-use Rattle.texts.specs.declared.ColonText.TheVariants.{Upto, NoColon}
+use Rattle.scan.specs.declared.Place.{Place}
 use Rattle.texts.specs.Colon.{colon_text_at}
-use Rattle.tables.specs.declared.Found.{Found}
-use Rattle.tables.specs.declared.Found.TheVariants.{RowAt, NoRow}
 use Rattle.tables.specs.Table.{find_name}
 use Rattle.tables.specs.Layout.{rules, symbols, width}
-use Rattle.grammar.specs.declared.Part.{Part}
-use Rattle.grammar.specs.declared.Part.TheVariants.{Absent, At}
 use Rattle.grammar.specs.declared.State.{State}
 use Rattle.grammar.specs.declared.Cause.{Cause}
 use Rattle.grammar.specs.declared.Cause.TheVariants.{MissingColon, MissingRightArrow, UnknownDeclaration}
 use Rattle.grammar.specs.declared.Answer.{Answer}
 use Rattle.grammar.specs.declared.Answer.TheVariants.{Going, Done, Refused}
-use Rattle.grammar.specs.declared.Gap.{Gap}
-use Rattle.grammar.specs.declared.Gap.TheVariants.{GapTo, GapRefused}
+use Rattle.grammar.specs.declared.Refusal.{Refusal}
 use Rattle.grammar.specs.State.{Out0, count, with_at, gap_at, past, past_gap}
 use Rattle.grammar.proofs.Touch.{refused_going}
 use Rattle.grammar.proofs.Kept.{onward_keep}
@@ -50,17 +43,17 @@ module _ (src : List ℕ) (t : Text src) where
   unfolding arrow_type pass_mark past_gap colon_type
   arrow_typed s = go (gap_at s.kind true src s.at) refl
     where
-      text : (i n k m : ℕ) → gap_at s.kind true src s.at ≡ GapTo i n → starts_at arrow_word src i ≡ true → gap_at s.kind true src (i + 2) ≡ GapTo k m → (c : ColonText) → colon_text_at src k ≡ c → Typed s.kind s.at (colon_given c (with_at s k))
-      text i n k m g a h (Upto to l p) e = λ q. record { at = i; lines = n; spacing = gap_spaces s.kind true src s.at i n g; arrow = a; type = word_region src t s.kind arrow_word true i k m to l p a (omega arith) (omega arith) h e }
-      text i n k m g a h (NoColon j) e = λ q. absurd (refused_going _ q)
+      text : (i n k m : ℕ) → gap_at s.kind true src s.at ≡ Ok (i, n) → starts_at arrow_word src i ≡ true → gap_at s.kind true src (i + 2) ≡ Ok (k, m) → (c : Result (ℕ × ℕ × Place) ℕ) → colon_text_at src k ≡ c → Typed s.kind s.at (colon_given c (with_at s k))
+      text i n k m g a h (Ok (to, l, p)) e = λ q. record { at = i; lines = n; spacing = gap_spaces s.kind true src s.at i n g; arrow = a; type = word_region src t s.kind arrow_word true i k m to l p a (omega arith) (omega arith) h e }
+      text i n k m g a h (Err j) e = λ q. absurd (refused_going _ q)
 
-      behind : (i n : ℕ) → gap_at s.kind true src s.at ≡ GapTo i n → starts_at arrow_word src i ≡ true → (h : Gap) → gap_at s.kind true src (i + 2) ≡ h → Typed s.kind s.at (arrow_out src (past false h s))
-      behind i n g a (GapTo k m) h = text i n k m g a h (colon_text_at src k) refl
-      behind i n g a (GapRefused f) h = λ q. absurd (refused_going f q)
+      behind : (i n : ℕ) → gap_at s.kind true src s.at ≡ Ok (i, n) → starts_at arrow_word src i ≡ true → (h : Result (ℕ × ℕ) Refusal) → gap_at s.kind true src (i + 2) ≡ h → Typed s.kind s.at (arrow_out src (past false h s))
+      behind i n g a (Ok (k, m)) h = text i n k m g a h (colon_text_at src k) refl
+      behind i n g a (Err f) h = λ q. absurd (refused_going f q)
 
-      go : (g : Gap) → gap_at s.kind true src s.at ≡ g → Typed s.kind s.at (arrow_out src (mark_gap g src s arrow_word MissingRightArrow))
-      go (GapTo i n) g = on_test (λ (o : Out0). Typed s.kind s.at (arrow_out src o)) (starts_at arrow_word src i) _ _ (λ a. behind i n g a (gap_at s.kind true src (i + 2)) refl) (λ a q. absurd (refused_going _ q))
-      go (GapRefused f) g = λ q. absurd (refused_going f q)
+      go : (g : Result (ℕ × ℕ) Refusal) → gap_at s.kind true src s.at ≡ g → Typed s.kind s.at (arrow_out src (mark_gap g src s arrow_word MissingRightArrow))
+      go (Ok (i, n)) g = on_test (λ (o : Out0). Typed s.kind s.at (arrow_out src o)) (starts_at arrow_word src i) _ _ (λ a. behind i n g a (gap_at s.kind true src (i + 2)) refl) (λ a q. absurd (refused_going _ q))
+      go (Err f) g = λ q. absurd (refused_going f q)
 
   type_typed : (s : State) → s.kind ≡ 2 → Typed s.kind s.at (rule_type src s)
   unfolding rule_type
@@ -72,18 +65,18 @@ module _ (src : List ℕ) (t : Text src) where
     unfolding pass_mark
     mark_made s t7 t8 t9 x word cause = go (gap_at s.kind true src s.at)
       where
-        go : (g : Gap) → MadeAt src kind (mark_gap g src s word cause).state t7 t8 t9
-        go (GapTo i n) = on_test (λ (o : Out0). MadeAt src kind o.state t7 t8 t9) (starts_at word src i) _ _ (λ e. pass_made src kind s t7 t8 t9 x false (i + length word) Going) (λ e. x)
-        go (GapRefused f) = x
+        go : (g : Result (ℕ × ℕ) Refusal) → MadeAt src kind (mark_gap g src s word cause).state t7 t8 t9
+        go (Ok (i, n)) = on_test (λ (o : Out0). MadeAt src kind o.state t7 t8 t9) (starts_at word src i) _ _ (λ e. pass_made src kind s t7 t8 t9 x false (i + length word) Going) (λ e. x)
+        go (Err f) = x
 
     -- the start
     start_made : (s : State) (t7 t8 t9 : List ℕ) → MadeAt src kind s t7 t8 t9 → (from to : ℕ) → MadeAt src kind (first_start s from to) t7 t8 t9
     unfolding first_start
     start_made s t7 t8 t9 x from to = go s.singles.start
       where
-        go : (q : Part) → MadeAt src kind (start_or q s from to) t7 t8 t9
-        go Absent = x
-        go (At a b) = x
+        go : (q : Option (ℕ × ℕ)) → MadeAt src kind (start_or q s from to) t7 t8 t9
+        go None = x
+        go (Some (a, b)) = x
 
     -- the type of a rule
     type_made : (s : State) (t7 t8 t9 : List ℕ) → MadeAt src kind s t7 t8 t9 → MadeAt src kind (rule_type src s).state t7 t8 t9
@@ -93,9 +86,9 @@ module _ (src : List ℕ) (t : Text src) where
         (λ e. let o = pass_mark src s arrow_word MissingRightArrow in go o.answer o.state (mark_made s t7 t8 t9 x arrow_word MissingRightArrow))
         (λ e. x)
       where
-        text : (c : ColonText) (u : State) → MadeAt src kind u t7 t8 t9 → MadeAt src kind (colon_given c u).state t7 t8 t9
-        text (Upto to n p) u y = y
-        text (NoColon i) u y = y
+        text : (c : Result (ℕ × ℕ × Place) ℕ) (u : State) → MadeAt src kind u t7 t8 t9 → MadeAt src kind (colon_given c u).state t7 t8 t9
+        text (Ok (to, n, p)) u y = y
+        text (Err i) u y = y
 
         go : (a : Answer) (u : State) → MadeAt src kind u t7 t8 t9 → MadeAt src kind (arrow_passed a src u).state t7 t8 t9
         go Going u y = text (colon_text_at src u.at) u y
@@ -103,13 +96,13 @@ module _ (src : List ℕ) (t : Text src) where
         go (Refused f) u y = y
 
     -- a rule's row
-    entered_made : (s : State) (t7 t8 t9 : List ℕ) → MadeAt src kind s t7 t8 t9 → (from to : ℕ) (given : Part) → (kind ≡ 2 → TypeGiven kind src to given) → let h = enter_rule src s from to given t7 in MadeAt src kind h.state h.t7 t8 t9
+    entered_made : (s : State) (t7 t8 t9 : List ℕ) → MadeAt src kind s t7 t8 t9 → (from to : ℕ) (given : Option (ℕ × ℕ)) → (kind ≡ 2 → TypeGiven kind src to given) → let h = enter_rule src s from to given t7 in MadeAt src kind h.state h.t7 t8 t9
     unfolding enter_rule
     entered_made s t7 t8 t9 x from to given y = go (find_name src (width rules) 0 (count s rules) t7 from to)
       where
-        go : (f : Found) → let h = rule_found f s from to given t7 in MadeAt src kind h.state h.t7 t8 t9
-        go (RowAt r) = x
-        go NoRow = rule_made src kind s t7 t8 t9 x from to given y
+        go : (f : Option ℕ) → let h = rule_found f s from to given t7 in MadeAt src kind h.state h.t7 t8 t9
+        go (Some r) = x
+        go None = rule_made src kind s t7 t8 t9 x from to given y
 
     -- the head of a rule,
     head_made : (s : State) (t7 t8 t9 : List ℕ) → MadeAt src kind s t7 t8 t9 → let h = rule_head src s t7 in MadeAt src kind h.state h.t7 t8 t9
@@ -121,13 +114,13 @@ module _ (src : List ℕ) (t : Text src) where
         go j Done o e y z = y
         go j (Refused f) o e y z = y
 
-        name : (n : Name) → let h = head_found n src s t7 in MadeAt src kind h.state h.t7 t8 t9
-        name (NameTo j) =
+        name : (n : Result ℕ ℕ) → let h = head_found n src s t7 in MadeAt src kind h.state h.t7 t8 t9
+        name (Ok j) =
             let v = with_at (first_start s s.at j) j in
             let o = rule_type src v in
             let y = start_made s t7 t8 t9 x s.at j in
             go j o.answer o refl (type_made v t7 t8 t9 y) (λ k. told (λ (q : ℕ). Typed q j o) y.1 (type_typed v (y.1 ∙ k)))
-        name (NoName k) = x
+        name (Err k) = x
 
     -- its body,
     body_made : (s : State) (t7 t8 t9 : List ℕ) → MadeAt src kind s t7 t8 t9 → (row : ℕ) (t1 : List ℕ) → let o = rule_body src s row t1 t8 t9 in MadeAt src kind o.state t7 o.t8 o.t9
@@ -182,6 +175,6 @@ module _ (src : List ℕ) (t : Text src) where
     unfolding programs_from
     programs_made s t7 t8 t9 x = on_test (λ (o : Out0). MadeAt src kind o.state t7 t8 t9) (starts_at percents src s.at) _ _ (λ e. go (gap_at s.kind true src (s.at + 2))) (λ e. x)
       where
-        go : (g : Gap) → MadeAt src kind (programs_gap g src s).state t7 t8 t9
-        go (GapTo i n) = x
-        go (GapRefused f) = x
+        go : (g : Result (ℕ × ℕ) Refusal) → MadeAt src kind (programs_gap g src s).state t7 t8 t9
+        go (Ok (i, n)) = x
+        go (Err f) = x

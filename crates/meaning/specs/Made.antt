@@ -1,11 +1,8 @@
 -- What the rows of tables 7, 8 and 9 and the parse parameter of a reading are in its source.
-use Rattle.std.specs.Prelude.{ℕ, ◌+◌, ◌≤◌, ◌<◌, ◌≡◌, List, Bool, false, get_or}
-use Rattle.words.specs.declared.Token.TheVariants.{Found}
+use Rattle.std.specs.Prelude.{ℕ, ◌+◌, ◌≤◌, ◌<◌, ◌≡◌, List, Bool, false, get_or, Option, Some, None, Ok}
 use Rattle.words.specs.Words.{token_at}
 use Rattle.tables.specs.Rows.{row_at}
 use Rattle.tables.specs.Layout.{rules, productions, symbols, typed, place, action, kind_name, width}
-use Rattle.grammar.specs.declared.Param.{Param}
-use Rattle.grammar.specs.declared.Param.TheVariants.{NoParam, ParamAt}
 use Rattle.grammar.specs.declared.Counts.{Counts}
 use Rattle.grammar.specs.declared.State.{State}
 use Rattle.meaning.specs.Regions.{ParamMade, Arrowed, ActionMade}
@@ -15,7 +12,7 @@ pub record SymbolMade (src x : List ℕ) : Type 0 where
   pub at : ℕ
   pub end : ℕ
   pub quoted : Bool
-  pub token : token_at src at ≡ Found (record { from = get_or x kind_name 0; to = get_or x (kind_name + 1) 0 }) end quoted
+  pub token : token_at src at ≡ Ok (record { from = get_or x kind_name 0; to = get_or x (kind_name + 1) 0 }, end, quoted)
   pub rule : get_or x 0 0 ≡ 1 → quoted ≡ false
   pub plain : quoted ≡ false → (k : ℕ) → get_or x kind_name 0 ≤ k → k < get_or x (kind_name + 1) 0 → get_or src k 0 ≡ 46 → ⊥
 
@@ -33,12 +30,12 @@ abbrev pub EachRow : (List ℕ → Type 0) → ℕ → ℕ → List ℕ → Type
 EachRow P w n t = (r : ℕ) → r < n → P (row_at w t r)
 
 -- the parse parameter's name, if it is given
-abbrev pub ParamFrom : ℕ → List ℕ → Param → Type 0
-ParamFrom kind src NoParam = Unit {0}
-ParamFrom kind src (ParamAt a b c d) = ParamMade kind src a b
+abbrev pub ParamFrom : ℕ → List ℕ → Option (ℕ × ℕ × ℕ × ℕ) → Type 0
+ParamFrom kind src None = Unit {0}
+ParamFrom kind src (Some (a, b, c, d)) = ParamMade kind src a b
 
 -- All of it, of the counts, the parse parameter and the tables 7, 8 and 9 of a reading.
-pub record Made (src : List ℕ) (kind : ℕ) (c : Counts) (p : Param) (t7 t8 t9 : List ℕ) : Type 0 where
+pub record Made (src : List ℕ) (kind : ℕ) (c : Counts) (p : Option (ℕ × ℕ × ℕ × ℕ)) (t7 t8 t9 : List ℕ) : Type 0 where
   pub rules : kind ≡ 2 → EachRow (TypeMade kind src) (width rules) (get_or c.n rules 0) t7
   pub productions : EachRow (ProductionMade src) (width productions) (get_or c.n productions 0) t8
   pub symbols : EachRow (SymbolMade src) (width symbols) (get_or c.n symbols 0) t9

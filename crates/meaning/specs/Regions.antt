@@ -1,7 +1,6 @@
 -- The regions of a source that a reading trims: where each begins and ends, without a scan.
-use Rattle.std.specs.Prelude.{ℕ, ◌+◌, ◌-◌, ◌≤◌, ◌<◌, ◌≡◌, List, [], ◌∷◌, Bool, true, false, length, get_or, take}
+use Rattle.std.specs.Prelude.{ℕ, ◌+◌, ◌-◌, ◌≤◌, ◌<◌, ◌≡◌, List, [], ◌∷◌, Bool, true, false, length, get_or, take, Ok}
 use Rattle.scan.specs.Scan.{starts_at}
-use Rattle.spacing.specs.declared.Spaced.TheVariants.{To}
 use Rattle.spacing.specs.Spacing.{spaces_at}
 use Rattle.whole.specs.Encode.{Text}
 use Rattle.texts.specs.Balance.{IsAction}
@@ -33,7 +32,7 @@ pub record ColonTrimmed (kind : ℕ) (src : List ℕ) (ok : Bool) (behind a b : 
   pub from : ℕ
   pub to : ℕ
   pub lines : ℕ
-  pub spacing : spaces_at kind ok src behind ≡ To from lines
+  pub spacing : spaces_at kind ok src behind ≡ Ok (from, lines)
   pub colon : SingleColon src from to
   pub part : TextPart src from to
   pub trimmed : Trimmed src from to (record { from = a; to = b })
@@ -56,7 +55,7 @@ arrow_word = 45 ∷ 62 ∷ []
 pub record Arrowed (kind : ℕ) (src : List ℕ) (end a b : ℕ) : Type 0 where
   pub at : ℕ
   pub lines : ℕ
-  pub spacing : spaces_at kind true src end ≡ To at lines
+  pub spacing : spaces_at kind true src end ≡ Ok (at, lines)
   pub arrow : starts_at arrow_word src at ≡ true
   pub type : ColonTrimmed kind src true (at + length arrow_word) a b
 

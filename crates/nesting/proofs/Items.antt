@@ -1,4 +1,5 @@
 -- Each item of a production that is taken, and the items of a rule, keep places nested. Assumes nothing.
+use Rattle.std.specs.Prelude.{Option, Some, None, Result, Ok, Err}
 use Prim.Native.Nat.{ℕ, suc, ◌+◌, ◌-◌, ◌*◌, ◌≤◌, ◌<◌}
 use mathlib.Core.Path.{◌≡◌, refl, sym, ◌∙◌}
 use mathlib.Core.List.{List, [], ◌∷◌}
@@ -9,24 +10,18 @@ use lib.ListN.{length, length-set}
 use Rattle.scan.specs.Scan.{starts_at}
 use Rattle.scan.proofs.Bytes.{on_test}
 use Rattle.scan.proofs.Loop.{Either, turns_end}
-use Rattle.words.specs.declared.Token.{Token}
-use Rattle.words.specs.declared.Token.TheVariants.{Found, NoToken}
+use Rattle.scan.specs.declared.Place.{Place}
 use Rattle.words.specs.Words.{token_at, Tokened}
 use Rattle.words.proofs.Words.{token_placed}
-use Rattle.texts.specs.declared.Action.{Action}
-use Rattle.texts.specs.declared.Action.TheVariants.{Body, OpenAction}
 use Rattle.texts.specs.Action.{action_at, Acted}
 use Rattle.texts.proofs.Laws.{action_placed}
-use Rattle.tables.specs.declared.Entered.{Entered}
-use Rattle.tables.specs.declared.Entered.TheVariants.{Rows, Full}
 use Rattle.tables.specs.Table.{Added, put, flag, enter_token}
 use Rattle.tables.specs.Layout.{tokens, productions, symbols, posix_from}
 use Rattle.tables.proofs.Cases.{add_cases}
 use Rattle.grammar.specs.declared.State.{State}
 use Rattle.grammar.specs.declared.Answer.{Answer}
 use Rattle.grammar.specs.declared.Answer.TheVariants.{Going, Done, Refused}
-use Rattle.grammar.specs.declared.Gap.{Gap}
-use Rattle.grammar.specs.declared.Gap.TheVariants.{GapTo, GapRefused}
+use Rattle.grammar.specs.declared.Refusal.{Refusal}
 use Rattle.grammar.specs.Cells.{symbol_cells, token_cells}
 use Rattle.grammar.specs.State.{Out1, count, with_at, gap_at, Gapped, pushed, push_row, entered, enter_step, past, past_gap, pass_on}
 use Rattle.grammar.proofs.Far.{far_at}
@@ -73,9 +68,9 @@ enter_still : (src : List ℕ) (s : State) (a b : ℕ) (d : Bool) (t : List ℕ)
 unfolding enter_step
 enter_still src s a b d t = go (enter_token src (count s tokens) a b d t).entered (enter_token src (count s tokens) a b d t).cells
   where
-    go : (q : Entered) (x : List ℕ) → TokensAlone s (entered q s (token_cells a b (flag d)) x).state
-    go (Rows m) x = record { other = count_other s tokens m; ten = length-set s.counts.n tokens m; at = refl }
-    go Full x = record { other = λ j e. refl; ten = refl; at = refl }
+    go : (q : Option ℕ) (x : List ℕ) → TokensAlone s (entered q s (token_cells a b (flag d)) x).state
+    go (Some m) x = record { other = count_other s tokens m; ten = length-set s.counts.n tokens m; at = refl }
+    go None x = record { other = λ j e. refl; ten = refl; at = refl }
 
 -- A symbol's row is added behind those counted in v, and the reading comes to stand at u.
 symbol_nested : {src : List ℕ} (s : State) (d : Production) {t8 t9 : List ℕ} → Nested src s d t8 t9 → Actionless d.action → (v : State) → length v.counts.n ≡ 10 → count v symbols ≡ count s symbols → count v productions ≡ count s productions → (kind from to end : ℕ) → s.at ≤ from → from < to → to ≤ end → let o = push_row v symbols (symbol_cells kind from to) t9 in o.answer ≡ Going → (u : State) → u.counts ≡ o.state.counts → end ≤ u.at → Nested src u (with_to d end) t8 o.a
@@ -99,13 +94,13 @@ module _ {src : List ℕ} (s : State) (d : Production) {t8 t9 : List ℕ} (here 
   unfolding bare_item
   bare_nested t1 = go (token_at src s.at) (token_placed src s.at (token_at src s.at) refl).1
     where
-      go : (t : Token) → Tokened src s.at t → let o = bare_found t src s d t1 t9 in o.answer ≡ Going → Nested src o.state o.draft t8 o.a
-      go (Found p end q) y g =
+      go : (t : Result (Place × ℕ × Bool) ℕ) → Tokened src s.at t → let o = bare_found t src s d t1 t9 in o.answer ≡ Going → Nested src o.state o.draft t8 o.a
+      go (Ok (p, end, q)) y g =
           let k = symbol_kind src (count s tokens) t1 p.from p.to in
           let o = push_row s symbols (symbol_cells k p.from p.to) t9 in
           let w = (pass_going src false end o.answer o.state g).went in
           symbol_nested s d x free s ten refl refl k p.from p.to end y.0 y.1 y.2 w (pass_on src false end o.answer o.state).state (pass_counts src false end o.answer o.state) ((pass_onward src end o.state o.answer y.3).beyond g)
-      go (NoToken k) y g = absurd (refused_going _ g)
+      go (Err k) y g = absurd (refused_going _ g)
 
   -- a quoted one,
   quoted_rows_lem : (t1 : List ℕ) (from to end : ℕ) → s.at ≤ from → from < to → to ≤ end → end ≤ length src → let o = quoted_rows src s d from to end t1 t9 in o.answer ≡ Going → Nested src o.state o.draft t8 o.b
@@ -123,28 +118,28 @@ module _ {src : List ℕ} (s : State) (d : Production) {t8 t9 : List ℕ} (here 
       entry i h Done v z g = absurd (done_going g)
       entry i h (Refused f) v z g = absurd (refused_going f g)
 
-      go : (q : Gap) → Gapped src end q → let o = quoted_gap q src s d from to end t1 t9 in o.answer ≡ Going → Nested src o.state o.draft t8 o.b
-      go (GapTo i n) y g =
+      go : (q : Result (ℕ × ℕ) Refusal) → Gapped src end q → let o = quoted_gap q src s d from to end t1 t9 in o.answer ≡ Going → Nested src o.state o.draft t8 o.b
+      go (Ok (i, n)) y g =
           let h = y.0 in
           let v = enter_step src (with_at s i) from to false t1 in
           entry i (omega arith) v.answer v (enter_still src (with_at s i) from to false t1) g
-      go (GapRefused f) y g = absurd (refused_going f g)
+      go (Err f) y g = absurd (refused_going f g)
 
   quoted_nested : (t1 : List ℕ) → let o = quoted_item src s d t1 t9 in o.answer ≡ Going → Nested src o.state o.draft t8 o.b
   unfolding quoted_item
   quoted_nested t1 = go (token_at src s.at) (token_placed src s.at (token_at src s.at) refl).1
     where
-      go : (t : Token) → Tokened src s.at t → let o = quoted_found t src s d t1 t9 in o.answer ≡ Going → Nested src o.state o.draft t8 o.b
-      go (Found p end q) y g = quoted_rows_lem t1 p.from p.to end y.0 y.1 y.2 y.3 g
-      go (NoToken k) y g = absurd (refused_going _ g)
+      go : (t : Result (Place × ℕ × Bool) ℕ) → Tokened src s.at t → let o = quoted_found t src s d t1 t9 in o.answer ≡ Going → Nested src o.state o.draft t8 o.b
+      go (Ok (p, end, q)) y g = quoted_rows_lem t1 p.from p.to end y.0 y.1 y.2 y.3 g
+      go (Err k) y g = absurd (refused_going _ g)
 
   -- the name of a `%prec`,
   prec_name_lem : (t1 : List ℕ) → let o = prec_name src s d t1 in o.answer ≡ Going → Nested src o.state o.draft t8 t9
   unfolding prec_name
   prec_name_lem t1 = go (token_at src s.at) (token_placed src s.at (token_at src s.at) refl).1
     where
-      go : (t : Token) → Tokened src s.at t → let o = prec_found t src s d t1 in o.answer ≡ Going → Nested src o.state o.draft t8 t9
-      go (Found p end q) y g =
+      go : (t : Result (Place × ℕ × Bool) ℕ) → Tokened src s.at t → let o = prec_found t src s d t1 in o.answer ≡ Going → Nested src o.state o.draft t8 t9
+      go (Ok (p, end, q)) y g =
           let a = y.0 in
           let b = y.1 in
           let c = y.2 in
@@ -155,47 +150,47 @@ module _ {src : List ℕ} (s : State) (d : Production) {t8 t9 : List ℕ} (here 
           let n : count u symbols ≡ count s symbols = rw k (z.other symbols (λ e. omega arith)) in
           let m : count u productions ≡ count s productions = rw k (z.other productions (λ e. omega arith)) in
           rw (n, m) (lying_to x free end u.at (omega arith) ((pass_onward src end v.state v.answer y.3).beyond g))
-      go (NoToken k) y g = absurd (refused_going _ g)
+      go (Err k) y g = absurd (refused_going _ g)
 
   -- an action,
   action_nested : s.at < length src → Nests0 src t8 t9 (action_item src s d)
   unfolding action_item after_action
   action_nested h = go (action_at src s.at) (action_placed src s.at h (action_at src s.at) refl).1 (action_ended src s.at h)
     where
-      go : (t : Action) → Acted src s.at t → ActionEnded t → Nests0 src t8 t9 (action_found t src s d)
-      go (Body end n p q) y z = gap (gap_at s.kind true src end) (gapped s.kind true src end y.1)
+      go : (t : Result (ℕ × ℕ × Place × Place) ℕ) → Acted src s.at t → ActionEnded t → Nests0 src t8 t9 (action_found t src s d)
+      go (Ok (end, n, p, q)) y z = gap (gap_at s.kind true src end) (gapped s.kind true src end y.1)
         where
-          gap : (r : Gap) → Gapped src end r → Nests0 src t8 t9 (action_gap r src s (with_action (with_to d s.at) p.from p.to q.from q.to))
-          gap (GapTo i n) w =
+          gap : (r : Result (ℕ × ℕ) Refusal) → Gapped src end r → Nests0 src t8 t9 (action_gap r src s (with_action (with_to d s.at) p.from p.to q.from q.to))
+          gap (Ok (i, n)) w =
               let a = w.0 in
               let b = y.2 in
               on_test (Nests0 src t8 t9) (may_end src i) _ _
               (λ e g. lying_action x p.from p.to q.from q.to i (omega arith) y.3 (omega arith) e)
               (λ e g. absurd (refused_going _ g))
-          gap (GapRefused f) w = λ g. absurd (refused_going f g)
-      go (OpenAction i) y z = λ g. absurd (refused_going _ g)
+          gap (Err f) w = λ g. absurd (refused_going f g)
+      go (Err i) y z = λ g. absurd (refused_going _ g)
 
   -- and `%empty`, behind its keyword
   empty_nested : (first : ℕ) → Nests0 src t8 t9 (empty_item src s d first)
   unfolding empty_item
   empty_nested first = go (gap_at s.kind true src s.at) (gapped s.kind true src s.at here)
     where
-      go : (g : Gap) → Gapped src s.at g → Nests0 src t8 t9 (empty_gap g src s d first)
-      go (GapTo k n) y =
+      go : (g : Result (ℕ × ℕ) Refusal) → Gapped src s.at g → Nests0 src t8 t9 (empty_gap g src s d first)
+      go (Ok (k, n)) y =
           let b = y.0 in
           on_test (Nests0 src t8 t9) (eqb (count s symbols) d.first && may_follow src k) _ _
           (λ e g. lying_to x free s.at k (omega arith) (omega arith))
           (λ e g. absurd (refused_going _ g))
-      go (GapRefused f) y = λ g. absurd (refused_going f g)
+      go (Err f) y = λ g. absurd (refused_going f g)
 
 -- `%prec`, behind its keyword
 prec_nested : {src : List ℕ} (s : State) (d : Production) {t8 t9 : List ℕ} → s.at ≤ length src → length s.counts.n ≡ 10 → Nested src s d t8 t9 → Actionless d.action → (t1 : List ℕ) → let o = prec_item src s d t1 in o.answer ≡ Going → Nested src o.state o.draft t8 t9
 unfolding prec_item
 prec_nested {src} s d {t8} {t9} here ten x free t1 = go (gap_at s.kind true src s.at) (gapped s.kind true src s.at here)
   where
-    go : (g : Gap) → Gapped src s.at g → let o = prec_gap g src s d t1 in o.answer ≡ Going → Nested src o.state o.draft t8 t9
-    go (GapTo i n) y = let b = y.0 in prec_name_lem (with_at s i) d y.1 ten (lying_on x free i (omega arith)) free t1
-    go (GapRefused f) y = λ g. absurd (refused_going f g)
+    go : (g : Result (ℕ × ℕ) Refusal) → Gapped src s.at g → let o = prec_gap g src s d t1 in o.answer ≡ Going → Nested src o.state o.draft t8 t9
+    go (Ok (i, n)) y = let b = y.0 in prec_name_lem (with_at s i) d y.1 ten (lying_on x free i (omega arith)) free t1
+    go (Err f) y = λ g. absurd (refused_going f g)
 
 end_undone : (s : State) (d : Production) (t8 : List ℕ) → (end_production s d t8).answer ≡ Done → ⊥
 unfolding end_production push_production push_row
@@ -258,9 +253,9 @@ pub pass_undone : (src : List ℕ) (j : ℕ) (s : State) (a : Answer) → (a ≡
 unfolding past_gap
 pass_undone src j s Going h = go (gap_at s.kind true src j)
   where
-    go : (g : Gap) → (past false g s).answer ≡ Done → ⊥
-    go (GapTo i n) e = let z : ◌≡◌ {A = ℕ} 0 1 = cc in omega arith
-    go (GapRefused f) e = let z : ◌≡◌ {A = ℕ} 0 1 = cc in omega arith
+    go : (g : Result (ℕ × ℕ) Refusal) → (past false g s).answer ≡ Done → ⊥
+    go (Ok (i, n)) e = let z : ◌≡◌ {A = ℕ} 0 1 = cc in omega arith
+    go (Err f) e = let z : ◌≡◌ {A = ℕ} 0 1 = cc in omega arith
 pass_undone src j s Done h = h
 pass_undone src j s (Refused f) h = h
 

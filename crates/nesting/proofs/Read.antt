@@ -1,5 +1,6 @@
 -- Request Fourteen: places nest in every reading, whatever the source, the kind and the lent tables. The request speaks of kinds 1 to 3;
 -- no proof here looks at the kind, so it holds of kind 4 as well. Assumes nothing.
+use Rattle.std.specs.Prelude.{Result, Ok, Err}
 use Prim.Native.Nat.{ℕ, ◌+◌, ◌≤◌}
 use mathlib.Core.Path.{◌≡◌, refl, sym}
 use mathlib.Core.List.{List, []}
@@ -9,8 +10,6 @@ use lib.Dec.{ltb, eqb}
 use lib.ListN.{length, get_or}
 use borrow.Author.Tests.{ltb-false}
 use Rattle.scan.proofs.Bytes.{on_test}
-use Rattle.whole.specs.declared.Checked.{Checked}
-use Rattle.whole.specs.declared.Checked.TheVariants.{Good, BadAt}
 use Rattle.whole.specs.Whole.{check_at}
 use Rattle.tables.specs.Layout.{productions, symbols, repeats, kind_name, width}
 use Rattle.tables.specs.Rows.{row_at}
@@ -29,8 +28,7 @@ use Rattle.declarations.specs.Declarations.{Out, decl_all}
 use Rattle.declarations.proofs.Far.{FarAll, declarations_far}
 use Rattle.rules.specs.Rules.{Ruled, rules_all, programs_from}
 use Rattle.rules.proofs.Far.{WholeFar, rules_far, programs_far}
-use Rattle.sections.specs.declared.Admission.{Admission}
-use Rattle.sections.specs.declared.Admission.TheVariants.{Fit, Unfit}
+use Rattle.grammar.specs.declared.Refusal.{Refusal}
 use Rattle.sections.specs.Sections.{as_text, sized, sized_text, admitted, rest_from, rest_all, declared, with_declared, sections_from, sections_all, attempt_of, attempted}
 use Rattle.reader.specs.declared.Reading.{Reading}
 use Rattle.reader.specs.Read.{ended_at, finished, finished_run, with_symbols, read_names, read_all}
@@ -96,17 +94,17 @@ sections_nested src kind T h =
     go (Refused r) o f n m = lies_refused r o.state _ _
 
 -- a source that can be read is not too long
-abbrev Admits : List ℕ → Admission → Type 0
-Admits src Fit = length src ≤ 65536
-Admits src (Unfit f) = Unit {0}
+abbrev Admits : List ℕ → Result (Unit {0}) Refusal → Type 0
+Admits src (Ok _) = length src ≤ 65536
+Admits src (Err f) = Unit {0}
 
 admits : (src : List ℕ) (kind : ℕ) (fit : Bool) → Admits src (admitted src kind fit)
 unfolding admitted
 admits src kind fit = on_test (Admits src) (ltb kind 1 || ltb 4 kind) _ _ (λ e. tt) (λ e. by fit)
   where
-    go : (c : Checked) → length src ≤ 65536 → Admits src (as_text c)
-    go Good h = h
-    go (BadAt i) h = tt
+    go : (c : Result (Unit {0}) ℕ) → length src ≤ 65536 → Admits src (as_text c)
+    go (Ok _) h = h
+    go (Err i) h = tt
 
     by : (b : Bool) → Admits src (sized_text b src)
     by true = on_test (Admits src) (ltb 65536 (length src)) _ _ (λ h. tt) (λ h. go (check_at src 0) (ltb-false _ _ h))
@@ -147,6 +145,6 @@ pub read_nests : (src : List ℕ) (kind : ℕ) (T : AllTables) (X : Indexes) →
 unfolding read_all read_names attempted
 read_nests src kind T X = nest_filled _ (finished_run (attempted src kind (sized T X) (zero_all T))).tables _ _ (go (admitted src kind (sized T X)) (admits src kind (sized T X)))
   where
-    go : (m : Admission) → Admits src m → let o = finished_run (attempt_of m src kind (zero_all T)) in Nest o.counts (ten_of o.tables)
-    go Fit h = let r = sections_all src (fresh kind) (zero_all T) in finished_nested r.answer r.state r.tables (sections_nested src kind T h)
-    go (Unfit f) h = finished_nested (Refused f) (fresh kind) (zero_all T) (lies_refused f (fresh kind) _ _)
+    go : (m : Result (Unit {0}) Refusal) → Admits src m → let o = finished_run (attempt_of m src kind (zero_all T)) in Nest o.counts (ten_of o.tables)
+    go (Ok _) h = let r = sections_all src (fresh kind) (zero_all T) in finished_nested r.answer r.state r.tables (sections_nested src kind T h)
+    go (Err f) h = finished_nested (Refused f) (fresh kind) (zero_all T) (lies_refused f (fresh kind) _ _)

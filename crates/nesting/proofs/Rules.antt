@@ -1,4 +1,5 @@
 -- The rules section keeps places nested while it is not refused. Assumes nothing.
+use Rattle.std.specs.Prelude.{Option, Some, None, Result, Ok, Err}
 use Prim.Native.Nat.{ℕ, suc, ◌+◌, ◌-◌, ◌≤◌, ◌<◌}
 use mathlib.Core.Path.{◌≡◌, refl, sym, ◌∙◌}
 use mathlib.Core.List.{List, [], ◌∷◌}
@@ -9,12 +10,8 @@ use lib.ListN.{length}
 use Rattle.scan.specs.Scan.{starts_at}
 use Rattle.scan.proofs.Bytes.{told}
 use Rattle.scan.proofs.Loop.{Either, turns_end}
-use Rattle.words.specs.declared.Name.{Name}
-use Rattle.words.specs.declared.Name.TheVariants.{NameTo, NoName}
 use Rattle.words.specs.Words.{name_at, Named}
 use Rattle.words.proofs.Words.{name_placed}
-use Rattle.tables.specs.declared.Found.{Found}
-use Rattle.tables.specs.declared.Found.TheVariants.{RowAt, NoRow}
 use Rattle.tables.specs.Table.{find_name}
 use Rattle.tables.specs.Layout.{rules, productions, symbols, width}
 use Rattle.grammar.specs.declared.State.{State}
@@ -22,8 +19,6 @@ use Rattle.grammar.specs.declared.Cause.TheVariants.{MissingColon, UnknownDeclar
 use Rattle.grammar.specs.declared.Refusal.{Refusal}
 use Rattle.grammar.specs.declared.Answer.{Answer}
 use Rattle.grammar.specs.declared.Answer.TheVariants.{Going, Done, Refused}
-use Rattle.grammar.specs.declared.Part.{Part}
-use Rattle.grammar.specs.declared.Part.TheVariants.{Absent, At}
 use Rattle.grammar.specs.Cells.{rule_cells}
 use Rattle.grammar.specs.State.{Passed, count, with_at, pass_on, onward}
 use Rattle.grammar.specs.Sound.{AllTables, set_tab, Far}
@@ -46,19 +41,19 @@ start_stays : (s : State) (from to : ℕ) → (first_start s from to).at ≡ s.a
 unfolding first_start
 start_stays s from to = go s.singles.start
   where
-    go : (q : Part) → (start_or q s from to).at ≡ s.at
-    go Absent = refl
-    go (At a b) = refl
+    go : (q : Option (ℕ × ℕ)) → (start_or q s from to).at ≡ s.at
+    go None = refl
+    go (Some (a, b)) = refl
 
 -- a rule's head counts no production
 module _ {src : List ℕ} {done : ℕ} {s : State} {T : AllTables} (f : Far src done s T) where
-  rule_count : (u : State) (from to : ℕ) (given : Part) (t7 : List ℕ) → count (enter_rule src u from to given t7).state productions ≡ count u productions
+  rule_count : (u : State) (from to : ℕ) (given : Option (ℕ × ℕ)) (t7 : List ℕ) → count (enter_rule src u from to given t7).state productions ≡ count u productions
   unfolding enter_rule
   rule_count u from to given t7 = go (find_name src (width rules) 0 (count u rules) t7 from to)
     where
-      go : (r : Found) → count (rule_found r u from to given t7).state productions ≡ count u productions
-      go (RowAt r) = refl
-      go NoRow = (push_apart u rules (rule_cells from to given) t7).count productions (λ e. omega arith)
+      go : (r : Option ℕ) → count (rule_found r u from to given t7).state productions ≡ count u productions
+      go (Some r) = refl
+      go None = (push_apart u rules (rule_cells from to given) t7).count productions (λ e. omega arith)
 
   named_count : (j : ℕ) → s.at < j → j ≤ length src → count (named_head src s j T.t7).state productions ≡ count s productions
   unfolding named_head
@@ -85,9 +80,9 @@ module _ {src : List ℕ} {done : ℕ} {s : State} {T : AllTables} (f : Far src 
   unfolding rule_head
   head_count = go (name_at src s.at) (name_placed src s.at (name_at src s.at) refl).1
     where
-      go : (n : Name) → Named src s.at n → count (head_found n src s T.t7).state productions ≡ count s productions
-      go (NameTo j) x = named_count j x.0 x.1
-      go (NoName k) x = refl
+      go : (n : Result ℕ ℕ) → Named src s.at n → count (head_found n src s T.t7).state productions ≡ count s productions
+      go (Ok j) x = named_count j x.0 x.1
+      go (Err k) x = refl
 
 -- What is settled where the reading goes on; the answer `Done`, which does not come of rules, leaves what some earlier position settled.
 pub record LainUnless (a : Answer) (s : State) (t8 t9 : List ℕ) : Type 0 where

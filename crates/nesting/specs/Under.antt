@@ -1,11 +1,9 @@
 -- Places that nest so far: what holds between any two items of a reading that goes on.
-use Rattle.std.specs.Prelude.{ℕ, ◌+◌, ◌≤◌, ◌<◌, ◌≡◌, List, true, get_or}
+use Rattle.std.specs.Prelude.{ℕ, ◌+◌, ◌≤◌, ◌<◌, ◌≡◌, List, true, get_or, Option, Some, None}
 use Rattle.tables.specs.Rows.{row_at, Rows}
 use Rattle.tables.specs.Layout.{productions, symbols, place, symbols_from, symbols_to, action, kind_name, width}
 use Rattle.grammar.specs.declared.State.{State}
 use Rattle.grammar.specs.State.{count}
-use Rattle.productions.specs.declared.Act.{Act}
-use Rattle.productions.specs.declared.Act.TheVariants.{NoAction, ActionAt}
 use Rattle.productions.specs.declared.Production.{Production}
 use Rattle.items.specs.Items.{may_end}
 use Rattle.nesting.specs.Nest.{InSpan, Inked, LeftOf, ActionBehind, Follows}
@@ -29,12 +27,12 @@ pub record Lain (at limit first m n : ℕ) (t8 t9 : List ℕ) : Type 0 where
   pub productions : Rows (ProductionOver limit first t9) Follows (width productions) m t8
 
 -- the action of a production under way lies behind its span, the reading stands behind it, and "only `|` or `;` may stand" there
-abbrev pub Shut : List ℕ → ℕ → ℕ → Act → Type 0
-Shut src at to NoAction = Unit {0}
-Shut src at to (ActionAt a b c d) = (to < a) × (a ≤ b) × (b < at) × (may_end src at ≡ true)
+abbrev pub Shut : List ℕ → ℕ → ℕ → Option (ℕ × ℕ × ℕ × ℕ) → Type 0
+Shut src at to None = Unit {0}
+Shut src at to (Some (a, b, c, d)) = (to < a) × (a ≤ b) × (b < at) × (may_end src at ≡ true)
 
 -- A production under way, from `from` to `to`, whose symbols' rows begin with `first`.
-pub record Lying (src : List ℕ) (at m n from to first : ℕ) (act : Act) (t8 t9 : List ℕ) : Type 0 where
+pub record Lying (src : List ℕ) (at m n from to first : ℕ) (act : Option (ℕ × ℕ × ℕ × ℕ)) (t8 t9 : List ℕ) : Type 0 where
   pub lain : Lain at from first m n t8 t9
   pub span : from ≤ to
   pub here : to ≤ at

@@ -13,16 +13,15 @@ ghost use Rattle.values.specs.Value.{valuation_numbers};
 ghost use Rattle.loading.specs.Load.{judgement_numbers};
 ghost use Rattle.numbers.specs.Numbers.{told_numbers, answer_spot};
 
-use grammar::Told;
-use loading::Judgement;
+use grammar::{Refusal, Told};
+use loading::LoadError;
 use places::Spot;
-use pruning::Pruning;
-use restoring::Restoring;
-use shipping::Shipment;
-use storing::Storing;
-use usage::{Listing, Marking};
-use validation::{FaultListing, Flaw, Validity};
-use values::Valuation;
+use pruning::PruningError;
+use restoring::RestoringError;
+use storing::StoringError;
+use usage::{ListingError, MarkingError};
+use validation::{FaultsError, Flaw, ValidityError};
+use values::ValuationError;
 
 pub fn of_flaw(f: Flaw) -> Told
     ensures { told_numbers result ≡ flaw_numbers f ++ (0 ∷ []) }
@@ -73,65 +72,65 @@ pub fn of_flaw(f: Flaw) -> Told
     }
 }
 
-pub fn of_judgement(j: Judgement) -> Told
+pub fn of_judgement(j: Result<u32, LoadError>) -> Told
     ensures { told_numbers result ≡ judgement_numbers j }
 {
     match j {
-        Judgement::Loaded(i) => Told {
+        Ok(i) => Told {
             number: 0,
             from: i,
             to: i,
             table: 0,
         },
-        Judgement::NotRead(f) => grammar::tell(f),
-        Judgement::NotValid(f) => of_flaw(f),
+        Err(LoadError::NotRead(f)) => grammar::tell(f),
+        Err(LoadError::NotValid(f)) => of_flaw(f),
     }
 }
 
-pub fn of_validity(v: Validity) -> Told
+pub fn of_validity(v: Result<(), ValidityError>) -> Told
     ensures { told_numbers result ≡ validity_numbers v ++ (0 ∷ []) }
 {
     match v {
-        Validity::Valid => Told {
+        Ok(()) => Told {
             number: 0,
             from: 0,
             to: 0,
             table: 0,
         },
-        Validity::UnsoundTables => Told {
+        Err(ValidityError::UnsoundTables) => Told {
             number: 44,
             from: 0,
             to: 0,
             table: 0,
         },
-        Validity::Invalid(f) => of_flaw(f),
+        Err(ValidityError::Invalid(f)) => of_flaw(f),
     }
 }
 
-pub fn of_listing(l: Listing) -> Told
+pub fn of_listing(l: Result<usize, ListingError>) -> Told
     ensures { told_numbers result ≡ take 4 (listing_numbers l) }
 {
     match l {
-        Listing::Unused(_) => Told {
+        Ok(_) => Told {
             number: 0,
             from: 0,
             to: 0,
             table: 0,
         },
-        Listing::OfUnsound => Told {
+        Err(ListingError::OfUnsound) => Told {
             number: 44,
             from: 0,
             to: 0,
             table: 0,
         },
-        Listing::OfInvalid(f) => of_flaw(f),
-        Listing::NoWords => Told {
+        Err(ListingError::OfInvalid(f)) => of_flaw(f),
+        Err(ListingError::NoWords) => Told {
             number: 42,
             from: 0,
             to: 0,
             table: 11,
         },
-        Listing::NoRoom => Told {
+        Err(ListingError::NoRoom) => Told {
             number: 42,
             from: 0,
             to: 0,
@@ -141,36 +140,30 @@ pub fn of_listing(l: Listing) -> Told
 }
 
 // How many rows the report has; 0 after a refusal.
-pub fn listed(l: Listing) -> usize
+pub fn listed(l: Result<usize, ListingError>) -> usize
     ensures { result ≡ get_or (listing_numbers l) 4 0 }
 {
-    match l {
-        Listing::Unused(n) => n,
-        Listing::OfUnsound => 0,
-        Listing::OfInvalid(_) => 0,
-        Listing::NoWords => 0,
-        Listing::NoRoom => 0,
-    }
+    l.unwrap_or(0)
 }
 
-pub fn of_marking(m: Marking) -> Told
+pub fn of_marking(m: Result<(), MarkingError>) -> Told
     ensures { told_numbers result ≡ marking_numbers m }
 {
     match m {
-        Marking::AllMarked => Told {
+        Ok(()) => Told {
             number: 0,
             from: 0,
             to: 0,
             table: 0,
         },
-        Marking::MarksUnsound => Told {
+        Err(MarkingError::MarksUnsound) => Told {
             number: 44,
             from: 0,
             to: 0,
             table: 0,
         },
-        Marking::MarksInvalid(f) => of_flaw(f),
-        Marking::MarksNoWords => Told {
+        Err(MarkingError::MarksInvalid(f)) => of_flaw(f),
+        Err(MarkingError::MarksNoWords) => Told {
             number: 42,
             from: 0,
             to: 0,
@@ -179,24 +172,24 @@ pub fn of_marking(m: Marking) -> Told
     }
 }
 
-pub fn of_pruning(p: Pruning) -> Told
+pub fn of_pruning(p: Result<(), PruningError>) -> Told
     ensures { told_numbers result ≡ pruning_numbers p }
 {
     match p {
-        Pruning::AllPruned => Told {
+        Ok(()) => Told {
             number: 0,
             from: 0,
             to: 0,
             table: 0,
         },
-        Pruning::PruningUnsound => Told {
+        Err(PruningError::PruningUnsound) => Told {
             number: 44,
             from: 0,
             to: 0,
             table: 0,
         },
-        Pruning::PruningInvalid(f) => of_flaw(f),
-        Pruning::PruningNoWords => Told {
+        Err(PruningError::PruningInvalid(f)) => of_flaw(f),
+        Err(PruningError::PruningNoWords) => Told {
             number: 42,
             from: 0,
             to: 0,
@@ -205,23 +198,23 @@ pub fn of_pruning(p: Pruning) -> Told
     }
 }
 
-pub fn of_fault_listing(l: FaultListing) -> Told
+pub fn of_fault_listing(l: Result<usize, FaultsError>) -> Told
     ensures { told_numbers result ≡ take 4 (fault_listing_numbers l) }
 {
     match l {
-        FaultListing::Faulted(_) => Told {
+        Ok(_) => Told {
             number: 0,
             from: 0,
             to: 0,
             table: 0,
         },
-        FaultListing::FaultsUnsound => Told {
+        Err(FaultsError::FaultsUnsound) => Told {
             number: 44,
             from: 0,
             to: 0,
             table: 0,
         },
-        FaultListing::FaultsNoRoom => Told {
+        Err(FaultsError::FaultsNoRoom) => Told {
             number: 42,
             from: 0,
             to: 0,
@@ -231,45 +224,41 @@ pub fn of_fault_listing(l: FaultListing) -> Told
 }
 
 // How many faults there are; 0 after a refusal.
-pub fn faulted(l: FaultListing) -> usize
+pub fn faulted(l: Result<usize, FaultsError>) -> usize
     ensures { result ≡ get_or (fault_listing_numbers l) 4 0 }
 {
-    match l {
-        FaultListing::Faulted(n) => n,
-        FaultListing::FaultsUnsound => 0,
-        FaultListing::FaultsNoRoom => 0,
-    }
+    l.unwrap_or(0)
 }
 
-pub fn of_valuation(v: Valuation) -> Told
+pub fn of_valuation(v: Result<usize, ValuationError>) -> Told
     ensures { told_numbers result ≡ take 4 (valuation_numbers v) }
 {
     match v {
-        Valuation::Written(_) => Told {
+        Ok(_) => Told {
             number: 0,
             from: 0,
             to: 0,
             table: 0,
         },
-        Valuation::OfUnsoundTables => Told {
+        Err(ValuationError::OfUnsoundTables) => Told {
             number: 44,
             from: 0,
             to: 0,
             table: 0,
         },
-        Valuation::PastCount => Told {
+        Err(ValuationError::PastCount) => Told {
             number: 44,
             from: 0,
             to: 0,
             table: 0,
         },
-        Valuation::NotString => Told {
+        Err(ValuationError::NotString) => Told {
             number: 44,
             from: 0,
             to: 0,
             table: 0,
         },
-        Valuation::NoTextRoom => Told {
+        Err(ValuationError::NoTextRoom) => Told {
             number: 42,
             from: 0,
             to: 0,
@@ -279,16 +268,10 @@ pub fn of_valuation(v: Valuation) -> Told
 }
 
 // How many bytes the value has; 0 after a refusal.
-pub fn written(v: Valuation) -> usize
+pub fn written(v: Result<usize, ValuationError>) -> usize
     ensures { result ≡ get_or (valuation_numbers v) 4 0 }
 {
-    match v {
-        Valuation::Written(n) => n,
-        Valuation::OfUnsoundTables => 0,
-        Valuation::PastCount => 0,
-        Valuation::NotString => 0,
-        Valuation::NoTextRoom => 0,
-    }
+    v.unwrap_or(0)
 }
 
 fn at_start(number: u32, table: u32) -> Told
@@ -302,61 +285,53 @@ fn at_start(number: u32, table: u32) -> Told
     }
 }
 
-pub fn of_storing(s: Storing) -> Told
+pub fn of_storing(s: Result<u32, StoringError>) -> Told
     ensures { told_numbers result ≡ take 4 (storing_numbers s) }
 {
     match s {
-        Storing::StoredBlocks(_) => at_start(0, 0),
-        Storing::UnknownKind => at_start(43, 0),
-        Storing::StoringUnsound => at_start(44, 0),
-        Storing::NoBlocks => at_start(42, 18),
+        Ok(_) => at_start(0, 0),
+        Err(StoringError::UnknownKind) => at_start(43, 0),
+        Err(StoringError::StoringUnsound) => at_start(44, 0),
+        Err(StoringError::NoBlocks) => at_start(42, 18),
     }
 }
 
 // How many blocks were written.
-pub fn stored_blocks(s: Storing) -> usize
+pub fn stored_blocks(s: Result<u32, StoringError>) -> usize
     ensures { result ≡ get_or (storing_numbers s) 4 0 }
 {
-    match s {
-        Storing::StoredBlocks(n) => n as usize,
-        Storing::UnknownKind => 0,
-        Storing::StoringUnsound => 0,
-        Storing::NoBlocks => 0,
-    }
+    s.unwrap_or(0) as usize
 }
 
-pub fn of_restoring(r: Restoring) -> Told
+pub fn of_restoring(r: Result<(), RestoringError>) -> Told
     ensures { told_numbers result ≡ restoring_numbers r }
 {
     match r {
-        Restoring::AllRestored => at_start(0, 0),
-        Restoring::NotWhole => at_start(60, 0),
-        Restoring::BadNumber => at_start(61, 0),
-        Restoring::BadCheck => at_start(62, 0),
-        Restoring::BadContent => at_start(63, 0),
-        Restoring::BadSizes => at_start(45, 0),
-        Restoring::NoSpace(k) => at_start(42, k),
-        Restoring::RestoringUnsound => at_start(44, 0),
+        Ok(()) => at_start(0, 0),
+        Err(RestoringError::NotWhole) => at_start(60, 0),
+        Err(RestoringError::BadNumber) => at_start(61, 0),
+        Err(RestoringError::BadCheck) => at_start(62, 0),
+        Err(RestoringError::BadContent) => at_start(63, 0),
+        Err(RestoringError::BadSizes) => at_start(45, 0),
+        Err(RestoringError::NoSpace(k)) => at_start(42, k),
+        Err(RestoringError::RestoringUnsound) => at_start(44, 0),
     }
 }
 
-pub fn of_shipment(s: Shipment) -> Told
+pub fn of_shipment(s: Result<u32, Refusal>) -> Told
     ensures { told_numbers result ≡ take 4 (shipment_numbers s) }
 {
     match s {
-        Shipment::Sent(_) => at_start(0, 0),
-        Shipment::Unsent(f) => grammar::tell(f),
+        Ok(_) => at_start(0, 0),
+        Err(f) => grammar::tell(f),
     }
 }
 
 // How many bytes were sent.
-pub fn sent_bytes(s: Shipment) -> usize
+pub fn sent_bytes(s: Result<u32, Refusal>) -> usize
     ensures { result ≡ get_or (shipment_numbers s) 4 0 }
 {
-    match s {
-        Shipment::Sent(n) => n as usize,
-        Shipment::Unsent(_) => 0,
-    }
+    s.unwrap_or(0) as usize
 }
 
 // Line and column of the start of an answer's place.

@@ -20,6 +20,7 @@ pub fn spot_in(s: &[u8], to: usize) -> Spot
     let mut line: u32 = 1;
     let mut start = 0;
     let mut k = 0;
+    // by hand: over a range the same loop takes twice the time, as measured
     while k < to {
         let next = k + 1;
         // no line ends with a byte above a CR

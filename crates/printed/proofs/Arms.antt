@@ -1,4 +1,5 @@
 -- A declaration that was read, shipped in front of the next `%`, is read as the same declaration. Assumes nothing.
+use Rattle.std.specs.Prelude.{Ok}
 use Prim.Native.Nat.{ℕ, ◌+◌, ◌≤◌, ◌<◌}
 use mathlib.Core.Path.{◌≡◌, refl, ◌∙◌, ap}
 use mathlib.Core.List.{List, [], ◌∷◌, ◌++◌}
@@ -15,7 +16,6 @@ use Rattle.grammar.specs.declared.State.{State}
 use Rattle.grammar.specs.declared.Answer.{Answer}
 use Rattle.grammar.specs.declared.Answer.TheVariants.{Going}
 use Rattle.grammar.specs.declared.Repeat.TheVariants.{RepeatedAvoidInsert, RepeatedImplicitTokens}
-use Rattle.grammar.specs.declared.Gap.TheVariants.{GapTo}
 use Rattle.grammar.specs.Sound.{AllTables}
 use Rattle.grammar.specs.State.{Gapped, with_at}
 use Rattle.grammar.proofs.Kept.{gapped}
@@ -30,7 +30,7 @@ use Rattle.alike.proofs.Agree.{clash}
 use Rattle.printed.specs.Print.{words}
 use Rattle.printed.specs.Stands.{Row1, end1, more1, Lined}
 use Rattle.printed.specs.Ships.{Ships}
-use Rattle.printed.specs.Decls.{Decl, spell, decl_text, left, right, nonassoc, avoid_insert, implicit_tokens, Some, SeenTo, Decl1, listed1, prec1, names1, start1, expect1, actiontype1, generics1, epp1, param1}
+use Rattle.printed.specs.Decls.{Decl, spell, decl_text, left, right, nonassoc, avoid_insert, implicit_tokens, NonEmpty, SeenTo, Decl1, listed1, prec1, names1, start1, expect1, actiontype1, generics1, epp1, param1}
 use Rattle.printed.proofs.Loops.{told_both}
 use Rattle.printed.proofs.Seen.{seen_word, known}
 use Rattle.printed.proofs.Lists.{list_ships}
@@ -56,18 +56,18 @@ row_low kind src i k xs (more1 {e = e} {x = x} w g h r) = let y = token_lies src
 
 line_low : (kind : ℕ) (src : List ℕ) (at k : ℕ) (xs : List (List ℕ)) → at ≤ length src → Lined kind src at k xs → at < length src
 line_low kind src at k xs h l =
-    let y : Gapped src at (GapTo l.from l.lines) = told (Gapped src at) l.gap (gapped kind false src at h) in
+    let y : Gapped src at (Ok (l.from, l.lines)) = told (Gapped src at) l.gap (gapped kind false src at h) in
     let a = y.0 in
     let b = row_low kind src l.from k xs l.row in
     omega arith
 
 -- the words of a list begin with a space
-pub list_space : (xs : List (List ℕ)) (rest : List ℕ) → Some xs → (r : List ℕ) × (words xs ++ rest ≡ 32 ∷ r)
+pub list_space : (xs : List (List ℕ)) (rest : List ℕ) → NonEmpty xs → (r : List ℕ) × (words xs ++ rest ≡ 32 ∷ r)
 unfolding words
 list_space [] rest s = absurd s
 list_space (x ∷ xs) rest s = ((x ++ words xs) ++ rest, refl)
 
-pub row_some : (kind : ℕ) (src : List ℕ) (i k : ℕ) (xs : List (List ℕ)) → Row1 kind src i k xs → Some xs
+pub row_some : (kind : ℕ) (src : List ℕ) (i k : ℕ) (xs : List (List ℕ)) → Row1 kind src i k xs → NonEmpty xs
 row_some kind src i k xs (end1 w g h) = tt
 row_some kind src i k xs (more1 w g h r) = tt
 

@@ -1,4 +1,5 @@
 -- `%avoid_insert`, `%implicit_tokens`: what is shipped of a list that was read is read as the same list. Assumes nothing.
+use Rattle.std.specs.Prelude.{Option, Result, Ok}
 use Prim.Native.Nat.{ℕ, suc, ◌+◌, ◌<◌}
 use mathlib.Core.Path.{◌≡◌, refl, sym, ◌∙◌, ap}
 use mathlib.Core.List.{List, ◌∷◌, ◌++◌}
@@ -10,15 +11,12 @@ use lib.Seq.{slice}
 use Rattle.scan.specs.declared.Place.{Place}
 use Rattle.scan.specs.Loop.{Turn, more, stop, turns}
 use Rattle.scan.proofs.Bytes.{told}
-use Rattle.words.specs.declared.Token.{Token}
 use Rattle.tables.specs.Layout.{tokens, avoided, implicit, repeats, width}
 use Rattle.grammar.specs.declared.State.{State}
-use Rattle.grammar.specs.declared.Part.{Part}
 use Rattle.grammar.specs.declared.Answer.{Answer}
 use Rattle.grammar.specs.declared.Answer.TheVariants.{Going, Done, Refused}
 use Rattle.grammar.specs.declared.Repeat.{Repeat}
-use Rattle.grammar.specs.declared.Gap.{Gap}
-use Rattle.grammar.specs.declared.Gap.TheVariants.{GapTo}
+use Rattle.grammar.specs.declared.Refusal.{Refusal}
 use Rattle.grammar.specs.Cells.{name_cells}
 use Rattle.grammar.specs.Sound.{AllTables, cells_of, set_tab}
 use Rattle.grammar.specs.State.{Out0, Out1, Out2, Out3, count, with_at, gap_at, enter_step, once_step, pass_on, tied3}
@@ -49,14 +47,14 @@ module _ (src : List ℕ) (k : ℕ) (nt : NameTable k) (what : Repeat) (s : Stat
       word_at : (i end : ℕ) (w : ListWord) → Alone src i end w → TokenAt src i end (slice i end src)
       word_at i end w (alone {p = p} {quoted = q} e) = record { place = p; quoted = q; is = e; spelled = refl }
 
-      head : {i j n : ℕ} {g : Part} → Untagged i j n g → (i ≡ j) × (0 ≡ n)
+      head : {i j n : ℕ} {g : Option (ℕ × ℕ)} → Untagged i j n g → (i ≡ j) × (0 ≡ n)
       head untagged = (refl, refl)
 
       go : NameLine s.kind src s.at (avoid_decl src s k what t1 t t10).state.at → (xs : List (List ℕ)) × Lined s.kind src s.at (avoid_decl src s k what t1 t t10).state.at xs
       go l =
           let y = head l.lead in
           let (xs, r) = line_bytes s.kind src (Alone src) word_at b (told (λ (m : ℕ). Line s.kind (Alone src) src m l.head (avoid_decl src s k what t1 t t10).state.at l.counted l.words) (sym y.1) l.line) in
-          (xs, record { from = l.head; lines = l.ends; gap = told (λ (i : ℕ). gap_at s.kind false src s.at ≡ GapTo i l.ends) y.0 (spaces_gap s.kind false src s.at l.start l.ends l.gap); row = r })
+          (xs, record { from = l.head; lines = l.ends; gap = told (λ (i : ℕ). gap_at s.kind false src s.at ≡ Ok (i, l.ends)) y.0 (spaces_gap s.kind false src s.at l.start l.ends l.gap); row = r })
 
 -- T4: a turn is a token entered, a step on two other tables, and spacing
 module _ (src : List ℕ) (k : ℕ) (what : Repeat) where
@@ -69,7 +67,7 @@ module _ (src : List ℕ) (k : ℕ) (what : Repeat) where
   turn_is : (o : Out3) (e : ℕ) (x : List ℕ) (w : TokenAt src o.state.at e x) → let m = enter_of o w.place in
       avoid_turn src k what o ≡ avoid_next (avoid_entered m.answer m src k what w.place.from w.place.to e o.b o.c)
   unfolding avoid_turn avoid_item avoid_named
-  turn_is o e x w = ap (λ (r : Token). avoid_next (avoid_found r src o.state k what o.a o.b o.c)) w.is
+  turn_is o e x w = ap (λ (r : Result (Place × ℕ × Bool) ℕ). avoid_next (avoid_found r src o.state k what o.a o.b o.c)) w.is
 
   once_kept : (o : Out3) (p : Place) → (once_of o p).state.kind ≡ o.state.kind
   once_kept o p = once_kind (enter_of o p).state src k (width avoided) 0 what (name_cells p.from p.to) o.b o.c ∙ enter_kind o.state src p.from p.to false o.a
@@ -166,19 +164,19 @@ module _ {k : ℕ} (nt : NameTable k) (what : Repeat) (src out : List ℕ) (kind
   ended true o = stop o
   ended false o = more o
 
-  turn_word : (s : List ℕ) (o : Out3) (e m n : ℕ) (x : List ℕ) (w : TokenAt s o.state.at e x) (b : Bool) → o.state.kind ≡ kind → gap_at kind true s e ≡ GapTo m n → Ends b n
+  turn_word : (s : List ℕ) (o : Out3) (e m n : ℕ) (x : List ℕ) (w : TokenAt s o.state.at e x) (b : Bool) → o.state.kind ≡ kind → gap_at kind true s e ≡ Ok (m, n) → Ends b n
       → (enter_of s k what o w.place).answer ≡ Going → (once_of s k what o w.place).answer ≡ Going → avoid_turn s k what o ≡ ended b (put s o w.place m)
   turn_word s o e m n x w b z g h a c =
       let v = enter_of s k what o w.place in
       let r = once_of s k what o w.place in
-      let gap : gap_at r.state.kind true s e ≡ GapTo m n = rw (once_kept s k what o w.place, z) g in
+      let gap : gap_at r.state.kind true s e ≡ Ok (m, n) = rw (once_kept s k what o w.place, z) g in
       turn_entered s o e x w a ∙ ap (λ (y : Out0). avoid_next (tied3 y v.a r.a r.b)) (past_line s e m n r.answer r.state b gap h c) ∙ by b
     where
       by : (b : Bool) → avoid_next (tied3 (record { answer = line_answer b; state = with_at (once_of s k what o w.place).state m }) (enter_of s k what o w.place).a (once_of s k what o w.place).a (once_of s k what o w.place).b) ≡ ended b (put s o w.place m)
       by true = refl
       by false = refl
 
-  two_turns : (o z : Out3) (e h m n p q : ℕ) (x : List ℕ) → Under o z → Tokens2 src out o.state.at e z.state.at h x → gap_at kind true src e ≡ GapTo m n → gap_at kind true out h ≡ GapTo p q
+  two_turns : (o z : Out3) (e h m n p q : ℕ) (x : List ℕ) → Under o z → Tokens2 src out o.state.at e z.state.at h x → gap_at kind true src e ≡ Ok (m, n) → gap_at kind true out h ≡ Ok (p, q)
       → (b : Bool) → Ends b n → Ends b q → Goes stands answers Under (avoid_turn src k what o) → Turned stands answers Under m p b (avoid_turn src k what o) (avoid_turn out k what z)
   two_turns o z e h m n p q x i w g1 g2 b e1 e2 goes =
       let s = o.state in
@@ -211,10 +209,10 @@ module _ {k : ℕ} (nt : NameTable k) (what : Repeat) (src out : List ℕ) (kind
   run_like o z j l xs w i g = line_runs stands answers Under (avoid_turn src k what) (avoid_turn out k what) kind src out two_turns (suc (length src)) (suc (length out)) o z j l xs w (omega arith) (omega arith) i g
 
 -- a list behind its keyword
-avoid_from_lem : (src : List ℕ) (s : State) (k : ℕ) (what : Repeat) (t1 t t10 : List ℕ) → s.at < length src → (i n : ℕ) → gap_at s.kind false src s.at ≡ GapTo i n
+avoid_from_lem : (src : List ℕ) (s : State) (k : ℕ) (what : Repeat) (t1 t t10 : List ℕ) → s.at < length src → (i n : ℕ) → gap_at s.kind false src s.at ≡ Ok (i, n)
     → avoid_decl src s k what t1 t t10 ≡ turns (suc (length src)) (avoid_turn src k what) (record { answer = Going; state = with_at s i; a = t1; b = t; c = t10 })
 unfolding avoid_decl avoid_list
-avoid_from_lem src s k what t1 t t10 h i n g = rw (lt-leb (length src) s.at h, avoid_decl) (ap (λ (x : Gap). avoid_from x src s k what t1 t t10) g)
+avoid_from_lem src s k what t1 t t10 h i n g = rw (lt-leb (length src) s.at h, avoid_decl) (ap (λ (x : Result (ℕ × ℕ) Refusal). avoid_from x src s k what t1 t t10) g)
 
 -- A list shipped in front of the next `%`.
 module _ {k : ℕ} (nt : NameTable k) (what : Repeat) (src out : List ℕ) (s u : State) (T W : AllTables) (n : Near src out s u T W) where

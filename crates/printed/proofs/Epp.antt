@@ -1,4 +1,5 @@
 -- `%epp`: what is shipped of a key and its text is read as the same. Assumes nothing.
+use Rattle.std.specs.Prelude.{Result, Ok, Bool}
 use Prim.Native.Nat.{ℕ, suc, ◌+◌, ◌-◌}
 use mathlib.Core.Path.{◌≡◌, refl, sym, ◌∙◌, ap}
 use mathlib.Core.List.{List, ◌∷◌, ◌++◌}
@@ -8,15 +9,13 @@ use lib.ListN.{length, get_or, drop}
 use lib.Seq.{slice, length-slice, slice-cons}
 use Rattle.scan.specs.Scan.{in_class, is_letter, is_digit}
 use Rattle.scan.proofs.Bytes.{told, drop_below, drop_next}
-use Rattle.words.specs.declared.Token.{Token}
-use Rattle.words.specs.declared.Quote.{Quote}
-use Rattle.words.specs.declared.Quote.TheVariants.{Closed}
+use Rattle.scan.specs.declared.Place.{Place}
+use Rattle.words.specs.declared.QuoteError.{QuoteError}
 use Rattle.tables.specs.Layout.{epps, key_name, repeats, width}
 use Rattle.grammar.specs.declared.State.{State}
 use Rattle.grammar.specs.declared.Answer.TheVariants.{Going}
 use Rattle.grammar.specs.declared.Repeat.TheVariants.{RepeatedEpp}
-use Rattle.grammar.specs.declared.Gap.{Gap}
-use Rattle.grammar.specs.declared.Gap.TheVariants.{GapTo}
+use Rattle.grammar.specs.declared.Refusal.{Refusal}
 use Rattle.grammar.specs.Cells.{epp_cells}
 use Rattle.grammar.specs.Sound.{AllTables, set_tab}
 use Rattle.grammar.specs.State.{Out0, Out2, with_at, gap_at, once_step, behind2, tied2}
@@ -134,7 +133,7 @@ module _ (kind : ℕ) (src out : List ℕ) (at k f : ℕ) (x y cs : List ℕ) (g
           end = j + 1 + length y;
           apart = 0;
           between = gap_space out j tail solid kind false b;
-          text = text ∙ ap (λ (w : ℕ). Closed w) z;
+          text = text ∙ ap (λ (w : ℕ). Ok w) z;
           spelled = sym bytes ∙ g.spelled;
           more = 1;
           on = gap_line out (j + 1 + length y) (37 ∷ cs) (percent_solid cs) kind o;
@@ -154,17 +153,17 @@ module _ (r : List ℕ) (v : State) (t5 t10 : List ℕ) (kind k : ℕ) (x y : Li
   unfolding epp_decl epp_value epp_text epp_given
   epp_is =
       let p = g.key.place in
-      ap (λ (z : Gap). epp_from z r v t5 t10) (told (λ (kd : ℕ). gap_at kd false r v.at ≡ GapTo g.from g.lines) (sym same) g.gap)
-      ∙ ap (λ (z : Token). epp_key z g.from r v t5 t10) g.key.is
-      ∙ ap (λ (z : Gap). epp_gap z r v g.from g.to p.from p.to t5 t10) (told (λ (kd : ℕ). gap_at kd false r g.to ≡ GapTo g.value g.apart) (sym same) g.between)
-      ∙ ap (λ (z : Quote). epp_string z r v g.from g.to p.from p.to g.value t5 t10) g.text
+      ap (λ (z : Result (ℕ × ℕ) Refusal). epp_from z r v t5 t10) (told (λ (kd : ℕ). gap_at kd false r v.at ≡ Ok (g.from, g.lines)) (sym same) g.gap)
+      ∙ ap (λ (z : Result (Place × ℕ × Bool) ℕ). epp_key z g.from r v t5 t10) g.key.is
+      ∙ ap (λ (z : Result (ℕ × ℕ) Refusal). epp_gap z r v g.from g.to p.from p.to t5 t10) (told (λ (kd : ℕ). gap_at kd false r g.to ≡ Ok (g.value, g.apart)) (sym same) g.between)
+      ∙ ap (λ (z : Result ℕ QuoteError). epp_string z r v g.from g.to p.from p.to g.value t5 t10) g.text
 
   step_kind : step_of.state.kind ≡ v.kind
   step_kind = once_kind v r epps (width epps) key_name RepeatedEpp (epp_cells g.from g.to g.key.place.from g.key.place.to g.value g.end) t5 t10
 
   epp_goes_on : step_of.answer ≡ Going → epp_decl r v t5 t10 ≡ record { answer = Going; state = with_at step_of.state k; a = step_of.a; b = step_of.b }
   epp_goes_on h =
-      epp_is ∙ ap (λ (z : Out0). tied2 z step_of.a step_of.b) (pass_to r g.end step_of.answer step_of.state k g.more (told (λ (kd : ℕ). gap_at kd true r g.end ≡ GapTo k g.more) (sym (step_kind ∙ same)) g.on) h)
+      epp_is ∙ ap (λ (z : Out0). tied2 z step_of.a step_of.b) (pass_to r g.end step_of.answer step_of.state k g.more (told (λ (kd : ℕ). gap_at kd true r g.end ≡ Ok (k, g.more)) (sym (step_kind ∙ same)) g.on) h)
 
 -- the tables behind it
 abbrev pub in_epps : AllTables → Out2 → AllTables

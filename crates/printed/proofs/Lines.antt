@@ -1,4 +1,5 @@
 -- Lists that end with their line: the words of a line that was read, and a line as it was shipped. Assumes nothing.
+use Rattle.std.specs.Prelude.{Option, Some, None, Result, Ok}
 use Prim.Native.Nat.{ℕ, ◌+◌, ◌<◌}
 use mathlib.Core.Path.{◌≡◌, refl, sym, ◌∙◌, ap}
 use mathlib.Core.List.{List, [], ◌∷◌, ◌++◌, append_assoc}
@@ -9,19 +10,14 @@ use borrow.Author.Tests.{ne_eqb}
 use lib.ListN.{length, drop}
 use lib.Seq.{slice}
 use Rattle.scan.proofs.Bytes.{told, drop_below, drop_next}
-use Rattle.tables.specs.declared.Found.{Found as Row}
-use Rattle.tables.specs.declared.Found.TheVariants.{RowAt, NoRow}
 use Rattle.tables.specs.Layout.{tokens, repeats}
-use Rattle.tables.specs.declared.Entered.{Entered}
-use Rattle.tables.specs.declared.Entered.TheVariants.{Rows, Full}
 use Rattle.tables.specs.Table.{Added, find_name, enter_token, flag}
 use Rattle.tables.proofs.Cases.{add_cases}
 use Rattle.grammar.specs.declared.State.{State}
 use Rattle.grammar.specs.declared.Answer.{Answer}
 use Rattle.grammar.specs.declared.Answer.TheVariants.{Going, Done, Refused}
 use Rattle.grammar.specs.declared.Repeat.{Repeat}
-use Rattle.grammar.specs.declared.Gap.{Gap}
-use Rattle.grammar.specs.declared.Gap.TheVariants.{GapTo}
+use Rattle.grammar.specs.declared.Refusal.{Refusal}
 use Rattle.grammar.specs.Cells.{token_cells}
 use Rattle.grammar.specs.State.{count, with_at, gap_at, entered, enter_step, pushed, push_row, list_repeat, once_found, once_step, past, past_gap, pass_on}
 use Rattle.marks.specs.Worded.{ListWord}
@@ -60,7 +56,7 @@ module _ (kind : ℕ) (src : List ℕ) (Word : ℕ → ℕ → ListWord → Type
 module _ (kind : ℕ) (src out : List ℕ) (cs : List ℕ) where
   pub record LineBack (f i k : ℕ) (xs : List (List ℕ)) : Type 0 where
     pub to : ℕ
-    pub gap : (ok : Bool) → gap_at kind ok out f ≡ GapTo (f + 1) 0
+    pub gap : (ok : Bool) → gap_at kind ok out f ≡ Ok (f + 1, 0)
     pub rows : Row2 kind src out i (f + 1) k to xs
     pub left : drop to out ≡ 37 ∷ cs
 
@@ -76,7 +72,7 @@ module _ (kind : ℕ) (src out : List ℕ) (cs : List ℕ) where
     next : drop (f + 1) out ≡ x ++ tail
     next = drop_next out f 32 (x ++ tail) here
 
-    space : (ok : Bool) → gap_at kind ok out f ≡ GapTo (f + 1) 0
+    space : (ok : Bool) → gap_at kind ok out f ≡ Ok (f + 1, 0)
     space ok =
         let (c, ys, s, v) = spelled_front src i e x w in
         gap_space out f (x ++ tail) (told Solid (ap (λ (y : List ℕ). y ++ tail) (sym s)) (front_solid c (ys ++ tail) v)) kind ok here
@@ -120,27 +116,27 @@ pub enter_open : (src : List ℕ) (s : State) (a b : ℕ) (d : Bool) (t : List �
 unfolding enter_step
 enter_open src s a b d t = go (enter_token src (count s tokens) a b d t).entered
   where
-    go : (e : Entered) → Open (entered e s (token_cells a b (flag d)) (enter_token src (count s tokens) a b d t).cells).answer
-    go (Rows m) = tt
-    go Full = tt
+    go : (e : Option ℕ) → Open (entered e s (token_cells a b (flag d)) (enter_token src (count s tokens) a b d t).cells).answer
+    go (Some m) = tt
+    go None = tt
 
 pub once_open : (src : List ℕ) (s : State) (k w name : ℕ) (what : Repeat) (row t t10 : List ℕ) → Open (once_step src s k w name what row t t10).answer
 unfolding once_step list_repeat
 once_open src s k w name what row t t10 = go (find_name src w name (count s k) t _ _)
   where
-    go : (r : Row) → Open (once_found r s k w what row t t10).answer
-    go (RowAt r) = push_open s repeats _ t10
-    go NoRow = push_open s k row t
+    go : (r : Option ℕ) → Open (once_found r s k w what row t t10).answer
+    go (Some r) = push_open s repeats _ t10
+    go None = push_open s k row t
 
 -- spacing behind a step of a line, which it ends or not
 abbrev pub line_answer : Bool → Answer
 line_answer true = Done
 line_answer false = Going
 
-pub past_line : (src : List ℕ) (e m n : ℕ) (a : Answer) (s : State) (b : Bool) → gap_at s.kind true src e ≡ GapTo m n → Ends b n → a ≡ Going → pass_on src true e a s ≡ record { answer = line_answer b; state = with_at s m }
+pub past_line : (src : List ℕ) (e m n : ℕ) (a : Answer) (s : State) (b : Bool) → gap_at s.kind true src e ≡ Ok (m, n) → Ends b n → a ≡ Going → pass_on src true e a s ≡ record { answer = line_answer b; state = with_at s m }
 unfolding past_gap
-past_line src e m n a s b g h z = ap (λ (y : Answer). pass_on src true e y s) z ∙ ap (λ (x : Gap). past true x s) g ∙ counted b n h
+past_line src e m n a s b g h z = ap (λ (y : Answer). pass_on src true e y s) z ∙ ap (λ (x : Result (ℕ × ℕ) Refusal). past true x s) g ∙ counted b n h
   where
-    counted : (b : Bool) (n : ℕ) → Ends b n → past true (GapTo m n) s ≡ record { answer = line_answer b; state = with_at s m }
+    counted : (b : Bool) (n : ℕ) → Ends b n → past true (Ok (m, n)) s ≡ record { answer = line_answer b; state = with_at s m }
     counted true n h = rw (ne_eqb n 0 (λ z. omega arith))
     counted false n h = rw h

@@ -1,4 +1,5 @@
 -- `%token` and `%expect-unused`: a list as it is shipped is read as the same list, word for word. Assumes nothing.
+use Rattle.std.specs.Prelude.{Option, None, Result, Ok}
 use Prim.Native.Nat.{ℕ, suc, ◌+◌, ◌<◌}
 use mathlib.Core.Path.{◌≡◌, refl, sym, ◌∙◌, ap}
 use mathlib.Core.List.{List, [], ◌∷◌, ◌++◌, append_assoc}
@@ -8,14 +9,11 @@ use lib.ListN.{length, drop}
 use lib.Seq.{slice}
 use Rattle.scan.specs.Loop.{Turn, more, stop, turns}
 use Rattle.scan.proofs.Bytes.{told, drop_below, drop_next}
-use Rattle.words.specs.declared.Token.{Token}
+use Rattle.scan.specs.declared.Place.{Place}
 use Rattle.tables.specs.Layout.{unused, tags, token_numbers}
 use Rattle.grammar.specs.declared.State.{State}
-use Rattle.grammar.specs.declared.Part.{Part}
-use Rattle.grammar.specs.declared.Part.TheVariants.{Absent}
 use Rattle.grammar.specs.declared.Answer.{Answer}
 use Rattle.grammar.specs.declared.Answer.TheVariants.{Going, Done, Refused}
-use Rattle.grammar.specs.declared.Gap.TheVariants.{GapTo}
 use Rattle.grammar.specs.Sound.{AllTables, cells_of, set_tab}
 use Rattle.grammar.specs.State.{Out0, Out1, Out3, count, with_at, gap_at, push_row, enter_step, behind1, tied1, tied3, pass_on, onward}
 use Rattle.grammar.proofs.SameKind.{push_kind, enter_kind, pass_kind}
@@ -40,7 +38,7 @@ use Rattle.alike.proofs.Near.{near_at, near_one}
 use Rattle.printed.specs.Print.{words}
 use Rattle.printed.specs.Stands.{WordAt, Spelled, Words2, Pairs, none, pair}
 use Rattle.printed.specs.Ships.{Ships}
-use Rattle.printed.specs.Decls.{Some}
+use Rattle.printed.specs.Decls.{NonEmpty}
 use Rattle.printed.proofs.Words.{words_break, word_front, words_again, word_here, word_there}
 use Rattle.printed.proofs.Loops.{told_both, Goes, Turned, on, halt, Ended, list_runs}
 
@@ -54,7 +52,7 @@ module _ (src : List ℕ) (s : State) (t t15 t16 : List ℕ) (ten : length s.cou
       (slice i end src ∷ xs, word e (record { place = p; quoted = q; is = f; spelled = refl }) g w)
   token_bytes d (word e (numbered k f g h v b) g2 l) = absurd (d k)
 
-  untagged : (s.kind ≡ 4 → ⊥) → (i j : ℕ) (g : Part) → Leads TokenList s.kind src i j g → Leads TokenList s.kind src i j Absent
+  untagged : (s.kind ≡ 4 → ⊥) → (i j : ℕ) (g : Option (ℕ × ℕ)) → Leads TokenList s.kind src i j g → Leads TokenList s.kind src i j None
   untagged d i j g (headless e) = headless e
   untagged d i j g (bare k w q) = absurd (d k)
   untagged d i j g (tagged k q h z) = absurd (d k)
@@ -81,9 +79,9 @@ module _ (what : WordList) (kind : ℕ) (src out : List ℕ) where
     pub at : ℕ
     pub lines : ℕ
     pub to : ℕ
-    pub gap : gap_at kind true out f ≡ GapTo at lines
+    pub gap : gap_at kind true out f ≡ Ok (at, lines)
     -- in front of a word no line end has to be allowed
-    pub first : Some xs → gap_at kind false out f ≡ GapTo at lines
+    pub first : NonEmpty xs → gap_at kind false out f ≡ Ok (at, lines)
     pub pairs : Pairs what kind src out i at k to xs
     pub left : drop to out ≡ rest
 
@@ -142,12 +140,12 @@ module _ (src : List ℕ) (s : State) (d : s.kind ≡ 4 → ⊥) (t t15 t16 : Li
   unused_is row (rule h) = rw h
   unused_is row (quote n h) = rw (n, h)
 
-  pub item_is : (what : WordList) (w : WordAt what src s.at e x) → let en = entry what src s s.at e x w t in list_item src s what Absent t t15 t16 ≡ tied3 (pass_on src false e en.answer en.state) en.a t15 t16
+  pub item_is : (what : WordList) (w : WordAt what src s.at e x) → let en = entry what src s s.at e x w t in list_item src s what None t t15 t16 ≡ tied3 (pass_on src false e en.answer en.state) en.a t15 t16
   unfolding token_item
   item_is TokenList w =
       let p = w.place in
       let en = enter_step src s p.from p.to true t in
-      ap (λ (r : Token). token_found r src s Absent t t15 t16) w.is
+      ap (λ (r : Result (Place × ℕ × Bool) ℕ). token_found r src s None t t15 t16) w.is
       ∙ ap (λ (r : Out1). token_tagged src p.from p.to e en.a r t16) (tag_absent en.answer en.state p.from p.to t15)
       ∙ ap (λ (r : Out1). third3 en.a t15 r) (behind_unmarked src false p.from p.to e en.answer en.state t16 (λ z. d (sym (enter_kind s src p.from p.to true t) ∙ z)))
   item_is UnusedList w = ap (λ (r : Out1). first3 r t15 t16) (unused_is w.row w.is)
@@ -190,11 +188,11 @@ own_low UnusedList = omega arith
 own_low TypeList = omega arith
 
 -- a turn, by whether the list ends and by its item
-turn_over : (what : WordList) (s : List ℕ) (o : Out3) → ends s o.state.at ≡ true → list_turn s what Absent o ≡ stop o
+turn_over : (what : WordList) (s : List ℕ) (o : Out3) → ends s o.state.at ≡ true → list_turn s what None o ≡ stop o
 unfolding list_turn
 turn_over what s o h = rw h
 
-turn_item : (what : WordList) (s : List ℕ) (o p : Out3) → ends s o.state.at ≡ false → list_item s o.state what Absent o.a o.b o.c ≡ p → list_turn s what Absent o ≡ onward p.answer p
+turn_item : (what : WordList) (s : List ℕ) (o p : Out3) → ends s o.state.at ≡ false → list_item s o.state what None o.a o.b o.c ≡ p → list_turn s what None o ≡ onward p.answer p
 unfolding list_turn
 turn_item what s o p h e = rw (h, e)
 
@@ -221,16 +219,16 @@ module _ (what : WordList) (src out : List ℕ) (kind : ℕ) (d : kind ≡ 4 →
   Turns = Turned stands answers Under
 
   -- a turn at a word whose entry goes on
-  turn_word : (s : List ℕ) (o : Out3) (e m n : ℕ) (x : List ℕ) (w : WordAt what s o.state.at e x) → o.state.kind ≡ kind → ends s o.state.at ≡ false → gap_at kind true s e ≡ GapTo m n
-      → let en = entry what s o.state o.state.at e x w o.a in en.answer ≡ Going → list_turn s what Absent o ≡ more (record { answer = Going; state = with_at en.state m; a = en.a; b = o.b; c = o.c })
+  turn_word : (s : List ℕ) (o : Out3) (e m n : ℕ) (x : List ℕ) (w : WordAt what s o.state.at e x) → o.state.kind ≡ kind → ends s o.state.at ≡ false → gap_at kind true s e ≡ Ok (m, n)
+      → let en = entry what s o.state o.state.at e x w o.a in en.answer ≡ Going → list_turn s what None o ≡ more (record { answer = Going; state = with_at en.state m; a = en.a; b = o.b; c = o.c })
   turn_word s o e m n x w k h g a =
       let en = entry what s o.state o.state.at e x w o.a in
       let is = item_is s o.state (λ z. d (sym k ∙ z)) o.a o.b o.c e x what w in
-      let gap : gap_at en.state.kind true s e ≡ GapTo m n = rw (entry_kind what s o.state o.state.at e x w o.a, k) g in
+      let gap : gap_at en.state.kind true s e ≡ Ok (m, n) = rw (entry_kind what s o.state o.state.at e x w o.a, k) g in
       turn_item what s o _ h (is ∙ ap (λ (y : Out0). tied3 y en.a o.b o.c) (pass_to s e en.answer en.state m n gap a))
 
   -- the entry of a list's first word goes on where the list does
-  word_goes : (o : Out3) (e : ℕ) (x : List ℕ) (w : WordAt what src o.state.at e x) → o.state.kind ≡ kind → ends src o.state.at ≡ false → Goes stands answers Under (list_turn src what Absent o)
+  word_goes : (o : Out3) (e : ℕ) (x : List ℕ) (w : WordAt what src o.state.at e x) → o.state.kind ≡ kind → ends src o.state.at ≡ false → Goes stands answers Under (list_turn src what None o)
       → (entry what src o.state o.state.at e x w o.a).answer ≡ Going
   word_goes o e x w k h g =
       let en = entry what src o.state o.state.at e x w o.a in
@@ -239,7 +237,7 @@ module _ (what : WordList) (src out : List ℕ) (kind : ℕ) (d : kind ≡ 4 →
       (pass_going src false e en.answer en.state (onward_goes r r.answer refl (told (Goes stands answers Under) (turn_item what src o r h is) g))).went
 
   two_turns : (o z : Out3) (e h m n p q : ℕ) (x : List ℕ) → Under o z → ends src o.state.at ≡ false → ends out z.state.at ≡ false → Words2 what src out o.state.at e z.state.at h x
-      → gap_at kind true src e ≡ GapTo m n → gap_at kind true out h ≡ GapTo p q → Goes stands answers Under (list_turn src what Absent o) → Turns m p false (list_turn src what Absent o) (list_turn out what Absent z)
+      → gap_at kind true src e ≡ Ok (m, n) → gap_at kind true out h ≡ Ok (p, q) → Goes stands answers Under (list_turn src what None o) → Turns m p false (list_turn src what None o) (list_turn out what None z)
   two_turns o z e h m n p q x i a b w g1 g2 goes =
       let s = o.state in
       let u = z.state in
@@ -258,10 +256,10 @@ module _ (what : WordList) (src out : List ℕ) (kind : ℕ) (d : kind ≡ 4 →
       rw (one, two) (on _ _ refl refl (record { of = entry_kind what src s s.at e x wh o.a ∙ i.of; going = refl; near = near_at src out en.state en'.state _ _ n2 m p }))
 
   -- both lists come to their ends, alike
-  run_like : (o z : Out3) (k l : ℕ) (xs : List (List ℕ)) → Pairs what kind src out o.state.at z.state.at k l xs → Under o z → (turns (suc (length src)) (list_turn src what Absent) o).answer ≡ Going
-      → Ended stands answers Under k l (turns (suc (length src)) (list_turn src what Absent) o) (turns (suc (length out)) (list_turn out what Absent) z)
+  run_like : (o z : Out3) (k l : ℕ) (xs : List (List ℕ)) → Pairs what kind src out o.state.at z.state.at k l xs → Under o z → (turns (suc (length src)) (list_turn src what None) o).answer ≡ Going
+      → Ended stands answers Under k l (turns (suc (length src)) (list_turn src what None) o) (turns (suc (length out)) (list_turn out what None) z)
   run_like o z k l xs w i g =
-      list_runs stands answers Under (list_turn src what Absent) (list_turn out what Absent) what kind src out
+      list_runs stands answers Under (list_turn src what None) (list_turn out what None) what kind src out
       (λ o z i a b. rw (turn_over what src o a, turn_over what out z b) (halt o z refl refl i))
       two_turns (suc (length src)) (suc (length out)) o z k l xs w (omega arith) (omega arith) i g
 
@@ -276,16 +274,16 @@ module _ (what : WordList) (src out : List ℕ) (s u : State) (T W : AllTables) 
   list_over r v X = list_decl r v what (cells_of X (filled what)) X.t15 X.t16
 
   list_is : (r : List ℕ) (v : State) (X : AllTables) (k : ℕ) (xs : List (List ℕ)) (w : Spelled what v.kind r v.at k xs)
-      → list_over r v X ≡ turns (suc (length r)) (list_turn r what Absent) (record { answer = Going; state = with_at v w.head; a = cells_of X (filled what); b = X.t15; c = X.t16 })
+      → list_over r v X ≡ turns (suc (length r)) (list_turn r what None) (record { answer = Going; state = with_at v w.head; a = cells_of X (filled what); b = X.t15; c = X.t16 })
   unfolding percent_list
   list_is r v X k xs w = listed_decl r v what (cells_of X (filled what)) X.t15 X.t16 w
 
-  lead_none : (w : WordList) (i : ℕ) → Leads w u.kind out i i Absent
+  lead_none : (w : WordList) (i : ℕ) → Leads w u.kind out i i None
   lead_none TokenList i = headless (λ e. not_four n.like.shipped (n.like.kind ∙ e))
   lead_none UnusedList i = (refl, refl)
   lead_none TypeList i = headless (λ e. not_four n.like.shipped (n.like.kind ∙ e))
 
-  pub list_ships : (k : ℕ) (xs : List (List ℕ)) (cs : List ℕ) → Some xs → Spelled what s.kind src s.at k xs → drop u.at out ≡ words xs ++ (10 ∷ (37 ∷ cs)) → (list_over src s T).answer ≡ Going
+  pub list_ships : (k : ℕ) (xs : List (List ℕ)) (cs : List ℕ) → NonEmpty xs → Spelled what s.kind src s.at k xs → drop u.at out ≡ words xs ++ (10 ∷ (37 ∷ cs)) → (list_over src s T).answer ≡ Going
       → let o = list_over src s T in let z = list_over out u W in Ships src out (37 ∷ cs) k (λ j. Spelled what u.kind out u.at j xs) o.state z.state z.answer (in3 what T o) (in3 what W z)
   list_ships k xs cs some w q g =
       let d = not_four n.like.shipped in
@@ -303,7 +301,7 @@ module _ (what : WordList) (src out : List ℕ) (s u : State) (T W : AllTables) 
   pub list_none : (k : ℕ) → Spelled what s.kind src s.at k [] → ((list_over src s T).answer ≡ Going) × ((list_over src s T).state.at ≡ k) × Near src out (list_over src s T).state u (in3 what T (list_over src s T)) W
   list_none k w = rw (list_is src s T k [] w) (over_at w.words)
     where
-      over_at : {i : ℕ} → Written s.kind (WordAt what src) src i k [] → let o = turns (suc (length src)) (list_turn src what Absent) (record { answer = Going; state = with_at s i; a = cells_of T (filled what); b = T.t15; c = T.t16 }) in (o.answer ≡ Going) × (o.state.at ≡ k) × Near src out o.state u (in3 what T o) W
+      over_at : {i : ℕ} → Written s.kind (WordAt what src) src i k [] → let o = turns (suc (length src)) (list_turn src what None) (record { answer = Going; state = with_at s i; a = cells_of T (filled what); b = T.t15; c = T.t16 }) in (o.answer ≡ Going) × (o.state.at ≡ k) × Near src out o.state u (in3 what T o) W
       over_at (over e) =
           let o : Out3 = record { answer = Going; state = with_at s k; a = cells_of T (filled what); b = T.t15; c = T.t16 } in
-          rw (turns_stop (list_turn src what Absent) (length src) o o (turn_over what src o e)) (refl, refl, rw (own_start what T (with_at s k)) (near_at src out s u T W n k u.at))
+          rw (turns_stop (list_turn src what None) (length src) o o (turn_over what src o e)) (refl, refl, rw (own_start what T (with_at s k)) (near_at src out s u T W n k u.at))

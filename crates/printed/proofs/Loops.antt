@@ -1,4 +1,5 @@
 -- Two loops over the same words, in step: what holds of two turns holds of the loops. Assumes nothing.
+use Rattle.std.specs.Prelude.{Ok}
 use Prim.Native.Nat.{ℕ, zero, suc, ◌-◌, ◌<◌}
 use mathlib.Core.Path.{◌≡◌, refl}
 use mathlib.Core.List.{List}
@@ -9,7 +10,6 @@ use Rattle.scan.specs.Loop.{Turn, more, stop, turns}
 use Rattle.scan.proofs.Bytes.{told}
 use Rattle.grammar.specs.declared.Answer.{Answer}
 use Rattle.grammar.specs.declared.Answer.TheVariants.{Going}
-use Rattle.grammar.specs.declared.Gap.TheVariants.{GapTo}
 use Rattle.grammar.specs.State.{gap_at}
 use Rattle.lists.specs.declared.WordList.{WordList}
 use Rattle.lists.specs.declared.WordList.TheVariants.{TokenList}
@@ -68,7 +68,7 @@ module _ {X : Type 0} (at : X → ℕ) (answer : X → Answer) (I : X → X → 
     -- lists that run to the next `%`
     module _ (what : WordList) (kind : ℕ) (src out : List ℕ) (over : (o z : X) → I o z → ends src (at o) ≡ true → ends out (at z) ≡ true → Turned (at o) (at z) true (f o) (g z))
         (item : (o z : X) (e h m n p q : ℕ) (x : List ℕ) → I o z → ends src (at o) ≡ false → ends out (at z) ≡ false → Words2 what src out (at o) e (at z) h x
-        → gap_at kind true src e ≡ GapTo m n → gap_at kind true out h ≡ GapTo p q → Goes (f o) → Turned m p false (f o) (g z)) where
+        → gap_at kind true src e ≡ Ok (m, n) → gap_at kind true out h ≡ Ok (p, q) → Goes (f o) → Turned m p false (f o) (g z)) where
       pub list_runs : (n m : ℕ) (o z : X) (k l : ℕ) (xs : List (List ℕ)) → Pairs what kind src out (at o) (at z) k l xs → length src - at o < n → length out - at z < m → I o z
           → answer (turns n f o) ≡ Going → Ended k l (turns n f o) (turns m g z)
       list_runs zero m o z k l xs w a b i h = absurd (omega arith)
@@ -87,7 +87,7 @@ module _ {X : Type 0} (at : X → ℕ) (answer : X → Answer) (I : X → X → 
     -- lists that end with their line
     module _ (kind : ℕ) (src out : List ℕ)
         (item : (o z : X) (e h m n p q : ℕ) (x : List ℕ) → I o z → Tokens2 src out (at o) e (at z) h x
-        → gap_at kind true src e ≡ GapTo m n → gap_at kind true out h ≡ GapTo p q → (b : Bool) → Ends b n → Ends b q → Goes (f o) → Turned m p b (f o) (g z)) where
+        → gap_at kind true src e ≡ Ok (m, n) → gap_at kind true out h ≡ Ok (p, q) → (b : Bool) → Ends b n → Ends b q → Goes (f o) → Turned m p b (f o) (g z)) where
       pub line_runs : (n m : ℕ) (o z : X) (k l : ℕ) (xs : List (List ℕ)) → Row2 kind src out (at o) (at z) k l xs → length src - at o < n → length out - at z < m → I o z
           → answer (turns n f o) ≡ Going → Ended k l (turns n f o) (turns m g z)
       line_runs zero m o z k l xs w a b i h = absurd (omega arith)

@@ -1,4 +1,5 @@
 -- `%parse-param`: what is shipped of a name and its type is read as the same. Assumes nothing.
+use Rattle.std.specs.Prelude.{Some, Result, Ok, Err}
 use Prim.Native.Nat.{ℕ, suc, ◌+◌, ◌-◌, ◌≤◌, ◌<◌}
 use mathlib.Core.Path.{◌≡◌, refl, sym, ◌∙◌, ap}
 use mathlib.Core.List.{List, [], ◌∷◌, ◌++◌}
@@ -13,16 +14,12 @@ use Rattle.spacing.specs.Spacing.{is_blank}
 use Rattle.whole.specs.Encode.{Text}
 use Rattle.whole.proofs.Boundaries.{between, begins_boundary}
 use Rattle.trim.specs.Trim.{trimmed}
-use Rattle.texts.specs.declared.Colon.{Colon}
-use Rattle.texts.specs.declared.Colon.TheVariants.{Single, NoSingle}
 use Rattle.texts.specs.Colon.{single_at, colon_text, colon_text_at}
 use Rattle.texts.specs.Line.{line_end_at}
 use Rattle.texts.proofs.Meaning.{edge_boundary}
 use Rattle.grammar.specs.declared.State.{State}
-use Rattle.grammar.specs.declared.Param.TheVariants.{ParamAt}
 use Rattle.grammar.specs.declared.Answer.TheVariants.{Going}
-use Rattle.grammar.specs.declared.Gap.{Gap}
-use Rattle.grammar.specs.declared.Gap.TheVariants.{GapTo, GapRefused}
+use Rattle.grammar.specs.declared.Refusal.{Refusal}
 use Rattle.grammar.specs.Sound.{AllTables}
 use Rattle.grammar.specs.State.{Out1, Gapped, with_at, with_singles, gap_at, behind1, tied1}
 use Rattle.grammar.proofs.Kept.{gapped}
@@ -50,28 +47,28 @@ module _ (src : List ℕ) (s : State) (whole : Text src) (edge : Text (take s.at
   unfolding param_decl param_typed colon_text_at colon_text
   param_spelled = gap (gap_at s.kind false src s.at) refl
     where
-      typed : (i n c m : ℕ) → gap_at s.kind false src s.at ≡ GapTo i n → single_at src i ≡ Single c m → (g : Gap) → gap_at s.kind false src (c + 1) ≡ g
+      typed : (i n c m : ℕ) → gap_at s.kind false src s.at ≡ Ok (i, n) → single_at src i ≡ Ok (c, m) → (g : Result (ℕ × ℕ) Refusal) → gap_at s.kind false src (c + 1) ≡ g
           → (param_given g src s (trimmed src i c).from (trimmed src i c).to).answer ≡ Going → (param_given g src s (trimmed src i c).from (trimmed src i c).to).state.at < length src
           → Spelt (param_given g src s (trimmed src i c).from (trimmed src i c).to).state.at
-      typed i n c m e z (GapTo j p) g h l =
-          let b : Gapped src s.at (GapTo i n) = told (Gapped src s.at) e (gapped s.kind false src s.at here) in
+      typed i n c m e z (Ok (j, p)) g h l =
+          let b : Gapped src s.at (Ok (i, n)) = told (Gapped src s.at) e (gapped s.kind false src s.at here) in
           let a = colon_lies src i c m b.1 z in
           let a0 = a.0 in
           let a1 = a.1 in
           let a2 = a.2 in
           let x = between src i c a0 (edge_boundary src whole s.at i edge b.1 b.2) (begins_boundary src whole c a1 (inl (omega arith))) in
-          let (y, t) = text_given src (with_at s (c + 1)) [] j p (omega arith) g (record { answer = Going; state = with_singles s (with_param s.singles (ParamAt (trimmed src i c).from (trimmed src i c).to j (line_end_at src j))); a = [] }) refl h l in
+          let (y, t) = text_given src (with_at s (c + 1)) [] j p (omega arith) g (record { answer = Going; state = with_singles s (with_param s.singles (Some ((trimmed src i c).from, (trimmed src i c).to, j, line_end_at src j))); a = [] }) refl h l in
           (slice i c src, y, record { from = i; lines = n; gap = e; colon = c; counted = m; is = z; spelled = refl; text = x; type = t })
-      typed i n c m e z (GapRefused f) g h l = absurd (refused_going f h)
+      typed i n c m e z (Err f) g h l = absurd (refused_going f h)
 
-      text : (i n : ℕ) → gap_at s.kind false src s.at ≡ GapTo i n → (c : Colon) → single_at src i ≡ c → (param_text (colon_text src i c) src s).answer ≡ Going
+      text : (i n : ℕ) → gap_at s.kind false src s.at ≡ Ok (i, n) → (c : Result (ℕ × ℕ) ℕ) → single_at src i ≡ c → (param_text (colon_text src i c) src s).answer ≡ Going
           → (param_text (colon_text src i c) src s).state.at < length src → Spelt (param_text (colon_text src i c) src s).state.at
-      text i n e (Single c m) z h l = typed i n c m e z (gap_at s.kind false src (c + 1)) refl h l
-      text i n e (NoSingle k) z h l = absurd (refused_going _ h)
+      text i n e (Ok (c, m)) z h l = typed i n c m e z (gap_at s.kind false src (c + 1)) refl h l
+      text i n e (Err k) z h l = absurd (refused_going _ h)
 
-      gap : (g : Gap) → gap_at s.kind false src s.at ≡ g → (param_from g src s).answer ≡ Going → (param_from g src s).state.at < length src → Spelt (param_from g src s).state.at
-      gap (GapTo i n) e h l = text i n e (single_at src i) refl h l
-      gap (GapRefused f) e h l = absurd (refused_going f h)
+      gap : (g : Result (ℕ × ℕ) Refusal) → gap_at s.kind false src s.at ≡ g → (param_from g src s).answer ≡ Going → (param_from g src s).state.at < length src → Spelt (param_from g src s).state.at
+      gap (Ok (i, n)) e h l = text i n e (single_at src i) refl h l
+      gap (Err f) e h l = absurd (refused_going f h)
 
 -- T3: and so it is shipped
 module _ (kind : ℕ) (src out : List ℕ) (at k f : ℕ) (x y cs : List ℕ) (here : at ≤ length src) (g : Params kind src at k x y) (q : drop f out ≡ 32 ∷ (x ++ (58 ∷ (32 ∷ (y ++ (10 ∷ (37 ∷ cs))))))) where
@@ -88,7 +85,7 @@ module _ (kind : ℕ) (src out : List ℕ) (at k f : ℕ) (x y cs : List ℕ) (h
     pub types : Same src out g.type.from g.type.to there.type.from there.type.to
     pub left : drop to out ≡ 37 ∷ cs
 
-  begun : Gapped src at (GapTo g.from g.lines)
+  begun : Gapped src at (Ok (g.from, g.lines))
   begun = told (Gapped src at) g.gap (gapped kind false src at here)
 
   lies : (g.from ≤ g.colon) × (g.colon < length src) × (get_or src g.colon 0 ≡ 58)
@@ -144,7 +141,7 @@ module _ (kind : ℕ) (src out : List ℕ) (at k f : ℕ) (x y cs : List ℕ) (h
           gap = gap_space out f (x ++ tail) solid kind false q;
           colon = f + 1 + m;
           counted = v;
-          is = w ∙ ap (λ (h : ℕ). Single h v) z;
+          is = w ∙ ap (λ (h : ℕ). Ok (h, v)) z;
           spelled = sym bytes ∙ g.spelled;
           text = g.text;
           type = t.there;
@@ -157,16 +154,16 @@ module _ (kind : ℕ) (src out : List ℕ) (at k f : ℕ) (x y cs : List ℕ) (h
 -- T4: the parameter replaces one that was given before
 module _ (r : List ℕ) (v : State) (t : List ℕ) (kind k : ℕ) (x y : List ℕ) (same : v.kind ≡ kind) (g : Params kind r v.at k x y) where
   abbrev step_of : Out1
-  step_of = record { answer = Going; state = with_singles v (with_param v.singles (ParamAt (trimmed r g.from g.colon).from (trimmed r g.from g.colon).to g.type.from g.type.to)); a = t }
+  step_of = record { answer = Going; state = with_singles v (with_param v.singles (Some ((trimmed r g.from g.colon).from, (trimmed r g.from g.colon).to, g.type.from, g.type.to))); a = t }
 
   param_is : tied1 (param_decl r v) t ≡ behind1 r false g.type.to step_of
   unfolding param_decl param_typed colon_text_at colon_text
   param_is =
       let p = trimmed r g.from g.colon in
-      ap (λ (z : Gap). tied1 (param_from z r v) t) (told (λ (kd : ℕ). gap_at kd false r v.at ≡ GapTo g.from g.lines) (sym same) g.gap)
-      ∙ ap (λ (z : Colon). tied1 (param_text (colon_text r g.from z) r v) t) g.is
-      ∙ ap (λ (z : Gap). tied1 (param_given z r v p.from p.to) t) (told (λ (kd : ℕ). gap_at kd false r (g.colon + 1) ≡ GapTo g.type.from g.type.lines) (sym same) g.type.gap)
-      ∙ ap (λ (e : ℕ). behind1 r false e (record { answer = Going; state = with_singles v (with_param v.singles (ParamAt p.from p.to g.type.from e)); a = t })) g.type.is.0
+      ap (λ (z : Result (ℕ × ℕ) Refusal). tied1 (param_from z r v) t) (told (λ (kd : ℕ). gap_at kd false r v.at ≡ Ok (g.from, g.lines)) (sym same) g.gap)
+      ∙ ap (λ (z : Result (ℕ × ℕ) ℕ). tied1 (param_text (colon_text r g.from z) r v) t) g.is
+      ∙ ap (λ (z : Result (ℕ × ℕ) Refusal). tied1 (param_given z r v p.from p.to) t) (told (λ (kd : ℕ). gap_at kd false r (g.colon + 1) ≡ Ok (g.type.from, g.type.lines)) (sym same) g.type.gap)
+      ∙ ap (λ (e : ℕ). behind1 r false e (record { answer = Going; state = with_singles v (with_param v.singles (Some (p.from, p.to, g.type.from, e))); a = t })) g.type.is.0
 
 pub param_ships : (src out : List ℕ) (s u : State) (T W : AllTables) → Near src out s u T W → s.at ≤ length src → (k : ℕ) (x y cs : List ℕ) → Params s.kind src s.at k x y
     → drop u.at out ≡ 32 ∷ (x ++ (58 ∷ (32 ∷ (y ++ (10 ∷ (37 ∷ cs)))))) → Ships src out (37 ∷ cs) k (λ j. Params u.kind out u.at j x y) (param_decl src s).state (param_decl out u).state (param_decl out u).answer T W

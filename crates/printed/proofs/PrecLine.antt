@@ -1,4 +1,5 @@
 -- `%left`, `%right`, `%nonassoc`: what is shipped of a line that was read is read as the same line. Assumes nothing.
+use Rattle.std.specs.Prelude.{None, Result, Ok}
 use Prim.Native.Nat.{ℕ, suc, ◌+◌, ◌≤◌, ◌<◌}
 use mathlib.Core.Path.{◌≡◌, refl, sym, ◌∙◌, ap}
 use mathlib.Core.List.{List, ◌∷◌, ◌++◌}
@@ -10,15 +11,12 @@ use lib.Seq.{slice}
 use Rattle.scan.specs.declared.Place.{Place}
 use Rattle.scan.specs.Loop.{Turn, more, stop, turns}
 use Rattle.scan.proofs.Bytes.{told}
-use Rattle.words.specs.declared.Token.{Token}
 use Rattle.tables.specs.Layout.{precedences, repeats, tags, token_numbers, width}
 use Rattle.grammar.specs.declared.State.{State}
-use Rattle.grammar.specs.declared.Part.TheVariants.{Absent}
 use Rattle.grammar.specs.declared.Answer.{Answer}
 use Rattle.grammar.specs.declared.Answer.TheVariants.{Going, Done, Refused}
 use Rattle.grammar.specs.declared.Repeat.TheVariants.{RepeatedPrecedence}
-use Rattle.grammar.specs.declared.Gap.{Gap}
-use Rattle.grammar.specs.declared.Gap.TheVariants.{GapTo}
+use Rattle.grammar.specs.declared.Refusal.{Refusal}
 use Rattle.grammar.specs.Cells.{precedence_cells}
 use Rattle.grammar.specs.Sound.{AllTables, set_tab}
 use Rattle.grammar.specs.State.{Out0, Out1, Out2, Out4, with_at, with_level, next_level, gap_at, once_step, pass_on}
@@ -56,7 +54,7 @@ module _ (src : List ℕ) (s : State) (assoc : ℕ) (t2 t10 t15 t16 : List ℕ) 
       let l = line_words_lem src s assoc t2 t10 t15 t16 h ten g in
       let y = not-led s.kind src d l.lead in
       let (xs, r) = line_bytes s.kind src (Worded s.kind true src) prec_word_lem b (told (λ (m : ℕ). Line s.kind (Worded s.kind true src) src m l.head (prec_decl src s assoc t2 t10 t15 t16).state.at l.counted l.words) (sym y.1) l.line) in
-      (xs, record { from = l.head; lines = l.ends; gap = told (λ (i : ℕ). gap_at s.kind false src s.at ≡ GapTo i l.ends) y.0 (spaces_gap s.kind false src s.at l.start l.ends l.gap); row = r })
+      (xs, record { from = l.head; lines = l.ends; gap = told (λ (i : ℕ). gap_at s.kind false src s.at ≡ Ok (i, l.ends)) y.0 (spaces_gap s.kind false src s.at l.start l.ends l.gap); row = r })
 
 -- T4: a turn is a step on tables 2 and 10, and spacing
 module _ (src : List ℕ) (level assoc : ℕ) where
@@ -67,7 +65,7 @@ module _ (src : List ℕ) (level assoc : ℕ) where
   tied y r o = record { answer = y.answer; state = y.state; a = r.a; b = r.b; c = o.c; d = o.d }
 
   turn_is : (o : Out4) (e : ℕ) (x : List ℕ) (w : TokenAt src o.state.at e x) → (o.state.kind ≡ 4 → ⊥)
-      → let r = step_of o w.place in let y = pass_on src true e r.answer r.state in prec_turn src level assoc Absent o ≡ line_end y.answer (tied y r o)
+      → let r = step_of o w.place in let y = pass_on src true e r.answer r.state in prec_turn src level assoc None o ≡ line_end y.answer (tied y r o)
   unfolding prec_turn prec_item
   turn_is o e x w d =
       let y = token_lies src o.state.at e x w in
@@ -78,7 +76,7 @@ module _ (src : List ℕ) (level assoc : ℕ) where
       let p = w.place in
       let r = step_of o p in
       rw (lt-leb (length src) o.state.at (omega arith))
-      (ap (λ (k : Token). line_end (prec_found k src o.state level assoc Absent o.a o.b o.c o.d).answer (prec_found k src o.state level assoc Absent o.a o.b o.c o.d)) w.is
+      (ap (λ (k : Result (Place × ℕ × Bool) ℕ). line_end (prec_found k src o.state level assoc None o.a o.b o.c o.d).answer (prec_found k src o.state level assoc None o.a o.b o.c o.d)) w.is
       ∙ ap (λ (g : Out1). line_end (prec_tagged src p.from p.to e r g o.d).answer (prec_tagged src p.from p.to e r g o.d)) (tag_absent r.answer r.state p.from p.to o.c)
       ∙ ap (λ (g : Out1). line_end g.answer (record { answer = g.answer; state = g.state; a = r.a; b = r.b; c = o.c; d = g.a }))
       (behind_unmarked src true p.from p.to e r.answer r.state o.d (λ z. d (sym (once_kind o.state src precedences (width precedences) 0 RepeatedPrecedence (precedence_cells p.from p.to level assoc) o.a o.b) ∙ z))))
@@ -103,7 +101,7 @@ module _ (src out : List ℕ) (level assoc kind : ℕ) (d : kind ≡ 4 → ⊥) 
   put s o p m = record { answer = Going; state = with_at (step_of s level assoc o p).state m; a = (step_of s level assoc o p).a; b = (step_of s level assoc o p).b; c = o.c; d = o.d }
 
   -- where a line goes on to its end, its first step did
-  word_goes : (o : Out4) (e : ℕ) (x : List ℕ) (w : TokenAt src o.state.at e x) → o.state.kind ≡ kind → Goes stands answers Under (prec_turn src level assoc Absent o) → (step_of src level assoc o w.place).answer ≡ Going
+  word_goes : (o : Out4) (e : ℕ) (x : List ℕ) (w : TokenAt src o.state.at e x) → o.state.kind ≡ kind → Goes stands answers Under (prec_turn src level assoc None o) → (step_of src level assoc o w.place).answer ≡ Going
   word_goes o e x w k g = go r.answer refl (once_open src o.state precedences (width precedences) 0 RepeatedPrecedence (precedence_cells w.place.from w.place.to level assoc) o.a o.b)
     where
       r : Out2
@@ -120,19 +118,19 @@ module _ (src out : List ℕ) (level assoc kind : ℕ) (d : kind ≡ 4 → ⊥) 
   ended true o = stop o
   ended false o = more o
 
-  turn_word : (s : List ℕ) (o : Out4) (e m n : ℕ) (x : List ℕ) (w : TokenAt s o.state.at e x) (b : Bool) → o.state.kind ≡ kind → gap_at kind true s e ≡ GapTo m n → Ends b n → (step_of s level assoc o w.place).answer ≡ Going
-      → prec_turn s level assoc Absent o ≡ ended b (put s o w.place m)
+  turn_word : (s : List ℕ) (o : Out4) (e m n : ℕ) (x : List ℕ) (w : TokenAt s o.state.at e x) (b : Bool) → o.state.kind ≡ kind → gap_at kind true s e ≡ Ok (m, n) → Ends b n → (step_of s level assoc o w.place).answer ≡ Going
+      → prec_turn s level assoc None o ≡ ended b (put s o w.place m)
   turn_word s o e m n x w b k g h a =
       let r = step_of s level assoc o w.place in
-      let gap : gap_at r.state.kind true s e ≡ GapTo m n = rw (once_kind o.state s precedences (width precedences) 0 RepeatedPrecedence (precedence_cells w.place.from w.place.to level assoc) o.a o.b, k) g in
+      let gap : gap_at r.state.kind true s e ≡ Ok (m, n) = rw (once_kind o.state s precedences (width precedences) 0 RepeatedPrecedence (precedence_cells w.place.from w.place.to level assoc) o.a o.b, k) g in
       turn_is s level assoc o e x w (λ z. d (sym k ∙ z)) ∙ ap (λ (y : Out0). line_end y.answer (tied s level assoc y r o)) (past_line s e m n r.answer r.state b gap h a) ∙ by b
     where
       by : (b : Bool) → line_end (line_answer b) (record { answer = line_answer b; state = with_at (step_of s level assoc o w.place).state m; a = (step_of s level assoc o w.place).a; b = (step_of s level assoc o w.place).b; c = o.c; d = o.d }) ≡ ended b (put s o w.place m)
       by true = refl
       by false = refl
 
-  two_turns : (o z : Out4) (e h m n p q : ℕ) (x : List ℕ) → Under o z → Tokens2 src out o.state.at e z.state.at h x → gap_at kind true src e ≡ GapTo m n → gap_at kind true out h ≡ GapTo p q
-      → (b : Bool) → Ends b n → Ends b q → Goes stands answers Under (prec_turn src level assoc Absent o) → Turned stands answers Under m p b (prec_turn src level assoc Absent o) (prec_turn out level assoc Absent z)
+  two_turns : (o z : Out4) (e h m n p q : ℕ) (x : List ℕ) → Under o z → Tokens2 src out o.state.at e z.state.at h x → gap_at kind true src e ≡ Ok (m, n) → gap_at kind true out h ≡ Ok (p, q)
+      → (b : Bool) → Ends b n → Ends b q → Goes stands answers Under (prec_turn src level assoc None o) → Turned stands answers Under m p b (prec_turn src level assoc None o) (prec_turn out level assoc None z)
   two_turns o z e h m n p q x i w g1 g2 b e1 e2 goes =
       let s = o.state in
       let u = z.state in
@@ -151,16 +149,16 @@ module _ (src out : List ℕ) (level assoc kind : ℕ) (d : kind ≡ 4 → ⊥) 
       by true {y} {v} i = halt y v refl refl i
       by false {y} {v} i = on y v refl refl i
 
-  run_like : (o z : Out4) (k l : ℕ) (xs : List (List ℕ)) → Row2 kind src out o.state.at z.state.at k l xs → Under o z → (turns (suc (length src)) (prec_turn src level assoc Absent) o).answer ≡ Going
-      → Ended stands answers Under k l (turns (suc (length src)) (prec_turn src level assoc Absent) o) (turns (suc (length out)) (prec_turn out level assoc Absent) z)
-  run_like o z k l xs w i g = line_runs stands answers Under (prec_turn src level assoc Absent) (prec_turn out level assoc Absent) kind src out two_turns (suc (length src)) (suc (length out)) o z k l xs w (omega arith) (omega arith) i g
+  run_like : (o z : Out4) (k l : ℕ) (xs : List (List ℕ)) → Row2 kind src out o.state.at z.state.at k l xs → Under o z → (turns (suc (length src)) (prec_turn src level assoc None) o).answer ≡ Going
+      → Ended stands answers Under k l (turns (suc (length src)) (prec_turn src level assoc None) o) (turns (suc (length out)) (prec_turn out level assoc None) z)
+  run_like o z k l xs w i g = line_runs stands answers Under (prec_turn src level assoc None) (prec_turn out level assoc None) kind src out two_turns (suc (length src)) (suc (length out)) o z k l xs w (omega arith) (omega arith) i g
 
 -- a line behind its keyword
-pub prec_from_lem : (src : List ℕ) (s : State) (assoc : ℕ) (t2 t10 t15 t16 : List ℕ) → (s.kind ≡ 4 → ⊥) → (i n : ℕ) → gap_at s.kind false src s.at ≡ GapTo i n
-    → prec_decl src s assoc t2 t10 t15 t16 ≡ turns (suc (length src)) (prec_turn src s.level assoc Absent) (record { answer = Going; state = with_level (with_at s i) (next_level s.level); a = t2; b = t10; c = t15; d = t16 })
+pub prec_from_lem : (src : List ℕ) (s : State) (assoc : ℕ) (t2 t10 t15 t16 : List ℕ) → (s.kind ≡ 4 → ⊥) → (i n : ℕ) → gap_at s.kind false src s.at ≡ Ok (i, n)
+    → prec_decl src s assoc t2 t10 t15 t16 ≡ turns (suc (length src)) (prec_turn src s.level assoc None) (record { answer = Going; state = with_level (with_at s i) (next_level s.level); a = t2; b = t10; c = t15; d = t16 })
 unfolding prec_decl prec_body prec_list
 prec_from_lem src s assoc t2 t10 t15 t16 d i n g =
-    ap (λ (x : Gap). prec_from x src s assoc t2 t10 t15 t16) g
+    ap (λ (x : Result (ℕ × ℕ) Refusal). prec_from x src s assoc t2 t10 t15 t16) g
     ∙ ap (λ (l : Leading). prec_led l.answer l src s.level assoc t2 t10 t15 t16) (sym (lead_none src (with_level (with_at s i) (next_level s.level)) false true d))
 
 -- A line shipped in front of the next `%`.
@@ -179,7 +177,7 @@ module _ (src out : List ℕ) (s u : State) (assoc : ℕ) (T W : AllTables) (n :
       let p = prec_from_lem src s assoc T.t2 T.t10 T.t15 T.t16 d i w.lines w.gap in
       let o : Out4 = record { answer = Going; state = with_level (with_at s i) (next_level lev); a = T.t2; b = T.t10; c = T.t15; d = T.t16 } in
       let z : Out4 = record { answer = Going; state = with_level (with_at u j) (next_level lev); a = W.t2; b = W.t10; c = W.t15; d = W.t16 } in
-      let p' : prec_over out u W ≡ turns (suc (length out)) (prec_turn out lev assoc Absent) z = rw n.like.level (prec_from_lem out u assoc W.t2 W.t10 W.t15 W.t16 (λ e. d (n.like.kind ∙ e)) j 0 (rw (← n.like.kind) (b.gap false))) in
+      let p' : prec_over out u W ≡ turns (suc (length out)) (prec_turn out lev assoc None) z = rw n.like.level (prec_from_lem out u assoc W.t2 W.t10 W.t15 W.t16 (λ e. d (n.like.kind ∙ e)) j 0 (rw (← n.like.kind) (b.gap false))) in
       let start = near_level src out (with_at s i) (with_at u j) T W (near_at src out s u T W n i j) (next_level lev) in
       let r = run_like src out lev assoc s.kind d T W o z k b.to xs b.rows (record { of = refl; going = refl; near = start }) (told (λ (x : Out4). x.answer ≡ Going) p g) in
       told_both (λ (x y : Out4). Ships src out (37 ∷ cs) k (λ j. Lined u.kind out u.at j xs) x.state y.state y.answer (in4 T x) (in4 W y)) p p' (record {

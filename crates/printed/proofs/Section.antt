@@ -1,4 +1,5 @@
 -- The declarations of a section that was read, and where they stand in the source. Assumes nothing.
+use Rattle.std.specs.Prelude.{Result, Ok, Err}
 use Prim.Native.Nat.{ℕ, zero, suc, ◌≤◌, ◌<◌}
 use mathlib.Core.Path.{◌≡◌, refl, sym, ◌∙◌, ap}
 use mathlib.Core.List.{List, [], ◌∷◌}
@@ -23,8 +24,6 @@ use Rattle.grammar.specs.declared.Refusal.TheVariants.{Fault}
 use Rattle.grammar.specs.declared.Cause.TheVariants.{PrematureEnd}
 use Rattle.grammar.specs.declared.Repeat.{Repeat}
 use Rattle.grammar.specs.declared.Repeat.TheVariants.{RepeatedAvoidInsert, RepeatedImplicitTokens}
-use Rattle.grammar.specs.declared.Gap.{Gap}
-use Rattle.grammar.specs.declared.Gap.TheVariants.{GapTo, GapRefused}
 use Rattle.grammar.specs.Sound.{AllTables, Far}
 use Rattle.grammar.specs.State.{Gapped, with_at, gap_at, onward}
 use Rattle.grammar.proofs.Far.{far_at}
@@ -171,9 +170,9 @@ module _ (src : List ℕ) (text : Text src) (done : ℕ) (T : AllTables) where
   unfolding decl_all decl_run
   section_spelled s D kinds f = go (gap_at s.kind true src s.at) refl (gapped s.kind true src s.at f.here)
     where
-      go : (g : Gap) → gap_at s.kind true src s.at ≡ g → Gapped src s.at g → (all_from g src s D).answer ≡ Done → (ds : List Decl) × Section1 s.kind src s.at (all_from g src s D).state.at ds
-      go (GapTo i n) e x h =
+      go : (g : Result (ℕ × ℕ) Refusal) → gap_at s.kind true src s.at ≡ g → Gapped src s.at g → (all_from g src s D).answer ≡ Done → (ds : List Decl) × Section1 s.kind src s.at (all_from g src s D).state.at ds
+      go (Ok (i, n)) e x h =
           let a = x.0 in
           let (ds, y) = run_spelled (suc (length src)) (record { answer = Going; state = with_at s i; tables = D }) kinds (far_at f i (omega arith) x.1) refl h in
           (ds, record { from = i; lines = n; gap = e; decls = y })
-      go (GapRefused r) e x h = absurd (refused_done r h)
+      go (Err r) e x h = absurd (refused_done r h)

@@ -1,4 +1,5 @@
 -- The declarations of a section that was read, shipped in front of `%%`, are read as the same declarations, and the readings are alike. Assumes nothing.
+use Rattle.std.specs.Prelude.{Result}
 use Prim.Native.Nat.{ℕ, zero, suc, ◌+◌, ◌-◌, ◌<◌}
 use mathlib.Core.Path.{◌≡◌, refl, sym, ◌∙◌, ap}
 use mathlib.Core.List.{List, [], ◌∷◌, ◌++◌}
@@ -13,7 +14,7 @@ use Rattle.keywords.specs.declared.Keyword.TheVariants.{Percents, TokenWord, Exp
 use Rattle.grammar.specs.declared.State.{State}
 use Rattle.grammar.specs.declared.Answer.{Answer}
 use Rattle.grammar.specs.declared.Answer.TheVariants.{Going, Done, Refused}
-use Rattle.grammar.specs.declared.Gap.{Gap}
+use Rattle.grammar.specs.declared.Refusal.{Refusal}
 use Rattle.grammar.specs.Sound.{AllTables}
 use Rattle.grammar.specs.State.{with_at}
 use Rattle.grammar.proofs.Touch.{done_going}
@@ -207,7 +208,7 @@ module _ (src out : List ℕ) (s u : State) (T W : AllTables) (n : Near src out 
       let i = x.from in
       let o : Out = record { answer = Going; state = with_at s i; tables = declared T } in
       let z : Out = record { answer = Going; state = u; tables = declared W } in
-      let a : decl_all src s (declared T) ≡ turns (suc (length src)) (decl_turn src) o = ap (λ (y : Gap). all_from y src s (declared T)) x.gap in
-      let b : decl_all out u (declared W) ≡ turns (suc (length out)) (decl_turn out) z = ap (λ (y : Gap). all_from y out u (declared W)) g in
+      let a : decl_all src s (declared T) ≡ turns (suc (length src)) (decl_turn src) o = ap (λ (y : Result (ℕ × ℕ) Refusal). all_from y src s (declared T)) x.gap in
+      let b : decl_all out u (declared W) ≡ turns (suc (length out)) (decl_turn out) z = ap (λ (y : Result (ℕ × ℕ) Refusal). all_from y out u (declared W)) g in
       let r = run_ships src out T W cs (suc (length src)) (suc (length out)) o z x.decls refl (near_at src out s u T W n i u.at) q (omega arith) (told (λ (y : Out). y.answer ≡ Done) a h) in
       told_both (SectionShips ds) a b (record { ended = r.ended; near = r.near; left = r.left; there = record { from = u.at; lines = 0; gap = g; decls = r.there } })

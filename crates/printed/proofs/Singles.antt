@@ -1,4 +1,5 @@
 -- `%start`, `%expect`, `%expect_rr`, `%actiontype`, `%parse-generics`: what is shipped of each is read as what it was. Assumes nothing.
+use Rattle.std.specs.Prelude.{Ok}
 use Prim.Native.Nat.{ℕ, suc, ◌+◌, ◌≤◌, ◌<◌}
 use mathlib.Core.Path.{◌≡◌, refl, sym, ◌∙◌, ap}
 use mathlib.Core.List.{List, ◌∷◌, ◌++◌}
@@ -14,7 +15,6 @@ use Rattle.words.specs.Words.{name_at, Named}
 use Rattle.words.proofs.Words.{name_placed}
 use Rattle.words.proofs.Meaning.{int_iff}
 use Rattle.texts.specs.Line.{line_end_at}
-use Rattle.grammar.specs.declared.Gap.TheVariants.{GapTo}
 use Rattle.grammar.specs.State.{Gapped}
 use Rattle.grammar.proofs.Kept.{gapped}
 use Rattle.alike.specs.Like.{Same}
@@ -61,7 +61,7 @@ module _ (w : Single) (kind : ℕ) (src out : List ℕ) (at k f : ℕ) (x cs : L
     pub same : Same src out g.from g.to there.from there.to
     pub left : drop to out ≡ 37 ∷ cs
 
-  begun : Gapped src at (GapTo g.from g.lines)
+  begun : Gapped src at (Ok (g.from, g.lines))
   begun = told (Gapped src at) g.gap (gapped kind false src at here)
 
   lies : (g.from < g.to) × (g.to ≤ length src)

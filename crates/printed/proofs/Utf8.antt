@@ -1,4 +1,5 @@
 -- The text of declarations that stand in a text is a text. Assumes nothing.
+use Rattle.std.specs.Prelude.{Ok}
 use Prim.Native.Nat.{ℕ, ◌+◌, ◌≤◌, ◌<◌}
 use mathlib.Core.Path.{◌≡◌, refl, sym}
 use mathlib.Core.List.{List, [], ◌∷◌, ◌++◌, append_assoc}
@@ -16,7 +17,6 @@ use Rattle.whole.proofs.Boundaries.{between, begins_boundary, ascii_behind}
 use Rattle.texts.proofs.Meaning.{edge_boundary}
 use Rattle.keywords.specs.declared.Keyword.{Keyword}
 use Rattle.keywords.specs.declared.Keyword.TheVariants.{TokenWord, ActiontypeWord, StartWord, EppWord, ExpectRrWord, ExpectUnusedWord, ExpectWord, AvoidInsertWord, ParseParamWord, ParseGenericsWord, ImplicitTokensWord, LeftWord, RightWord, NonassocWord, TypeWord, NoKeyword}
-use Rattle.grammar.specs.declared.Gap.TheVariants.{GapTo}
 use Rattle.grammar.specs.State.{Gapped}
 use Rattle.grammar.proofs.Kept.{gapped}
 use Rattle.lists.specs.declared.WordList.{WordList}
@@ -84,7 +84,7 @@ module _ (src : List ℕ) (t : Text src) where
   unfolding in_class
   given_text w kind at k x h b g = told Text g.spelled (go w g.is)
     where
-      y : Gapped src at (GapTo g.from g.lines)
+      y : Gapped src at (Ok (g.from, g.lines))
       y = told (Gapped src at) g.gap (gapped kind false src at h)
 
       go : (w : Single) → SingleAt w src g.from g.to → Text (slice g.from g.to src)
@@ -134,7 +134,7 @@ module _ (src : List ℕ) (t : Text src) where
         (cons_text 32 _ (omega arith) (text_append y (10 ∷ rest) (told Text l.spelled (string_text src t l.value l.end l.text)) low))))
     decl_text_lem d (param1 {x = x} {y = y} j e l) =
         let z = edge ParseParamWord j e (λ z. clash cc) in
-        let g : Gapped src j (GapTo l.from l.lines) = told (Gapped src j) l.gap (gapped kind false src j z.0) in
+        let g : Gapped src j (Ok (l.from, l.lines)) = told (Gapped src j) l.gap (gapped kind false src j z.0) in
         let c = colon_lies src l.from l.colon l.counted g.1 l.is in
         let c1 = c.1 in
         let c2 = c.2 in

@@ -1,4 +1,5 @@
 -- Words of lists, in one source and in another where their bytes stand. Assumes nothing.
+use Rattle.std.specs.Prelude.{Ok, Err}
 use Prim.Native.Nat.{ℕ, suc, ◌+◌, ◌-◌, ◌≤◌, ◌<◌}
 use mathlib.Core.Path.{◌≡◌, refl, sym, ◌∙◌, ap}
 use mathlib.Core.List.{List, [], ◌∷◌, ◌++◌}
@@ -13,12 +14,9 @@ use Rattle.scan.specs.declared.Place.{Place}
 use Rattle.scan.specs.declared.Class.TheVariants.{NameStart}
 use Rattle.scan.specs.Scan.{in_class, is_letter, is_digit}
 use Rattle.scan.proofs.Bytes.{told}
-use Rattle.words.specs.declared.Name.TheVariants.{NoName}
-use Rattle.words.specs.declared.Token.TheVariants.{Found}
 use Rattle.words.specs.Words.{is_quote, word_at, named, name_at, token_at, Named, Tokened}
 use Rattle.words.proofs.Words.{name_placed, token_placed}
 use Rattle.words.proofs.Meaning.{quoted_iff}
-use Rattle.grammar.specs.declared.Gap.TheVariants.{GapTo}
 use Rattle.grammar.specs.Cells.{kind_cells}
 use Rattle.grammar.specs.State.{Gapped, gap_at}
 use Rattle.grammar.proofs.Kept.{gapped}
@@ -48,14 +46,14 @@ quote_no c h = go (either _ _ h)
     go (inl e) = rw (eqb-true c 34 e)
     go (inr e) = rw (eqb-true c 39 e)
 
-no_name : (s : List ℕ) (i : ℕ) → i < length s → in_class NameStart (get_or s i 0) ≡ false → name_at s i ≡ NoName i
+no_name : (s : List ℕ) (i : ℕ) → i < length s → in_class NameStart (get_or s i 0) ≡ false → name_at s i ≡ Err i
 unfolding name_at named word_at
 no_name s i h b = rw (lt-leb (length s) i h, b, word_at)
 
-quoted_opens : (s : List ℕ) (i e : ℕ) (p : Place) → token_at s i ≡ Found p e true → is_quote (get_or s i 0) ≡ true
+quoted_opens : (s : List ℕ) (i e : ℕ) (p : Place) → token_at s i ≡ Ok (p, e, true) → is_quote (get_or s i 0) ≡ true
 quoted_opens s i e p h = go p e true (shape s i p e true h) h refl
   where
-    go : (p : Place) (e : ℕ) (q : Bool) → Shape i p e q → token_at s i ≡ Found p e q → q ≡ true → is_quote (get_or s i 0) ≡ true
+    go : (p : Place) (e : ℕ) (q : Bool) → Shape i p e q → token_at s i ≡ Ok (p, e, q) → q ≡ true → is_quote (get_or s i 0) ≡ true
     go _ _ _ (plain to) h z = let c : ◌≡◌ {A = ℕ} 0 1 = cc in absurd (omega arith)
     go _ _ _ (quote to) h z = ((quoted_iff s i to).0 h).opens
 
@@ -63,7 +61,7 @@ quoted_opens s i e p h = go p e true (shape s i p e true h) h refl
 unused_lies : (s : List ℕ) (i e : ℕ) (row : List ℕ) → UnusedWord s i e row → (i < e) × (e ≤ length s)
 unused_lies s i e row (rule h) = told (Named s i) h (name_placed s i (name_at s i) refl).1
 unused_lies s i e row (quoted {p = p} n h) =
-    let y : Tokened s i (Found p e true) = told (Tokened s i) h (token_placed s i (token_at s i) refl).1 in
+    let y : Tokened s i (Ok (p, e, true)) = told (Tokened s i) h (token_placed s i (token_at s i) refl).1 in
     let a = y.0 in
     let b = y.1 in
     let c = y.2 in
@@ -143,10 +141,10 @@ word_there UnusedList src out i e j f x w = w.there
 word_there TypeList src out i e j f x w = absurd w
 
 -- a word and the spacing behind it go onward
-pub word_further : (what : WordList) (kind : ℕ) (s : List ℕ) (i e m n : ℕ) (x : List ℕ) → WordAt what s i e x → gap_at kind true s e ≡ GapTo m n → (i < m) × (m ≤ length s)
+pub word_further : (what : WordList) (kind : ℕ) (s : List ℕ) (i e m n : ℕ) (x : List ℕ) → WordAt what s i e x → gap_at kind true s e ≡ Ok (m, n) → (i < m) × (m ≤ length s)
 word_further what kind s i e m n x w g =
     let y = word_lies what s i e x w in
-    let z : Gapped s e (GapTo m n) = told (Gapped s e) g (gapped kind true s e y.1) in
+    let z : Gapped s e (Ok (m, n)) = told (Gapped s e) g (gapped kind true s e y.1) in
     let a = y.0 in
     let b = z.0 in
     (omega arith, z.1)

@@ -1,12 +1,11 @@
 -- Request eleven: the declarations of a specification by their words, the text that they are shipped as, and where they stand in a source.
-use Rattle.std.specs.Prelude.{ℕ, ◌≡◌, List, [], ◌∷◌, ◌++◌, Bool, true, false}
+use Rattle.std.specs.Prelude.{ℕ, ◌≡◌, List, [], ◌∷◌, ◌++◌, Bool, true, false, Some, Ok}
 use Rattle.keywords.specs.declared.Keyword.{Keyword}
 use Rattle.keywords.specs.declared.Keyword.TheVariants.{Percents, TokenWord, ActiontypeWord, StartWord, EppWord, ExpectRrWord, ExpectUnusedWord, ExpectWord, AvoidInsertWord, ParseParamWord, ParseGenericsWord, ImplicitTokensWord, LeftWord, RightWord, NonassocWord, PrologueWord, UnionWord, TypeWord, NoKeyword}
 use Rattle.keywords.specs.Keywords.{seen_at}
 use Rattle.tables.specs.Layout.{avoided, implicit}
 use Rattle.grammar.specs.declared.Repeat.{Repeat}
 use Rattle.grammar.specs.declared.Repeat.TheVariants.{RepeatedAvoidInsert, RepeatedImplicitTokens}
-use Rattle.grammar.specs.declared.Gap.TheVariants.{GapTo}
 use Rattle.grammar.specs.State.{gap_at}
 use Rattle.lists.specs.declared.WordList.{WordList}
 use Rattle.lists.specs.declared.WordList.TheVariants.{TokenList, UnusedList, TypeList}
@@ -122,9 +121,9 @@ pub data Names : Keyword → ℕ → Repeat → Type 0 where
   implicit_tokens : Names ImplicitTokensWord implicit RepeatedImplicitTokens
 
 -- a list with a word in it
-abbrev pub Some : {A : Type 0} → List A → Type 0
-Some [] = ⊥
-Some (x ∷ xs) = Unit {0}
+abbrev pub NonEmpty : {A : Type 0} → List A → Type 0
+NonEmpty [] = ⊥
+NonEmpty (x ∷ xs) = Unit {0}
 
 -- at i stands a keyword that ends at j
 abbrev pub SeenTo : ℕ → List ℕ → ℕ → Keyword → ℕ → Type 0
@@ -132,7 +131,7 @@ SeenTo kind src i w j = seen_at kind src i ≡ record { word = w; end = j }
 
 -- from i to k stands a declaration
 pub data Decl1 (kind : ℕ) (src : List ℕ) (i k : ℕ) : Decl → Type 0 where
-  listed1 : (what : WordList) {xs : List (List ℕ)} (j : ℕ) → SeenTo kind src i (list_keyword what) j → Some xs → Spelled what kind src j k xs → Decl1 kind src i k (listed what xs)
+  listed1 : (what : WordList) {xs : List (List ℕ)} (j : ℕ) → SeenTo kind src i (list_keyword what) j → NonEmpty xs → Spelled what kind src j k xs → Decl1 kind src i k (listed what xs)
   prec1 : {w : Keyword} {assoc : ℕ} {xs : List (List ℕ)} (j : ℕ) → Assoc w assoc → SeenTo kind src i w j → Lined kind src j k xs → Decl1 kind src i k (lined w xs)
   names1 : {w : Keyword} {t : ℕ} {what : Repeat} {xs : List (List ℕ)} (j : ℕ) → Names w t what → SeenTo kind src i w j → Lined kind src j k xs → Decl1 kind src i k (lined w xs)
   start1 : {x : List ℕ} (j : ℕ) → SeenTo kind src i StartWord j → Given name kind src j k x → Decl1 kind src i k (single StartWord x)
@@ -152,5 +151,5 @@ pub data Decls1 (kind : ℕ) (src : List ℕ) : ℕ → ℕ → List Decl → Ty
 pub record Section1 (kind : ℕ) (src : List ℕ) (at k : ℕ) (ds : List Decl) : Type 0 where
   pub from : ℕ
   pub lines : ℕ
-  pub gap : gap_at kind true src at ≡ GapTo from lines
+  pub gap : gap_at kind true src at ≡ Ok (from, lines)
   pub decls : Decls1 kind src from k ds

@@ -1,4 +1,5 @@
 -- An action that stands in one source stands in any where its bytes do: its trimmed text and its span are the same bytes. Assumes nothing.
+use Rattle.std.specs.Prelude.{Option, Some, None, Ok}
 use Prim.Native.Nat.{ℕ, zero, suc, ◌+◌, ◌-◌, ◌≤◌, ◌<◌}
 use mathlib.Core.Path.{◌≡◌, refl, sym, ◌∙◌, ap}
 use mathlib.Core.List.{List, [], ◌∷◌, ◌++◌}
@@ -7,6 +8,7 @@ use native.Mathlib.Omega.{arith}
 use native.Mathlib.Nat.{zero-add, suc-add}
 use lib.ListN.{length, get_or, drop, take, length-drop}
 use lib.Seq.{slice, length-slice, slice-cons, take-nil}
+use Rattle.scan.proofs.Tuples.{ok_4}
 use Rattle.scan.specs.declared.Place.{Place}
 use Rattle.scan.proofs.Bytes.{told, drop_below, drop_byte, drop_next}
 use Rattle.whole.specs.Encode.{Text}
@@ -15,9 +17,6 @@ use Rattle.trim.specs.Trim.{trimmed}
 use Rattle.trim.specs.Trims.{size}
 use Rattle.trim.proofs.Theorem.{trims, trims_inside}
 use Rattle.trim.proofs.Inside.{inside}
-use Rattle.texts.specs.declared.Brace.{Brace}
-use Rattle.texts.specs.declared.Brace.TheVariants.{Closes, NeverCloses}
-use Rattle.texts.specs.declared.Action.TheVariants.{Body}
 use Rattle.texts.specs.Action.{braced, braced_from, span_of, acted, action_at}
 use Rattle.texts.proofs.Balance.{action_is}
 use Rattle.alike.specs.Like.{Same}
@@ -39,34 +38,35 @@ pub record Stood (s : List ℕ) (i e m : ℕ) (p q : Place) : Type 0 where
   pub low : i + 1 + size < length s
   pub text : p ≡ trimmed s (i + 1) (i + 1 + size)
   pub span : q ≡ span_of (i + 1) p
-  pub moves : (r : List ℕ) (j n : ℕ) → (k : ℕ) × (braced 0 (take (suc size) (drop (i + 1) s) ++ r) j n ≡ Closes (j + size) k)
+  pub moves : (r : List ℕ) (j n : ℕ) → (k : ℕ) × (braced 0 (take (suc size) (drop (i + 1) s) ++ r) j n ≡ Some (j + size, k))
 
-pub stood : (s : List ℕ) (i e m : ℕ) (p q : Place) → action_at s i ≡ Body e m p q → Stood s i e m p q
+pub stood : (s : List ℕ) (i e m : ℕ) (p q : Place) → action_at s i ≡ Ok (e, m, p, q) → Stood s i e m p q
 unfolding action_at acted braced_from
 stood s i e m p q = go (braced 0 (drop (i + 1) s) (i + 1) 0) refl
   where
-    go : (b : Brace) → braced 0 (drop (i + 1) s) (i + 1) 0 ≡ b → acted s i b ≡ Body e m p q → Stood s i e m p q
-    go (Closes to n) h r =
+    go : (b : Option (ℕ × ℕ)) → braced 0 (drop (i + 1) s) (i + 1) 0 ≡ b → acted s i b ≡ Ok (e, m, p, q) → Stood s i e m p q
+    go (Some (to, n)) h r =
         let w = brace_move 0 (drop (i + 1) s) (i + 1) 0 to n h in
         let z = w.ends in
         let o = w.inside in
         let l = length-drop (i + 1) s in
-        let a : to + 1 ≡ e = cc in
-        let b : trimmed s (i + 1) to ≡ p = cc in
-        let c : span_of (i + 1) (trimmed s (i + 1) to) ≡ q = cc in
+        let d = ok_4 r in
+        let a : to + 1 ≡ e = d.0 in
+        let b : trimmed s (i + 1) to ≡ p = d.2 in
+        let c : span_of (i + 1) (trimmed s (i + 1) to) ≡ q = d.3 in
         record { size = w.size; ends = omega arith; low = omega arith; text = rw (← z) (sym b); span = sym c ∙ ap (span_of (i + 1)) b; moves = w.moves }
-    go NeverCloses h r = absurd (clash cc)
+    go None h r = absurd (clash cc)
 
 pub record ActionAgain (s t : List ℕ) (j f : ℕ) (x : List ℕ) (p q : Place) : Type 0 where
   pub lines : ℕ
   pub text : Place
   pub span : Place
-  pub is : action_at t j ≡ Body f lines text span
+  pub is : action_at t j ≡ Ok (f, lines, text, span)
   pub same : Same s t p.from p.to text.from text.to
   pub alike : Same s t q.from q.to span.from span.to
   pub spelled : slice j f t ≡ x
 
-pub action_again : (s t : List ℕ) (i e m j : ℕ) (p q : Place) (x r : List ℕ) → action_at s i ≡ Body e m p q → Text (slice (i + 1) (e - 1) s) → slice i e s ≡ x → drop j t ≡ x ++ r → j ≤ length t → ActionAgain s t j (j + length x) x p q
+pub action_again : (s t : List ℕ) (i e m j : ℕ) (p q : Place) (x r : List ℕ) → action_at s i ≡ Ok (e, m, p, q) → Text (slice (i + 1) (e - 1) s) → slice i e s ≡ x → drop j t ≡ x ++ r → j ≤ length t → ActionAgain s t j (j + length x) x p q
 unfolding action_at acted braced_from
 action_again s t i e m j p q x r h text is d l =
     let w = stood s i e m p q h in
@@ -84,7 +84,7 @@ action_again s t i e m j p q x r h text is d l =
     let sl : slice (suc i) e s ≡ take (suc n) (drop (i + 1) s) = cut s i e n z2 in
     let d3 : drop (j + 1) t ≡ take (suc n) (drop (i + 1) s) ++ r = d2 ∙ ap (λ (y : List ℕ). y ++ r) sl in
     let mv = w.moves r (j + 1) 0 in
-    let br : braced 0 (drop (j + 1) t) (j + 1) 0 ≡ Closes (j + 1 + n) mv.0 = rw d3 mv.1 in
+    let br : braced 0 (drop (j + 1) t) (j + 1) 0 ≡ Some (j + 1 + n, mv.0) = rw d3 mv.1 in
     let z3 : e - 1 ≡ i + 1 + n = omega arith in
     let tm = trim_move s t (i + 1) (j + 1) n g' (rw z3 at text) in
     let z4 : j + 1 + n + 1 ≡ j + length x = omega arith in
@@ -129,7 +129,7 @@ action_again s t i e m j p q x r h text is d l =
         })
 
 -- What an action holds between its braces, which are ASCII, is UTF-8 if the source is.
-pub action_text : (s : List ℕ) → Text s → (i e n : ℕ) (p q : Place) (l : List ℕ) → drop i s ≡ 123 ∷ l → action_at s i ≡ Body e n p q → Text (slice (i + 1) (e - 1) s)
+pub action_text : (s : List ℕ) → Text s → (i e n : ℕ) (p q : Place) (l : List ℕ) → drop i s ≡ 123 ∷ l → action_at s i ≡ Ok (e, n, p, q) → Text (slice (i + 1) (e - 1) s)
 action_text s text i e n p q l d h =
     let b = drop_below s i 123 l d in
     let z = drop_byte s i 123 l d in

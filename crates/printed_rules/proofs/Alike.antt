@@ -1,4 +1,5 @@
 -- The items of a rule that two sources have alike are read alike. Assumes nothing.
+use Rattle.std.specs.Prelude.{Option, Some, None, Result, Ok}
 use Prim.Native.Nat.{ℕ, ◌<◌}
 use mathlib.Core.Path.{◌≡◌, refl, sym, ◌∙◌, ap}
 use mathlib.Core.List.{List}
@@ -10,10 +11,7 @@ use lib.Seq.{slice_empty}
 use borrow.Author.Tests.{lt-leb}
 use Rattle.scan.specs.declared.Place.{Place}
 use Rattle.scan.proofs.Bytes.{told}
-use Rattle.texts.specs.declared.Action.TheVariants.{Body}
 use Rattle.texts.specs.Action.{action_at}
-use Rattle.tables.specs.declared.Found.{Found as Row}
-use Rattle.tables.specs.declared.Found.TheVariants.{RowAt, NoRow}
 use Rattle.tables.specs.Layout.{tokens, symbols, productions}
 use Rattle.tables.specs.Table.{cell, find_name}
 use Rattle.tables.proofs.Rows.{row_cell}
@@ -21,17 +19,12 @@ use Rattle.tables.proofs.Cases.{find_iff}
 use Rattle.grammar.specs.declared.State.{State}
 use Rattle.grammar.specs.declared.Answer.{Answer}
 use Rattle.grammar.specs.declared.Answer.TheVariants.{Going, Done, Refused}
-use Rattle.grammar.specs.declared.Gap.{Gap}
-use Rattle.grammar.specs.declared.Gap.TheVariants.{GapTo}
+use Rattle.grammar.specs.declared.Refusal.{Refusal}
 use Rattle.grammar.specs.Sound.{AllTables, set_tab}
 use Rattle.grammar.specs.Cells.{symbol_cells}
 use Rattle.grammar.specs.State.{Out0, Out1, Out2, count, with_at, gap_at, push_row, enter_step}
 use Rattle.grammar.proofs.SameKind.{push_kind, enter_kind}
 use Rattle.grammar.proofs.Touch.{pass_to, pass_going, refused_going, done_going}
-use Rattle.productions.specs.declared.Prec.{Prec}
-use Rattle.productions.specs.declared.Prec.TheVariants.{NoPrec, PrecAt}
-use Rattle.productions.specs.declared.Act.{Act}
-use Rattle.productions.specs.declared.Act.TheVariants.{NoAction, ActionAt}
 use Rattle.productions.specs.declared.Production.{Production}
 use Rattle.productions.specs.Cells.{prec_cells, action_cells, production_cells, push_production}
 use Rattle.items.specs.declared.Sort.TheVariants.{EndSort}
@@ -106,18 +99,18 @@ module _ (src out : List ℕ) where
       none : Same src out 0 0 0 0
       none = record { here = (omega arith, omega arith); there = (omega arith, omega arith); bytes = slice_empty 0 src ∙ sym (slice_empty 0 out) }
 
-      given : (p q : Prec) → LikePrec src out p q → (get_or (prec_cells p) 0 0 ≡ get_or (prec_cells q) 0 0) × Same src out (get_or (prec_cells p) 1 0) (get_or (prec_cells p) 2 0) (get_or (prec_cells q) 1 0) (get_or (prec_cells q) 2 0)
-      given NoPrec NoPrec x = (refl, none)
-      given NoPrec (PrecAt c d) x = absurd x
-      given (PrecAt a b) NoPrec x = absurd x
-      given (PrecAt a b) (PrecAt c d) x = (refl, x)
+      given : (p q : Option (ℕ × ℕ)) → LikePrec src out p q → (get_or (prec_cells p) 0 0 ≡ get_or (prec_cells q) 0 0) × Same src out (get_or (prec_cells p) 1 0) (get_or (prec_cells p) 2 0) (get_or (prec_cells q) 1 0) (get_or (prec_cells q) 2 0)
+      given None None x = (refl, none)
+      given None (Some (c, d)) x = absurd x
+      given (Some (a, b)) None x = absurd x
+      given (Some (a, b)) (Some (c, d)) x = (refl, x)
 
-      acted : (p q : Act) → LikeAct src out p q → (get_or (action_cells p) 0 0 ≡ get_or (action_cells q) 0 0) × Same src out (get_or (action_cells p) 1 0) (get_or (action_cells p) 2 0) (get_or (action_cells q) 1 0) (get_or (action_cells q) 2 0)
+      acted : (p q : Option (ℕ × ℕ × ℕ × ℕ)) → LikeAct src out p q → (get_or (action_cells p) 0 0 ≡ get_or (action_cells q) 0 0) × Same src out (get_or (action_cells p) 1 0) (get_or (action_cells p) 2 0) (get_or (action_cells q) 1 0) (get_or (action_cells q) 2 0)
           × Same src out (get_or (action_cells p) 3 0) (get_or (action_cells p) 4 0) (get_or (action_cells q) 3 0) (get_or (action_cells q) 4 0)
-      acted NoAction NoAction x = (refl, none, none)
-      acted NoAction (ActionAt a b c d) x = absurd x
-      acted (ActionAt a b c d) NoAction x = absurd x
-      acted (ActionAt a b c d) (ActionAt e f g h) x = (refl, x.0, x.1)
+      acted None None x = (refl, none, none)
+      acted None (Some (a, b, c, d)) x = absurd x
+      acted (Some (a, b, c, d)) None x = absurd x
+      acted (Some (a, b, c, d)) (Some (e, f, g, h)) x = (refl, x.0, x.1)
 
   -- a production joins table 8 in both
   pub end_like : (s u : State) → Like src out s u → (d b : Production) → LikeDraft src out d b → (t8 v8 : List ℕ) → Table src out productions (count s productions) t8 v8 → (end_production s d t8).answer ≡ Going
@@ -139,12 +132,12 @@ module _ (src out : List ℕ) where
       found : find_name src 3 0 n t1 a b ≡ find_name out 3 0 (count u tokens) v1 c e
       found = rw (← same_count src out s u l tokens) (find_like src out 3 0 n t1 v1 (omega arith) (names_like src out (fields tokens) 3 0 n t1 v1 (omega arith) y (λ x y f. f.0)) a b c e x)
 
-      go : (r : Row) → find_name src 3 0 n t1 a b ≡ r → kind_found r t1 ≡ kind_found r v1
-      go (RowAt r) h =
+      go : (r : Option ℕ) → find_name src 3 0 n t1 a b ≡ r → kind_found r t1 ≡ kind_found r v1
+      go (Some r) h =
           let i = ((find_iff src 3 0 n t1 a b r).0 h).inside in
           let f : cell 3 t1 r 2 ≡ cell 3 v1 r 2 = rw (row_cell 3 t1 r 2 (omega arith), row_cell 3 v1 r 2 (omega arith)) at (y.rows r i).1.0 in
           ap (λ (w : ℕ). elim (eqb w 1) [ true ↦ 2 | false ↦ 1 ]) f
-      go NoRow h = refl
+      go None h = refl
 
 -- nor does a production change the kind
 pub end_kind : (s : State) (d : Production) (t8 : List ℕ) → (end_production s d t8).state.kind ≡ s.kind
@@ -157,7 +150,7 @@ module _ (kind : ℕ) (src : List ℕ) (s : State) (of : s.kind ≡ kind) (d : P
   unfolding item_step
   step_is r e = rw e
 
-  pub quoted_is : (e k n : ℕ) (x : List ℕ) (w : TokenAt src s.at e x) → gap_at kind true src e ≡ GapTo k n → quoted_item src s d t1 t9 ≡ made2 (token_symbol src (with_at s k) w.place.from w.place.to t1 t9) (with_to d e)
+  pub quoted_is : (e k n : ℕ) (x : List ℕ) (w : TokenAt src s.at e x) → gap_at kind true src e ≡ Ok (k, n) → quoted_item src s d t1 t9 ≡ made2 (token_symbol src (with_at s k) w.place.from w.place.to t1 t9) (with_to d e)
   unfolding quoted_item quoted_rows
   quoted_is e k n x w g = rw (w.is, of, g)
 
@@ -165,28 +158,28 @@ module _ (kind : ℕ) (src : List ℕ) (s : State) (of : s.kind ≡ kind) (d : P
   unfolding bare_item
   bare_is e x w = rw w.is
 
-  pub prec_is : (e c m : ℕ) (x : List ℕ) → gap_at kind true src s.at ≡ GapTo c m → (w : TokenAt src c e x) → prec_item src s d t1 ≡ name_entered src e (enter_step src (with_at s c) w.place.from w.place.to false t1) (with_to (with_prec d w.place.from w.place.to) e)
+  pub prec_is : (e c m : ℕ) (x : List ℕ) → gap_at kind true src s.at ≡ Ok (c, m) → (w : TokenAt src c e x) → prec_item src s d t1 ≡ name_entered src e (enter_step src (with_at s c) w.place.from w.place.to false t1) (with_to (with_prec d w.place.from w.place.to) e)
   unfolding prec_item prec_name
   prec_is e c m x g w = rw (of, g, w.is)
 
-  pub action_is : (e m k n : ℕ) (p q : Place) → action_at src s.at ≡ Body e m p q → gap_at kind true src e ≡ GapTo k n → may_end src k ≡ true → action_item src s d ≡ record { answer = Going; state = with_at s k; draft = with_action (with_to d s.at) p.from p.to q.from q.to }
+  pub action_is : (e m k n : ℕ) (p q : Place) → action_at src s.at ≡ Ok (e, m, p, q) → gap_at kind true src e ≡ Ok (k, n) → may_end src k ≡ true → action_item src s d ≡ record { answer = Going; state = with_at s k; draft = with_action (with_to d s.at) p.from p.to q.from q.to }
   unfolding action_item after_action
   action_is e m k n p q a g h = rw (a, of, g, action_gap, h)
 
-  empty_is : (k n first : ℕ) → gap_at kind true src s.at ≡ GapTo k n → (eqb (count s symbols) d.first && may_follow src k) ≡ true → empty_item src s d first ≡ record { answer = Going; state = with_at s k; draft = with_to d s.at }
+  empty_is : (k n first : ℕ) → gap_at kind true src s.at ≡ Ok (k, n) → (eqb (count s symbols) d.first && may_follow src k) ≡ true → empty_item src s d first ≡ record { answer = Going; state = with_at s k; draft = with_to d s.at }
   unfolding empty_item
   empty_is k n first g h = rw (of, g, empty_gap, h)
 
   -- where `%empty` goes on, it may stand there
-  empty_test : (k n first : ℕ) → gap_at kind true src s.at ≡ GapTo k n → (empty_item src s d first).answer ≡ Going → (eqb (count s symbols) d.first && may_follow src k) ≡ true
+  empty_test : (k n first : ℕ) → gap_at kind true src s.at ≡ Ok (k, n) → (empty_item src s d first).answer ≡ Going → (eqb (count s symbols) d.first && may_follow src k) ≡ true
   unfolding empty_item
-  empty_test k n first g r = go (eqb (count s symbols) d.first && may_follow src k) refl (told (λ (x : Gap). (empty_gap x src s d first).answer ≡ Going) (told (λ (v : ℕ). gap_at v true src s.at ≡ GapTo k n) (sym of) g) r)
+  empty_test k n first g r = go (eqb (count s symbols) d.first && may_follow src k) refl (told (λ (x : Result (ℕ × ℕ) Refusal). (empty_gap x src s d first).answer ≡ Going) (told (λ (v : ℕ). gap_at v true src s.at ≡ Ok (k, n)) (sym of) g) r)
     where
-      go : (b : Bool) → (eqb (count s symbols) d.first && may_follow src k) ≡ b → (empty_gap (GapTo k n) src s d first).answer ≡ Going → (eqb (count s symbols) d.first && may_follow src k) ≡ true
+      go : (b : Bool) → (eqb (count s symbols) d.first && may_follow src k) ≡ b → (empty_gap (Ok (k, n)) src s d first).answer ≡ Going → (eqb (count s symbols) d.first && may_follow src k) ≡ true
       go true e h = e
       go false e h = absurd (refused_going _ (rw (empty_gap, e) at h))
 
-  bar_is : (k n : ℕ) → (end_production s d t8).answer ≡ Going → gap_at kind true src s.at ≡ GapTo k n
+  bar_is : (k n : ℕ) → (end_production s d t8).answer ≡ Going → gap_at kind true src s.at ≡ Ok (k, n)
       → bar_item src s d t8 ≡ record { answer = Going; state = with_at (end_production s d t8).state k; draft = begun d.rule k (count (end_production s d t8).state symbols); a = (end_production s d t8).a }
   unfolding bar_item
   bar_is k n h g = ap (λ (x : Out0). bar_passed x d (end_production s d t8).a) (pass_to src s.at (end_production s d t8).answer (end_production s d t8).state k n (rw (end_kind s d t8, of) g) h)
@@ -216,13 +209,13 @@ module _ (kind : ℕ) (src out : List ℕ) (T W : AllTables) (o z : Made3) (like
   there_of = sym like.near.like.kind ∙ like.of
 
   -- the spacing behind a step on one table
-  passes : (src : List ℕ) (e k n : ℕ) (w : Out1) (d : Production) → w.state.kind ≡ kind → gap_at kind true src e ≡ GapTo k n → w.answer ≡ Going → name_entered src e w d ≡ record { answer = Going; state = with_at w.state k; draft = d; a = w.a }
+  passes : (src : List ℕ) (e k n : ℕ) (w : Out1) (d : Production) → w.state.kind ≡ kind → gap_at kind true src e ≡ Ok (k, n) → w.answer ≡ Going → name_entered src e w d ≡ record { answer = Going; state = with_at w.state k; draft = d; a = w.a }
   passes src e k n w d of g h = ap (λ (x : Out0). made1 x d w.a) (pass_to src e w.answer w.state k n (rw of g) h)
 
   drafted : (p q : ℕ) → LikeDraft src out (with_to o.draft p) (with_to z.draft q)
   drafted p q = let x = like.draft in record { rule = x.rule; first = x.first; prec = x.prec; action = x.action }
 
-  pub item_like : (e f k l m n : ℕ) (x : Item) → Item2 kind src out o.state.at z.state.at e f x → gap_at kind true src e ≡ GapTo k m → gap_at kind true out f ≡ GapTo l n → Follows src k x → Follows out l x
+  pub item_like : (e f k l m n : ℕ) (x : Item) → Item2 kind src out o.state.at z.state.at e f x → gap_at kind true src e ≡ Ok (k, m) → gap_at kind true out f ≡ Ok (l, n) → Follows src k x → Follows out l x
       → here.answer ≡ Going → Step3 kind src out T W here there k l
   item_like e f k l m n x (quoted2 s1 s2 w v same) g g' h h' r =
       let p = step_is kind src o.state like.of o.draft o.t1 o.t8 o.t9 _ s1 ∙ ap (on_1_9 o.t8) (quoted_is kind src o.state like.of o.draft o.t1 o.t8 o.t9 e k m _ w g) in

@@ -1,4 +1,5 @@
 -- Rules and programs that two sources have alike are read alike. Assumes nothing.
+use Rattle.std.specs.Prelude.{Option, Some, None, Result, Ok}
 use Prim.Native.Nat.{ℕ, zero, suc, ◌+◌, ◌-◌, ◌<◌}
 use mathlib.Core.Path.{◌≡◌, refl, sym, ◌∙◌, ap}
 use mathlib.Core.List.{List, [], ◌∷◌}
@@ -11,18 +12,12 @@ use Rattle.scan.specs.declared.Place.{Place}
 use Rattle.scan.specs.Scan.{starts_at}
 use Rattle.scan.specs.Loop.{more, turns}
 use Rattle.scan.proofs.Bytes.{told, starts_fits}
-use Rattle.words.specs.declared.Name.{Name}
-use Rattle.words.specs.declared.Name.TheVariants.{NameTo}
 use Rattle.words.specs.Words.{name_at}
-use Rattle.texts.specs.declared.ColonText.{ColonText}
 use Rattle.tables.specs.Layout.{rules, symbols}
 use Rattle.grammar.specs.declared.State.{State}
-use Rattle.grammar.specs.declared.Part.{Part}
-use Rattle.grammar.specs.declared.Part.TheVariants.{Absent, At}
 use Rattle.grammar.specs.declared.Cause.TheVariants.{MissingColon, MissingRightArrow, UnknownDeclaration}
 use Rattle.grammar.specs.declared.Answer.{Answer}
 use Rattle.grammar.specs.declared.Answer.TheVariants.{Going, Done, Refused}
-use Rattle.grammar.specs.declared.Gap.TheVariants.{GapTo}
 use Rattle.grammar.specs.Sound.{AllTables, set_tab}
 use Rattle.grammar.specs.State.{Out0, Out1, count, with_at, with_singles, gap_at, onward}
 use Rattle.grammar.proofs.Touch.{refused_going, done_going, pass_going, pass_to}
@@ -46,17 +41,17 @@ module _ (src : List ℕ) (s : State) where
   unfolding rule_type
   type_none k = rw (k, rule_type)
 
-  type_is : (from to : ℕ) (p : Place) → eqb s.kind 2 ≡ true → TypeAt s.kind src s.at from to p → rule_type src s ≡ record { answer = Going; state = with_at s to; given = At p.from p.to }
+  type_is : (from to : ℕ) (p : Place) → eqb s.kind 2 ≡ true → TypeAt s.kind src s.at from to p → rule_type src s ≡ record { answer = Going; state = with_at s to; given = Some (p.from, p.to) }
   unfolding rule_type arrow_type colon_type
   type_is from to p k t =
-      rw (k, rule_type) (ap (arrow_out src) (mark_is src s (45 ∷ 62 ∷ []) MissingRightArrow from t.arrow) ∙ ap (λ (c : ColonText). colon_given c (with_at s from)) t.text)
+      rw (k, rule_type) (ap (arrow_out src) (mark_is src s (45 ∷ 62 ∷ []) MissingRightArrow from t.arrow) ∙ ap (λ (c : Result (ℕ × ℕ × Place) ℕ). colon_given c (with_at s from)) t.text)
 
   -- a head,
-  head_is : (to head : ℕ) (part : Part) (t7 : List ℕ) → name_at src s.at ≡ NameTo to
+  head_is : (to head : ℕ) (part : Option (ℕ × ℕ)) (t7 : List ℕ) → name_at src s.at ≡ Ok to
       → rule_type src (with_at (first_start s s.at to) to) ≡ record { answer = Going; state = with_at (first_start s s.at to) head; given = part }
       → rule_head src s t7 ≡ enter_rule src (with_at (first_start s s.at to) head) s.at to part t7
   unfolding rule_head named_head
-  head_is to head part t7 n e = ap (λ (x : Name). head_found x src s t7) n ∙ ap (λ (o : Typing). head_out src o s.at to t7) e
+  head_is to head part t7 n e = ap (λ (x : Result ℕ ℕ). head_found x src s t7) n ∙ ap (λ (o : Typing). head_out src o s.at to t7) e
 
   -- a body,
   body_is : (row from : ℕ) (t1 t8 t9 : List ℕ) → MarkAt s.kind src (58 ∷ []) s.at from → rule_body src s row t1 t8 t9 ≡ item_list src (with_at s from) (begun row from (count s symbols)) t1 t8 t9
@@ -79,7 +74,7 @@ module _ (src : List ℕ) (s : State) where
       go h (Refused f) e r = absurd (refused_going f r)
 
   -- and the spacing behind a rule.
-  next_is : (k m : ℕ) (t1 t7 t8 t9 : List ℕ) → let o = rule_step src s t1 t7 t8 t9 in o.answer ≡ Going → gap_at o.state.kind true src o.state.at ≡ GapTo k m
+  next_is : (k m : ℕ) (t1 t7 t8 t9 : List ℕ) → let o = rule_step src s t1 t7 t8 t9 in o.answer ≡ Going → gap_at o.state.kind true src o.state.at ≡ Ok (k, m)
       → next_rule src s t1 t7 t8 t9 ≡ record { answer = Going; state = with_at o.state k; t1 = o.t1; t7 = o.t7; t8 = o.t8; t9 = o.t9 }
   unfolding next_rule
   next_is k m t1 t7 t8 t9 h g =
@@ -103,18 +98,18 @@ module _ (src out : List ℕ) (s u : State) (T W : AllTables) (n : Near src out 
       l : LikeSingles src out s.singles u.singles
       l = n.like.singles
 
-      go : (p q : Part) → LikePart src out p q → Near src out (start_or p s a b) (start_or q u c d) T W
-      go Absent Absent y =
-          near_singles src out s u T W n (with_start s.singles (At a b)) (with_start u.singles (At c d))
+      go : (p q : Option (ℕ × ℕ)) → LikePart src out p q → Near src out (start_or p s a b) (start_or q u c d) T W
+      go None None y =
+          near_singles src out s u T W n (with_start s.singles (Some (a, b))) (with_start u.singles (Some (c, d)))
           (record { start = x; expect = l.expect; expect_rr = l.expect_rr; param = l.param; generics = l.generics; programs = l.programs })
-      go Absent (At g h) y = absurd y
-      go (At e f) Absent y = absurd y
-      go (At e f) (At g h) y = n
+      go None (Some (g, h)) y = absurd y
+      go (Some (e, f)) None y = absurd y
+      go (Some (e, f)) (Some (g, h)) y = n
 
   -- the type of a head, in both
   record TypesLike (e f : ℕ) : Type 0 where
-    part : Part
-    part' : Part
+    part : Option (ℕ × ℕ)
+    part' : Option (ℕ × ℕ)
     is : rule_type src s ≡ record { answer = Going; state = with_at s e; given = part }
     is' : rule_type out u ≡ record { answer = Going; state = with_at u f; given = part' }
     parts : LikePart src out part part'
@@ -125,8 +120,8 @@ module _ (src out : List ℕ) (s u : State) (T W : AllTables) (n : Near src out 
       (record { part = s.actiontype; part' = u.actiontype; is = type_none src s k; is' = type_none out u (rw n.like.kind at k); parts = n.like.actiontype })
   types_like i j e f (typed2 {a = a} {b = b} {p = v} {q = w} k t t' x) p q =
       record {
-        part = At v.from v.to;
-        part' = At w.from w.to;
+        part = Some (v.from, v.to);
+        part' = Some (w.from, w.to);
         is = type_is src s a e v k (rw p at t);
         is' = type_is out u b f w (rw n.like.kind at k) (rw (n.like.kind, q) at t');
         parts = x;
@@ -201,7 +196,7 @@ module _ (kind : ℕ) (src out : List ℕ) (T W : AllTables) where
 
   -- A rule and the spacing behind it, in both.
   next_like : (s u : State) → s.kind ≡ kind → Near src out s u T W → (e f k l m n : ℕ) (r : Rule) → Rule2 kind src out s.at u.at e f r
-      → gap_at kind true src e ≡ GapTo k m → gap_at kind true out f ≡ GapTo l n
+      → gap_at kind true src e ≡ Ok (k, m) → gap_at kind true out f ≡ Ok (l, n)
       → (next_rule src s T.t1 T.t7 T.t8 T.t9).answer ≡ Going
       → Step4 kind src out T W (next_rule src s T.t1 T.t7 T.t8 T.t9) (next_rule out u W.t1 W.t7 W.t8 W.t9) k l
   next_like s u of near e f k l m n r w g g' going =
@@ -277,8 +272,8 @@ module _ (src : List ℕ) (s : State) where
   unfolding programs_from
   programs_none e = rw (e, programs_from)
 
-  programs_given : (k m : ℕ) → starts_at percents src s.at ≡ true → gap_at s.kind true src (s.at + 2) ≡ GapTo k m
-      → programs_from src s ≡ record { answer = Going; state = with_singles (with_at s (length src)) (with_programs s.singles (At k (length src))) }
+  programs_given : (k m : ℕ) → starts_at percents src s.at ≡ true → gap_at s.kind true src (s.at + 2) ≡ Ok (k, m)
+      → programs_from src s ≡ record { answer = Going; state = with_singles (with_at s (length src)) (with_programs s.singles (Some (k, length src))) }
   unfolding programs_from
   programs_given k m e g = rw (e, programs_from, g)
 
@@ -308,7 +303,7 @@ module _ (kind : ℕ) (src out : List ℕ) (T W : AllTables) where
         going = refl;
         at = refl;
         to = refl;
-        near = near_singles src out (with_at s (length src)) (with_at u (length out)) T W (near_at src out s u T W near (length src) (length out)) (with_programs s.singles (At k (length src))) (with_programs u.singles (At l (length out)))
+        near = near_singles src out (with_at s (length src)) (with_at u (length out)) T W (near_at src out s u T W near (length src) (length out)) (with_programs s.singles (Some (k, length src))) (with_programs u.singles (Some (l, length out)))
             (record { start = y.start; expect = y.expect; expect_rr = y.expect_rr; param = y.param; generics = y.generics; programs = x });
       })
 

@@ -1,4 +1,5 @@
 -- The items of a rule as they are shipped are read as the same items. Assumes nothing.
+use Rattle.std.specs.Prelude.{Ok}
 use Prim.Native.Nat.{ℕ, suc, ◌+◌, ◌≤◌, ◌<◌}
 use mathlib.Core.Path.{◌≡◌, refl, sym, ◌∙◌, ap}
 use mathlib.Core.List.{List, [], ◌∷◌, ◌++◌, append_assoc}
@@ -10,13 +11,10 @@ use Rattle.scan.specs.declared.Place.{Place}
 use Rattle.scan.specs.Scan.{in_class, is_eol, is_letter, is_digit}
 use Rattle.scan.proofs.Bytes.{told, drop_below, drop_byte, drop_next, drop_at}
 use Rattle.spacing.specs.Spacing.{is_blank}
-use Rattle.words.specs.declared.Token.TheVariants.{Found}
 use Rattle.words.specs.Words.{token_at, Tokened}
 use Rattle.words.proofs.Words.{token_placed}
-use Rattle.texts.specs.declared.Action.TheVariants.{Body}
 use Rattle.texts.specs.Action.{action_at}
 use Rattle.whole.specs.Encode.{Text}
-use Rattle.grammar.specs.declared.Gap.TheVariants.{GapTo}
 use Rattle.grammar.specs.State.{gap_at}
 use Rattle.items.specs.declared.Sort.{Sort}
 use Rattle.items.specs.declared.Sort.TheVariants.{BarSort, EndSort, QuotedSort, PrecSort, ActionSort, EmptySort, BareSort}
@@ -54,7 +52,7 @@ data Next (src : List ℕ) (k : ℕ) (t : List ℕ) : Type 0 where
 token_next : (src : List ℕ) (k e : ℕ) (x r : List ℕ) → TokenAt src k e x → Next src k (x ++ r)
 token_next src k e x r w =
     let (c, ys, s, v) = spelled_front src k e x w in
-    let y : Tokened src k (Found w.place e w.quoted) = told (Tokened src k) w.is (token_placed src k (token_at src k) refl).1 in
+    let y : Tokened src k (Ok (w.place, e, w.quoted)) = told (Tokened src k) w.is (token_placed src k (token_at src k) refl).1 in
     let a = y.0 in
     let b = y.1 in
     let d = y.2 in
@@ -76,7 +74,7 @@ unfolding is_blank is_eol
 brace_solid r = solid_byte 123 r refl refl refl
 
 -- the first byte of an action
-action_front : (src : List ℕ) (i e m : ℕ) (x l : List ℕ) (p p' : Place) → drop i src ≡ 123 ∷ l → action_at src i ≡ Body e m p p' → slice i e src ≡ x → x ≡ 123 ∷ slice (suc i) e src
+action_front : (src : List ℕ) (i e m : ℕ) (x l : List ℕ) (p p' : Place) → drop i src ≡ 123 ∷ l → action_at src i ≡ Ok (e, m, p, p') → slice i e src ≡ x → x ≡ 123 ∷ slice (suc i) e src
 action_front src i e m x l p p' q h is =
     let w = stood src i e m p p' h in
     let a = w.ends in
@@ -132,7 +130,7 @@ items_break (action x ∷ xs) rest = (refl, refl)
 items_break (bar ∷ xs) rest = (refl, refl)
 
 -- the separator in front of the next item
-sep_gap : (kind : ℕ) (xs : List Item) (out : List ℕ) (f : ℕ) (t : List ℕ) → Solid t → drop f out ≡ sep_of xs ∷ t → (n : ℕ) × (gap_at kind true out f ≡ GapTo (f + 1) n)
+sep_gap : (kind : ℕ) (xs : List Item) (out : List ℕ) (f : ℕ) (t : List ℕ) → Solid t → drop f out ≡ sep_of xs ∷ t → (n : ℕ) × (gap_at kind true out f ≡ Ok (f + 1, n))
 sep_gap kind [] out f t s q = (0, gap_space out f t s kind true q)
 sep_gap kind (quoted x ∷ xs) out f t s q = (0, gap_space out f t s kind true q)
 sep_gap kind (bare x ∷ xs) out f t s q = (0, gap_space out f t s kind true q)
@@ -232,7 +230,7 @@ module _ (kind : ℕ) (src out : List ℕ) (text : Text src) where
   -- behind a colon, and before a good rest, the items of a rule stand again
   pub record TextBack (i f c : ℕ) (xs : List Item) (rest : List ℕ) : Type 0 where
     pub lines : ℕ
-    pub gap : gap_at kind true out f ≡ GapTo (f + 1) lines
+    pub gap : gap_at kind true out f ≡ Ok (f + 1, lines)
     pub back : ItemsBack kind src out text i (f + 1) c xs rest
 
   pub text_back : (rest : List ℕ) {i c : ℕ} {xs : List Item} → Items1 kind src i c xs → (f : ℕ) → drop f out ≡ items_text xs ++ rest → TextBack i f c xs rest

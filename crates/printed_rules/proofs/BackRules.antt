@@ -1,4 +1,5 @@
 -- Rules and programs as they are shipped are read as the same rules and programs. Assumes nothing.
+use Rattle.std.specs.Prelude.{Result, Ok, Err}
 use Prim.Native.Nat.{ℕ, suc, ◌+◌, ◌-◌, ◌≤◌, ◌<◌}
 use mathlib.Core.Path.{◌≡◌, refl, sym, ◌∙◌, ap}
 use mathlib.Core.List.{List, [], ◌∷◌, ◌++◌, append_assoc}
@@ -9,6 +10,7 @@ use lib.Dec.{eqb, leb}
 use lib.ListN.{length, get_or, drop, take, length-drop, length-append}
 use lib.Seq.{slice, length-slice, slice-cons, take-suc, get_or-drop}
 use borrow.Author.Tests.{lt-leb, le-leb, ne_eqb}
+use Rattle.scan.proofs.Tuples.{ok_3}
 use Rattle.scan.specs.declared.Place.{Place}
 use Rattle.scan.specs.Scan.{in_class, is_eol, is_letter, is_digit, starts_at, begins}
 use Rattle.scan.proofs.Bytes.{told, starts_fits, drop_at, drop_below, drop_next, drop_ended}
@@ -16,16 +18,11 @@ use Rattle.spacing.specs.Spacing.{is_blank}
 use Rattle.whole.specs.Encode.{Text}
 use Rattle.whole.proofs.Boundaries.{between, begins_boundary}
 use Rattle.trim.specs.Trim.{trimmed}
-use Rattle.words.specs.declared.Name.TheVariants.{NameTo}
 use Rattle.words.specs.Words.{name_at, Named}
 use Rattle.words.proofs.Words.{name_placed}
-use Rattle.texts.specs.declared.Colon.{Colon}
-use Rattle.texts.specs.declared.Colon.TheVariants.{Single, NoSingle}
-use Rattle.texts.specs.declared.ColonText.TheVariants.{Upto}
 use Rattle.texts.specs.Colon.{plain, single, single_from, colon_text, colon_text_at, ColonTexts}
 use Rattle.texts.proofs.Laws.{colon_placed}
 use Rattle.texts.proofs.Meaning.{edge_boundary, starts_boundary}
-use Rattle.grammar.specs.declared.Gap.TheVariants.{GapTo}
 use Rattle.grammar.specs.State.{gap_at, Gapped}
 use Rattle.grammar.proofs.Kept.{gapped}
 use Rattle.rules.specs.Rules.{percents}
@@ -57,13 +54,13 @@ starts_in w s i l q = ap (begins w) q
 module _ (src out : List ℕ) where
   -- A name is read again as the name it was,
   record NameAgain (i e j : ℕ) (x : List ℕ) : Type 0 where
-    is : name_at out j ≡ NameTo (j + length x)
+    is : name_at out j ≡ Ok (j + length x)
     spelled : slice j (j + length x) out ≡ x
     same : Same src out i e j (j + length x)
 
-  name_again : (i e j : ℕ) (x r : List ℕ) → name_at src i ≡ NameTo e → slice i e src ≡ x → drop j out ≡ x ++ r → Breaks r → NameAgain i e j x
+  name_again : (i e j : ℕ) (x r : List ℕ) → name_at src i ≡ Ok e → slice i e src ≡ x → drop j out ≡ x ++ r → Breaks r → NameAgain i e j x
   name_again i e j x r h is q b =
-      let y : Named src i (NameTo e) = told (Named src i) h (name_placed src i (name_at src i) refl).1 in
+      let y : Named src i (Ok e) = told (Named src i) h (name_placed src i (name_at src i) refl).1 in
       let a = y.0 in
       let c = y.1 in
       let n : length x ≡ e - i = sym (ap length is) ∙ length-slice i e src c in
@@ -81,21 +78,22 @@ module _ (src out : List ℕ) where
   record ColonAgain (j : ℕ) (x : List ℕ) (p : Place) : Type 0 where
     lines : ℕ
     place : Place
-    is : colon_text_at out j ≡ Upto (j + length x) lines place
+    is : colon_text_at out j ≡ Ok (j + length x, lines, place)
     spelled : slice j (j + length x) out ≡ x
     same : Same src out p.from p.to place.from place.to
 
-  colon_again : (i e n j : ℕ) (p : Place) (x r : List ℕ) → i ≤ length src → colon_text_at src i ≡ Upto e n p → slice i e src ≡ x → Text x → drop j out ≡ x ++ (58 ∷ r) → NoColon r → ColonAgain j x p
+  colon_again : (i e n j : ℕ) (p : Place) (x r : List ℕ) → i ≤ length src → colon_text_at src i ≡ Ok (e, n, p) → slice i e src ≡ x → Text x → drop j out ≡ x ++ (58 ∷ r) → NoColon r → ColonAgain j x p
   unfolding colon_text_at colon_text single_from
   colon_again i e n j p x r low-i h is text q b = go (single plain (drop i src) i 0) refl h
     where
-      placed : ColonTexts src i (Upto e n p)
+      placed : ColonTexts src i (Ok (e, n, p))
       placed = told (ColonTexts src i) h (colon_placed src i low-i (colon_text_at src i) refl).1
 
-      go : (c : Colon) → single plain (drop i src) i 0 ≡ c → colon_text src i c ≡ Upto e n p → ColonAgain j x p
-      go (Single to m) f g =
-          let t : to ≡ e = cc in
-          let u : trimmed src i to ≡ p = cc in
+      go : (c : Result (ℕ × ℕ) ℕ) → single plain (drop i src) i 0 ≡ c → colon_text src i c ≡ Ok (e, n, p) → ColonAgain j x p
+      go (Ok (to, m)) f g =
+          let d = ok_3 g in
+          let t : to ≡ e = d.0 in
+          let u : trimmed src i to ≡ p = d.2 in
           let w = colon_move plain (drop i src) i 0 to m f in
           let a = w.ends in
           let c = placed.0 in
@@ -108,7 +106,7 @@ module _ (src out : List ℕ) where
           let long = length-drop i src in
           let all : take (suc (length x)) (drop i src) ≡ x ++ (58 ∷ []) = rw (take-suc (drop i src) (length x) 0 (omega arith), front, byte) in
           let mv = w.moves r b j 0 in
-          let moved : single plain ((x ++ (58 ∷ [])) ++ r) j 0 ≡ Single (j + length x) mv.0 = rw (v, all) at mv.1 in
+          let moved : single plain ((x ++ (58 ∷ [])) ++ r) j 0 ≡ Ok (j + length x, mv.0) = rw (v, all) at mv.1 in
           let d2 : drop j out ≡ (x ++ (58 ∷ [])) ++ r = q ∙ sym (append_assoc x (58 ∷ []) r) in
           let o = length-drop j out in
           let o2 : length (drop j out) ≡ length x + suc (length r) = ap length q ∙ length-append x (58 ∷ r) in
@@ -121,7 +119,7 @@ module _ (src out : List ℕ) where
             spelled = sym (slice_agree src out i j (length x) i e j (j + length x) ag (omega arith) (omega arith) (omega arith) (omega arith) (omega arith)) ∙ is;
             same = told (λ (y : Place). Same src out y.from y.to (trimmed out j (j + length x)).from (trimmed out j (j + length x)).to) (ap (trimmed src i) (z ∙ sym t) ∙ u) tm;
           }
-      go (NoSingle end) f g = let z : ◌≡◌ {A = ℕ} 0 1 = cc in absurd (omega arith)
+      go (Err end) f g = let z : ◌≡◌ {A = ℕ} 0 1 = cc in absurd (omega arith)
 
 -- what is no spacing
 colon_solid : (r : List ℕ) → Solid (58 ∷ r)
@@ -133,7 +131,7 @@ unfolding is_blank is_eol
 minus_solid r = solid_byte 45 r refl refl refl
 
 -- A text to a colon that begins where spacing ended begins with none where it is shipped.
-text_solid : (kind : ℕ) (src : List ℕ) (a i e n : ℕ) (x r : List ℕ) → gap_at kind true src a ≡ GapTo i n → i ≤ e → slice i e src ≡ x → Solid (x ++ (58 ∷ r))
+text_solid : (kind : ℕ) (src : List ℕ) (a i e n : ℕ) (x r : List ℕ) → gap_at kind true src a ≡ Ok (i, n) → i ≤ e → slice i e src ≡ x → Solid (x ++ (58 ∷ r))
 text_solid kind src a i e n x r g h is = go x (told Stops (parts src i e h ∙ ap (λ (y : List ℕ). y ++ drop e src) is) (gap_stops kind true src a i n g))
   where
     go : (x : List ℕ) → Stops (x ++ drop e src) → Solid (x ++ (58 ∷ r))
@@ -170,12 +168,12 @@ type_breaks kind x r = go (eqb kind 2)
     go false = (refl, refl)
 
 -- the type behind a `->` begins at a code point's boundary, and its colon ends it there
-pub type_text_lem : (kind : ℕ) (src : List ℕ) → Text src → (i from to n : ℕ) (p : Place) → MarkAt kind src (45 ∷ 62 ∷ []) i from → colon_text_at src from ≡ Upto to n p → Text (slice from to src)
+pub type_text_lem : (kind : ℕ) (src : List ℕ) → Text src → (i from to n : ℕ) (p : Place) → MarkAt kind src (45 ∷ 62 ∷ []) i from → colon_text_at src from ≡ Ok (to, n, p) → Text (slice from to src)
 type_text_lem kind src text i from to n p m e =
     let l = starts_fits (45 ∷ 62 ∷ []) src m.at m.is (omega arith) in
-    let g : Gapped src (m.at + 2) (GapTo from m.after) = told (Gapped src (m.at + 2)) m.next (gapped kind true src (m.at + 2) l) in
+    let g : Gapped src (m.at + 2) (Ok (from, m.after)) = told (Gapped src (m.at + 2)) m.next (gapped kind true src (m.at + 2) l) in
     let b = edge_boundary src text (m.at + 2) from (starts_boundary src text (45 ∷ 62 ∷ []) m.at m.is (omega arith) (omega arith)) g.1 g.2 in
-    let y : ColonTexts src from (Upto to n p) = told (ColonTexts src from) e (colon_placed src from g.1 (colon_text_at src from) refl).1 in
+    let y : ColonTexts src from (Ok (to, n, p)) = told (ColonTexts src from) e (colon_placed src from g.1 (colon_text_at src from) refl).1 in
     let c = y.0 in
     let d = y.1 in
     let z = y.2 in
@@ -194,7 +192,7 @@ module _ (kind : ℕ) (src out : List ℕ) (text : Text src) where
   type_back (untyped1 k) h j r q b = record { to = j; there = untyped1 k; pair = untyped2 k; left = q ∙ ap (λ (y : List ℕ). y ++ (58 ∷ r)) (untyped_text kind [] k) }
   type_back (typed1 {i} {from} {to} {p} {x} k t is) h j r q b =
       let f = mark_forth kind src (45 ∷ 62 ∷ []) i from (omega arith) h t.arrow in
-      let y : ColonTexts src from (Upto to t.lines p) = told (ColonTexts src from) t.text (colon_placed src from f.1 (colon_text_at src from) refl).1 in
+      let y : ColonTexts src from (Ok (to, t.lines, p)) = told (ColonTexts src from) t.text (colon_placed src from f.1 (colon_text_at src from) refl).1 in
       let y0 = y.0 in
       let q0 : drop j out ≡ 32 ∷ 45 ∷ 62 ∷ 32 ∷ (x ++ (58 ∷ r)) = q ∙ ap (λ (y : List ℕ). y ++ (58 ∷ r)) (typed_text kind x k) in
       let q1 = drop_next out j 32 _ q0 in
@@ -226,7 +224,7 @@ module _ (kind : ℕ) (src out : List ℕ) (text : Text src) where
       let tail = items_text r.items ++ rest in
       let q0 : drop j out ≡ name ++ (type_text kind r.type ++ (58 ∷ tail)) = q ∙ append_assoc name (type_text kind r.type ++ (58 ∷ items_text r.items)) rest ∙ ap (λ (y : List ℕ). name ++ y) (append_assoc (type_text kind r.type) (58 ∷ items_text r.items) rest) in
       let n = name_again src out i w.to j name _ w.named w.spelled q0 (type_breaks kind r.type tail) in
-      let l : Named src i (NameTo w.to) = told (Named src i) w.named (name_placed src i (name_at src i) refl).1 in
+      let l : Named src i (Ok w.to) = told (Named src i) w.named (name_placed src i (name_at src i) refl).1 in
       let t = type_back w.typed l.1 (j + length name) tail (behind out j name _ q0) (items_no_colon r.items rest) in
       let q1 = drop_next out t.to 58 tail t.left in
       let b = text_back kind src out text rest w.items (t.to + 1) q1 in
@@ -260,10 +258,10 @@ module _ (kind : ℕ) (src out : List ℕ) (text : Text src) where
       }
 
 -- where a name stands, rules are not over
-name_goes : (s : List ℕ) (i e : ℕ) → name_at s i ≡ NameTo e → over s i ≡ false
+name_goes : (s : List ℕ) (i e : ℕ) → name_at s i ≡ Ok e → over s i ≡ false
 unfolding begins
 name_goes s i e h =
-    let y : Named s i (NameTo e) = told (Named s i) h (name_placed s i (name_at s i) refl).1 in
+    let y : Named s i (Ok e) = told (Named s i) h (name_placed s i (name_at s i) refl).1 in
     let a = y.0 in
     let b = y.1 in
     let c : starts_at percents s i ≡ false = starts_in percents s i _ (drop_at s i (omega arith)) ∙ no (ne_eqb (get_or s i 0) 37 (name_begins s i e h).percent) in
@@ -326,7 +324,7 @@ module _ (kind : ℕ) (src out : List ℕ) (text : Text src) (p : Programs) wher
       tail : List ℕ
       tail = type_text kind r.type ++ (58 ∷ items_text r.items)
 
-      y : Named src i (NameTo w.to)
+      y : Named src i (Ok w.to)
       y = told (Named src i) w.named (name_placed src i (name_at src i) refl).1
 
       start : ((r.name ++ tail) ++ rules_text kind rs) ++ programs_text p ≡ get_or src i 0 ∷ (((slice (suc i) w.to src ++ tail) ++ rules_text kind rs) ++ programs_text p)

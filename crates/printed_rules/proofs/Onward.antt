@@ -1,4 +1,5 @@
 -- What stands in a source stands in front of its end, and leads onward. Assumes nothing.
+use Rattle.std.specs.Prelude.{Ok}
 use Prim.Native.Nat.{ℕ, ◌+◌, ◌≤◌, ◌<◌}
 use mathlib.Core.Path.{◌≡◌, refl, sym, ◌∙◌}
 use mathlib.Core.List.{List, [], ◌∷◌}
@@ -9,15 +10,11 @@ use lib.ListN.{length, drop_of_length-le}
 use Rattle.scan.specs.declared.Place.{Place}
 use Rattle.scan.specs.Scan.{begins}
 use Rattle.scan.proofs.Bytes.{told, le_or_lt, starts_fits}
-use Rattle.words.specs.declared.Name.TheVariants.{NameTo}
 use Rattle.words.specs.Words.{name_at, Named}
 use Rattle.words.proofs.Words.{name_placed}
-use Rattle.texts.specs.declared.ColonText.TheVariants.{Upto}
 use Rattle.texts.specs.Colon.{colon_text_at, ColonTexts}
 use Rattle.texts.proofs.Laws.{colon_placed}
-use Rattle.texts.specs.declared.Action.TheVariants.{Body}
 use Rattle.texts.specs.Action.{action_at}
-use Rattle.grammar.specs.declared.Gap.TheVariants.{GapTo}
 use Rattle.grammar.specs.State.{gap_at, Gapped}
 use Rattle.grammar.proofs.Kept.{gapped}
 use Rattle.items.specs.declared.Sort.{Sort}
@@ -76,19 +73,19 @@ mark_on s i a x e n =
     let y : Spots s i (record { sort = x; end = a }) = told (Spots s i) e (spots s i (omega arith)) in
     (y.beyond (λ h. told Marked h n), y.inside)
 
-gap_on : (kind : ℕ) (s : List ℕ) (e k m : ℕ) → e ≤ length s → gap_at kind true s e ≡ GapTo k m → e ≤ k
-gap_on kind s e k m h g = let z : Gapped s e (GapTo k m) = told (Gapped s e) g (gapped kind true s e h) in let a = z.0 in omega arith
+gap_on : (kind : ℕ) (s : List ℕ) (e k m : ℕ) → e ≤ length s → gap_at kind true s e ≡ Ok (k, m) → e ≤ k
+gap_on kind s e k m h g = let z : Gapped s e (Ok (k, m)) = told (Gapped s e) g (gapped kind true s e h) in let a = z.0 in omega arith
 
-mark_gap_lem : (kind : ℕ) (s : List ℕ) (i e k m : ℕ) (x : Sort) → sort_at s i ≡ record { sort = x; end = e } → Marked x → gap_at kind true s e ≡ GapTo k m → i < k
+mark_gap_lem : (kind : ℕ) (s : List ℕ) (i e k m : ℕ) (x : Sort) → sort_at s i ≡ record { sort = x; end = e } → Marked x → gap_at kind true s e ≡ Ok (k, m) → i < k
 mark_gap_lem kind s i e k m x h n g = let a = mark_on s i e x h n in let b = a.0 in let c = gap_on kind s e k m a.1 g in omega arith
 
-named_on : (kind : ℕ) (s : List ℕ) (i a c e k m n : ℕ) (x : List ℕ) → sort_at s i ≡ record { sort = PrecSort; end = a } → gap_at kind true s a ≡ GapTo c m → TokenAt s c e x → gap_at kind true s e ≡ GapTo k n → i < k
+named_on : (kind : ℕ) (s : List ℕ) (i a c e k m n : ℕ) (x : List ℕ) → sort_at s i ≡ record { sort = PrecSort; end = a } → gap_at kind true s a ≡ Ok (c, m) → TokenAt s c e x → gap_at kind true s e ≡ Ok (k, n) → i < k
 named_on kind s i a c e k m n x h g w g' =
     let b = mark_gap_lem kind s i a c m PrecSort h tt g in
     let d = (further kind s c e k n w.place w.quoted w.is g').0 in
     omega arith
 
-action_on : (kind : ℕ) (s : List ℕ) (i e k m n : ℕ) (p q : Place) → action_at s i ≡ Body e m p q → gap_at kind true s e ≡ GapTo k n → i < k
+action_on : (kind : ℕ) (s : List ℕ) (i e k m n : ℕ) (p q : Place) → action_at s i ≡ Ok (e, m, p, q) → gap_at kind true s e ≡ Ok (k, n) → i < k
 action_on kind s i e k m n p q h g =
     let w = stood s i e m p q h in
     let a = w.ends in
@@ -97,7 +94,7 @@ action_on kind s i e k m n p q h g =
     omega arith
 
 -- an item and the spacing behind it go onward
-pub item_forth : (kind : ℕ) (src : List ℕ) (i e k m : ℕ) (x : Item) → Item1 kind src i e x → gap_at kind true src e ≡ GapTo k m → i < k
+pub item_forth : (kind : ℕ) (src : List ℕ) (i e k m : ℕ) (x : Item) → Item1 kind src i e x → gap_at kind true src e ≡ Ok (k, m) → i < k
 item_forth kind src i e k m x (quoted1 s w) g = (further kind src i e k m w.place w.quoted w.is g).0
 item_forth kind src i e k m x (bare1 s w) g = (further kind src i e k m w.place w.quoted w.is g).0
 item_forth kind src i e k m x (named1 s g' w) g = named_on kind src i _ _ e k _ m _ s g' w g
@@ -107,8 +104,8 @@ item_forth kind src i e k m x (bar1 s) g = mark_gap_lem kind src i e k m BarSort
 
 -- Items, marks, types and rules lead onward, in the source.
 module _ (kind : ℕ) (src : List ℕ) where
-  pub gap_forth : (i j n : ℕ) → i ≤ length src → gap_at kind true src i ≡ GapTo j n → (i ≤ j) × (j ≤ length src)
-  gap_forth i j n h g = let z : Gapped src i (GapTo j n) = told (Gapped src i) g (gapped kind true src i h) in let a = z.0 in (omega arith, z.1)
+  pub gap_forth : (i j n : ℕ) → i ≤ length src → gap_at kind true src i ≡ Ok (j, n) → (i ≤ j) × (j ≤ length src)
+  gap_forth i j n h g = let z : Gapped src i (Ok (j, n)) = told (Gapped src i) g (gapped kind true src i h) in let a = z.0 in (omega arith, z.1)
 
   pub items_forth : {i c : ℕ} {xs : List Item} → Items1 kind src i c xs → (i < c) × (c ≤ length src)
   items_forth (end1 {i} {e} s) = mark_on src i e EndSort s tt
@@ -132,14 +129,14 @@ module _ (kind : ℕ) (src : List ℕ) where
   type_forth h (typed1 {i} {from} {to} {p} k t is) =
       let a = mark_forth (45 ∷ 62 ∷ []) i from (omega arith) h t.arrow in
       let a0 = a.0 in
-      let y : ColonTexts src from (Upto to t.lines p) = told (ColonTexts src from) t.text (colon_placed src from a.1 (colon_text_at src from) refl).1 in
+      let y : ColonTexts src from (Ok (to, t.lines, p)) = told (ColonTexts src from) t.text (colon_placed src from a.1 (colon_text_at src from) refl).1 in
       let b = y.0 in
       let c = y.1 in
       (omega arith, omega arith)
 
-  pub rule_forth : (i e k m : ℕ) (r : Rule) → Rule1 kind src i e r → gap_at kind true src e ≡ GapTo k m → (i < k) × (k ≤ length src)
+  pub rule_forth : (i e k m : ℕ) (r : Rule) → Rule1 kind src i e r → gap_at kind true src e ≡ Ok (k, m) → (i < k) × (k ≤ length src)
   rule_forth i e k m r w g =
-      let n : Named src i (NameTo w.to) = told (Named src i) w.named (name_placed src i (name_at src i) refl).1 in
+      let n : Named src i (Ok w.to) = told (Named src i) w.named (name_placed src i (name_at src i) refl).1 in
       let a = n.0 in
       let t = type_forth n.1 w.typed in
       let b = t.0 in

@@ -1,4 +1,5 @@
 -- What a reading took for the items of a rule are items that stand in its source. Assumes nothing.
+use Rattle.std.specs.Prelude.{Result, Ok, Err}
 use Prim.Native.Nat.{ℕ, zero, suc, ◌-◌, ◌<◌}
 use mathlib.Core.Path.{◌≡◌, refl, sym, ◌∙◌, ap}
 use mathlib.Core.List.{List, [], ◌∷◌}
@@ -11,11 +12,7 @@ use borrow.Author.Tests.{leb-false}
 use Rattle.scan.specs.declared.Place.{Place}
 use Rattle.scan.specs.Loop.{more, turns}
 use Rattle.scan.proofs.Bytes.{told, on_test}
-use Rattle.words.specs.declared.Token.{Token}
-use Rattle.words.specs.declared.Token.TheVariants.{Found, NoToken}
 use Rattle.words.specs.Words.{token_at}
-use Rattle.texts.specs.declared.Action.{Action}
-use Rattle.texts.specs.declared.Action.TheVariants.{Body, OpenAction}
 use Rattle.texts.specs.Action.{action_at}
 use Rattle.tables.specs.Layout.{tokens, symbols, productions}
 use Rattle.tables.specs.Table.{Added, Inserted, flag}
@@ -24,8 +21,6 @@ use Rattle.grammar.specs.declared.State.{State}
 use Rattle.grammar.specs.declared.Answer.{Answer}
 use Rattle.grammar.specs.declared.Answer.TheVariants.{Going, Done, Refused}
 use Rattle.grammar.specs.declared.Refusal.{Refusal}
-use Rattle.grammar.specs.declared.Gap.{Gap}
-use Rattle.grammar.specs.declared.Gap.TheVariants.{GapTo, GapRefused}
 use Rattle.grammar.specs.Cells.{token_cells, symbol_cells}
 use Rattle.grammar.specs.State.{Out1, count, with_at, gap_at, push_row, pushed, enter_step, entered, past, past_gap, pass_on}
 use Rattle.grammar.proofs.SameKind.{push_kind, enter_kind}
@@ -43,7 +38,7 @@ use Rattle.printed_rules.proofs.Alike.{end_kind, turn_is}
 
 -- A step of a rule's items that went on took one that stands there, and passed the spacing behind it; one that says that the rule is done took its `;`.
 pub data Step1 (kind : ℕ) (src : List ℕ) (i : ℕ) : Answer → State → Type 0 where
-  went : {u : State} {e m : ℕ} {x : Item} → u.kind ≡ kind → Item1 kind src i e x → gap_at kind true src e ≡ GapTo u.at m → Follows src u.at x → Step1 kind src i Going u
+  went : {u : State} {e m : ℕ} {x : Item} → u.kind ≡ kind → Item1 kind src i e x → gap_at kind true src e ≡ Ok (u.at, m) → Follows src u.at x → Step1 kind src i Going u
   over : {u : State} → u.kind ≡ kind → sort_at src i ≡ record { sort = EndSort; end = u.at } → Step1 kind src i Done u
   halted : {f : Refusal} {u : State} → Step1 kind src i (Refused f) u
 
@@ -73,9 +68,9 @@ module _ (src : List ℕ) (s : State) (d : Production) (t1 t8 t9 : List ℕ) whe
   unfolding past_gap
   passed i e x w f j _ u of (goes h) = go (gap_at u.kind true src e) (ap (λ (v : ℕ). gap_at v true src e) (sym of))
     where
-      go : (g : Gap) → gap_at s.kind true src e ≡ g → Step1 s.kind src i (past false g u).answer (past false g u).state
-      go (GapTo k n) q = went of w q (f k)
-      go (GapRefused r) q = halted
+      go : (g : Result (ℕ × ℕ) Refusal) → gap_at s.kind true src e ≡ g → Step1 s.kind src i (past false g u).answer (past false g u).state
+      go (Ok (k, n)) q = went of w q (f k)
+      go (Err r) q = halted
   passed i e x w f j _ u of halts = halted
 
   symbol_opens : (v : State) (a b : ℕ) → v.kind ≡ s.kind → let o = token_symbol src v a b t1 t9 in Opens v.at o.answer o.state × (o.state.kind ≡ s.kind)
@@ -89,7 +84,7 @@ module _ (src : List ℕ) (s : State) (d : Production) (t1 t8 t9 : List ℕ) whe
       go _ (goes h) = (rw h at (push_opens p.state symbols (symbol_cells 2 a b) t9), push_kind p.state symbols (symbol_cells 2 a b) t9 ∙ enter_kind v src a b false t1 ∙ of)
       go _ halts = (halts, enter_kind v src a b false t1 ∙ of)
 
-  word : (i e : ℕ) (p : Place) (q : Bool) → token_at src i ≡ Found p e q → TokenAt src i e (slice i e src)
+  word : (i e : ℕ) (p : Place) (q : Bool) → token_at src i ≡ Ok (p, e, q) → TokenAt src i e (slice i e src)
   word i e p q h = record { place = p; quoted = q; is = h; spelled = refl }
 
   -- a quoted symbol,
@@ -97,72 +92,72 @@ module _ (src : List ℕ) (s : State) (d : Production) (t1 t8 t9 : List ℕ) whe
   unfolding quoted_item quoted_rows
   quoted_read a h = go (token_at src s.at) refl
     where
-      gap : (p : Place) (e : ℕ) (q : Bool) → token_at src s.at ≡ Found p e q → (g : Gap) → gap_at s.kind true src e ≡ g
+      gap : (p : Place) (e : ℕ) (q : Bool) → token_at src s.at ≡ Ok (p, e, q) → (g : Result (ℕ × ℕ) Refusal) → gap_at s.kind true src e ≡ g
           → let o = quoted_gap g src s d p.from p.to e t1 t9 in Step1 s.kind src s.at o.answer o.state
-      gap p e q t (GapTo k n) z = let x = symbol_opens (with_at s k) p.from p.to refl in on _ _ x.0 x.1
+      gap p e q t (Ok (k, n)) z = let x = symbol_opens (with_at s k) p.from p.to refl in on _ _ x.0 x.1
         where
           on : (b : Answer) (u : State) → Opens k b u → u.kind ≡ s.kind → Step1 s.kind src s.at b u
           on _ u (goes w) of = went {u = u} {m = n} of (quoted1 h (word s.at e p q t)) (rw w z) tt
           on _ u halts of = halted
-      gap p e q t (GapRefused f) z = halted
+      gap p e q t (Err f) z = halted
 
-      go : (t : Token) → token_at src s.at ≡ t → let o = quoted_found t src s d t1 t9 in Step1 s.kind src s.at o.answer o.state
-      go (Found p e q) t = gap p e q t (gap_at s.kind true src e) refl
-      go (NoToken k) t = halted
+      go : (t : Result (Place × ℕ × Bool) ℕ) → token_at src s.at ≡ t → let o = quoted_found t src s d t1 t9 in Step1 s.kind src s.at o.answer o.state
+      go (Ok (p, e, q)) t = gap p e q t (gap_at s.kind true src e) refl
+      go (Err k) t = halted
 
   -- a bare one,
   bare_read : (a : ℕ) → sort_at src s.at ≡ record { sort = BareSort; end = a } → let o = bare_item src s d t1 t9 in Step1 s.kind src s.at o.answer o.state
   unfolding bare_item
   bare_read a h = go (token_at src s.at) refl
     where
-      go : (t : Token) → token_at src s.at ≡ t → let o = bare_found t src s d t1 t9 in Step1 s.kind src s.at o.answer o.state
-      go (Found p e q) t =
+      go : (t : Result (Place × ℕ × Bool) ℕ) → token_at src s.at ≡ t → let o = bare_found t src s d t1 t9 in Step1 s.kind src s.at o.answer o.state
+      go (Ok (p, e, q)) t =
           let row = symbol_cells (symbol_kind src (count s tokens) t1 p.from p.to) p.from p.to in
           passed s.at e _ (bare1 h (word s.at e p q t)) (λ k. tt) s.at (push_row s symbols row t9).answer (push_row s symbols row t9).state (push_kind s symbols row t9) (push_opens s symbols row t9)
-      go (NoToken k) t = halted
+      go (Err k) t = halted
 
   -- a `%prec`,
   prec_read : (a : ℕ) → sort_at src s.at ≡ record { sort = PrecSort; end = a } → let o = prec_item src (with_at s a) d t1 in Step1 s.kind src s.at o.answer o.state
   unfolding prec_item prec_name
   prec_read a h = gap (gap_at s.kind true src a) refl
     where
-      named_read : (c m : ℕ) → gap_at s.kind true src a ≡ GapTo c m → (t : Token) → token_at src c ≡ t → let o = prec_found t src (with_at s c) d t1 in Step1 s.kind src s.at o.answer o.state
-      named_read c m g (Found p e q) t =
+      named_read : (c m : ℕ) → gap_at s.kind true src a ≡ Ok (c, m) → (t : Result (Place × ℕ × Bool) ℕ) → token_at src c ≡ t → let o = prec_found t src (with_at s c) d t1 in Step1 s.kind src s.at o.answer o.state
+      named_read c m g (Ok (p, e, q)) t =
           let o = enter_step src (with_at s c) p.from p.to false t1 in
           passed s.at e _ (named1 h g (word c e p q t)) (λ k. tt) c o.answer o.state (enter_kind (with_at s c) src p.from p.to false t1) (enter_opens src (with_at s c) p.from p.to false t1)
-      named_read c m g (NoToken k) t = halted
+      named_read c m g (Err k) t = halted
 
-      gap : (g : Gap) → gap_at s.kind true src a ≡ g → let o = prec_gap g src (with_at s a) d t1 in Step1 s.kind src s.at o.answer o.state
-      gap (GapTo c m) g = named_read c m g (token_at src c) refl
-      gap (GapRefused f) g = halted
+      gap : (g : Result (ℕ × ℕ) Refusal) → gap_at s.kind true src a ≡ g → let o = prec_gap g src (with_at s a) d t1 in Step1 s.kind src s.at o.answer o.state
+      gap (Ok (c, m)) g = named_read c m g (token_at src c) refl
+      gap (Err f) g = halted
 
   -- an action,
   action_read : (a : ℕ) → sort_at src s.at ≡ record { sort = ActionSort; end = a } → let o = action_item src s d in Step1 s.kind src s.at o.answer o.state
   unfolding action_item after_action
   action_read a h = go (action_at src s.at) refl
     where
-      stands : (e n : ℕ) (p q : Place) → action_at src s.at ≡ Body e n p q → Item1 s.kind src s.at e (action (slice s.at e src))
+      stands : (e n : ℕ) (p q : Place) → action_at src s.at ≡ Ok (e, n, p, q) → Item1 s.kind src s.at e (action (slice s.at e src))
       stands e n p q t = action1 h t refl
 
-      gap : (e n : ℕ) (p q : Place) → action_at src s.at ≡ Body e n p q → (m : Production) (g : Gap) → gap_at s.kind true src e ≡ g → let o = action_gap g src s m in Step1 s.kind src s.at o.answer o.state
-      gap e n p q t m (GapTo k l) g =
+      gap : (e n : ℕ) (p q : Place) → action_at src s.at ≡ Ok (e, n, p, q) → (m : Production) (g : Result (ℕ × ℕ) Refusal) → gap_at s.kind true src e ≡ g → let o = action_gap g src s m in Step1 s.kind src s.at o.answer o.state
+      gap e n p q t m (Ok (k, l)) g =
           on_test (λ (o : Made0). Step1 s.kind src s.at o.answer o.state) (may_end src k) _ _ (λ b. went refl (stands e n p q t) g b) (λ b. halted)
-      gap e n p q t m (GapRefused f) g = halted
+      gap e n p q t m (Err f) g = halted
 
-      go : (r : Action) → action_at src s.at ≡ r → let o = action_found r src s d in Step1 s.kind src s.at o.answer o.state
-      go (Body e n p q) t = gap e n p q t _ (gap_at s.kind true src e) refl
-      go (OpenAction i) t = halted
+      go : (r : Result (ℕ × ℕ × Place × Place) ℕ) → action_at src s.at ≡ r → let o = action_found r src s d in Step1 s.kind src s.at o.answer o.state
+      go (Ok (e, n, p, q)) t = gap e n p q t _ (gap_at s.kind true src e) refl
+      go (Err i) t = halted
 
   -- an `%empty`,
   empty_read : (a : ℕ) → sort_at src s.at ≡ record { sort = EmptySort; end = a } → let o = empty_item src (with_at s a) d s.at in Step1 s.kind src s.at o.answer o.state
   unfolding empty_item
   empty_read a h = gap (gap_at s.kind true src a) refl
     where
-      gap : (g : Gap) → gap_at s.kind true src a ≡ g → let o = empty_gap g src (with_at s a) d s.at in Step1 s.kind src s.at o.answer o.state
-      gap (GapTo k n) g =
+      gap : (g : Result (ℕ × ℕ) Refusal) → gap_at s.kind true src a ≡ g → let o = empty_gap g src (with_at s a) d s.at in Step1 s.kind src s.at o.answer o.state
+      gap (Ok (k, n)) g =
           on_test (λ (o : Made0). Step1 s.kind src s.at o.answer o.state) (eqb (count s symbols) d.first && may_follow src k) _ _
           (λ b. went refl (empty1 h) g ((and-eq-true_iff (eqb (count s symbols) d.first) (may_follow src k)).0 b).1) (λ b. halted)
-      gap (GapRefused f) g = halted
+      gap (Err f) g = halted
 
   -- a `|`,
   bar_read : (a : ℕ) → sort_at src s.at ≡ record { sort = BarSort; end = a } → let o = bar_item src (with_at s a) d t8 in Step1 s.kind src s.at o.answer o.state

@@ -1,4 +1,5 @@
 -- What a reading took for rules and programs are rules and programs that stand in its source. Assumes nothing.
+use Rattle.std.specs.Prelude.{Option, Some, None, Result, Ok, Err}
 use Prim.Native.Nat.{ℕ, zero, suc, ◌+◌, ◌-◌, ◌<◌}
 use mathlib.Core.Path.{◌≡◌, refl, sym, ◌∙◌, ap}
 use mathlib.Core.List.{List, [], ◌∷◌}
@@ -10,25 +11,17 @@ use lib.Seq.{slice}
 use Rattle.scan.specs.Scan.{starts_at}
 use Rattle.scan.specs.Loop.{more, stop, turns}
 use Rattle.scan.proofs.Bytes.{told, on_test}
-use Rattle.words.specs.declared.Name.{Name}
-use Rattle.words.specs.declared.Name.TheVariants.{NameTo, NoName}
 use Rattle.words.specs.Words.{name_at}
-use Rattle.texts.specs.declared.ColonText.{ColonText}
-use Rattle.texts.specs.declared.ColonText.TheVariants.{Upto, NoColon}
+use Rattle.scan.specs.declared.Place.{Place}
 use Rattle.texts.specs.Colon.{colon_text_at}
-use Rattle.tables.specs.declared.Found.{Found}
-use Rattle.tables.specs.declared.Found.TheVariants.{RowAt, NoRow}
 use Rattle.tables.specs.Layout.{rules, symbols, width}
 use Rattle.tables.specs.Table.{find_name}
 use Rattle.grammar.specs.declared.State.{State}
-use Rattle.grammar.specs.declared.Part.{Part}
-use Rattle.grammar.specs.declared.Part.TheVariants.{Absent, At}
 use Rattle.grammar.specs.declared.Cause.{Cause}
 use Rattle.grammar.specs.declared.Cause.TheVariants.{MissingColon, MissingRightArrow, UnknownDeclaration}
 use Rattle.grammar.specs.declared.Answer.{Answer}
 use Rattle.grammar.specs.declared.Answer.TheVariants.{Going, Done, Refused}
-use Rattle.grammar.specs.declared.Gap.{Gap}
-use Rattle.grammar.specs.declared.Gap.TheVariants.{GapTo, GapRefused}
+use Rattle.grammar.specs.declared.Refusal.{Refusal}
 use Rattle.grammar.specs.Cells.{rule_cells}
 use Rattle.grammar.specs.State.{Out0, count, with_at, gap_at, past, past_gap, onward}
 use Rattle.grammar.proofs.SameKind.{push_kind, pass_kind}
@@ -53,16 +46,16 @@ module _ (src : List ℕ) (s : State) (word : List ℕ) (cause : Cause) where
   unfolding pass_mark past_gap
   mark_read = go (gap_at s.kind true src s.at) refl
     where
-      behind : (i n : ℕ) → gap_at s.kind true src s.at ≡ GapTo i n → starts_at word src i ≡ true → (g : Gap) → gap_at s.kind true src (i + length word) ≡ g
+      behind : (i n : ℕ) → gap_at s.kind true src s.at ≡ Ok (i, n) → starts_at word src i ≡ true → (g : Result (ℕ × ℕ) Refusal) → gap_at s.kind true src (i + length word) ≡ g
           → (past false g s).answer ≡ Going → MarkRead src s word (past false g s)
-      behind i n e m (GapTo k l) f r = record { to = k; stands = record { at = i; before = n; after = l; gap = e; is = m; next = f }; is = refl }
-      behind i n e m (GapRefused x) f r = absurd (refused_going x r)
+      behind i n e m (Ok (k, l)) f r = record { to = k; stands = record { at = i; before = n; after = l; gap = e; is = m; next = f }; is = refl }
+      behind i n e m (Err x) f r = absurd (refused_going x r)
 
-      go : (g : Gap) → gap_at s.kind true src s.at ≡ g → (mark_gap g src s word cause).answer ≡ Going → MarkRead src s word (mark_gap g src s word cause)
-      go (GapTo i n) e =
+      go : (g : Result (ℕ × ℕ) Refusal) → gap_at s.kind true src s.at ≡ g → (mark_gap g src s word cause).answer ≡ Going → MarkRead src s word (mark_gap g src s word cause)
+      go (Ok (i, n)) e =
           on_test (λ (o : Out0). o.answer ≡ Going → MarkRead src s word o) (starts_at word src i) _ _
           (λ m. behind i n e m (gap_at s.kind true src (i + length word)) refl) (λ m r. absurd (refused_going _ r))
-      go (GapRefused f) e = λ r. absurd (refused_going f r)
+      go (Err f) e = λ r. absurd (refused_going f r)
 
   -- and where it stands it is passed
   pub mark_is : (to : ℕ) → MarkAt s.kind src word s.at to → pass_mark src s word cause ≡ record { answer = Going; state = with_at s to }
@@ -81,11 +74,11 @@ module _ (src : List ℕ) (s : State) where
   unfolding arrow_type colon_type
   arrow_read k = go (pass_mark src s (45 ∷ 62 ∷ []) MissingRightArrow) (mark_read src s (45 ∷ 62 ∷ []) MissingRightArrow)
     where
-      texted : (from : ℕ) → MarkAt s.kind src (45 ∷ 62 ∷ []) s.at from → (c : ColonText) → colon_text_at src from ≡ c
+      texted : (from : ℕ) → MarkAt s.kind src (45 ∷ 62 ∷ []) s.at from → (c : Result (ℕ × ℕ × Place) ℕ) → colon_text_at src from ≡ c
           → (colon_given c (with_at s from)).answer ≡ Going → TypeRead src s (colon_given c (with_at s from))
-      texted from m (Upto to n p) e r =
+      texted from m (Ok (to, n, p)) e r =
           record { to = to; type = slice from to src; stands = typed1 k (record { lines = n; arrow = m; text = e }) refl; is = refl }
-      texted from m (NoColon i) e r = absurd (refused_going _ r)
+      texted from m (Err i) e r = absurd (refused_going _ r)
 
       by : (o : Out0) → MarkRead src s (45 ∷ 62 ∷ []) o → (arrow_passed o.answer src o.state).answer ≡ Going → TypeRead src s (arrow_passed o.answer src o.state)
       by o m r =
@@ -107,14 +100,14 @@ module _ (src : List ℕ) (s : State) where
       (λ k r. record { to = s.at; type = []; stands = untyped1 k; is = refl })
 
 -- a rule's row leaves the reading where it stands, and its kind
-module _ (src : List ℕ) (s : State) (from to : ℕ) (part : Part) (t7 : List ℕ) where
+module _ (src : List ℕ) (s : State) (from to : ℕ) (part : Option (ℕ × ℕ)) (t7 : List ℕ) where
   pub row_kind : (enter_rule src s from to part t7).state.kind ≡ s.kind
   unfolding enter_rule
   row_kind = go (find_name src (width rules) 0 (count s rules) t7 from to)
     where
-      go : (f : Found) → (rule_found f s from to part t7).state.kind ≡ s.kind
-      go (RowAt r) = refl
-      go NoRow = push_kind s rules (rule_cells from to part) t7
+      go : (f : Option ℕ) → (rule_found f s from to part t7).state.kind ≡ s.kind
+      go (Some r) = refl
+      go None = push_kind s rules (rule_cells from to part) t7
 
   pub row_stays : (enter_rule src s from to part t7).answer ≡ Going → (enter_rule src s from to part t7).state.at ≡ s.at
   unfolding enter_rule
@@ -124,25 +117,25 @@ module _ (src : List ℕ) (s : State) (from to : ℕ) (part : Part) (t7 : List �
       stays _ u (goes e) r = e
       stays _ u halts r = absurd (refused_going _ r)
 
-      go : (f : Found) → (rule_found f s from to part t7).answer ≡ Going → (rule_found f s from to part t7).state.at ≡ s.at
-      go (RowAt r) g = refl
-      go NoRow g = stays _ _ (push_opens s rules (rule_cells from to part) t7) g
+      go : (f : Option ℕ) → (rule_found f s from to part t7).answer ≡ Going → (rule_found f s from to part t7).state.at ≡ s.at
+      go (Some r) g = refl
+      go None g = stays _ _ (push_opens s rules (rule_cells from to part) t7) g
 
 -- nor does the start that the first rule gives
 pub start_kind : (s : State) (from to : ℕ) → (first_start s from to).kind ≡ s.kind
 unfolding first_start
 start_kind s from to = go s.singles.start
   where
-    go : (p : Part) → (start_or p s from to).kind ≡ s.kind
-    go Absent = refl
-    go (At a b) = refl
+    go : (p : Option (ℕ × ℕ)) → (start_or p s from to).kind ≡ s.kind
+    go None = refl
+    go (Some (a, b)) = refl
 
 -- A head that was read.
 record HeadRead (src : List ℕ) (s u : State) : Type 0 where
   to : ℕ
   head : ℕ
   type : List ℕ
-  named : name_at src s.at ≡ NameTo to
+  named : name_at src s.at ≡ Ok to
   typed : Type1 s.kind src to head type
   at : u.at ≡ head
   of : u.kind ≡ s.kind
@@ -152,12 +145,12 @@ module _ (src : List ℕ) (s : State) (t7 : List ℕ) where
   unfolding rule_head named_head
   head_read = go (name_at src s.at) refl
     where
-      goes_on : (a : Answer) (u : State) (part : Part) (j : ℕ) → (typed_head a src u part s.at j t7).answer ≡ Going → a ≡ Going
+      goes_on : (a : Answer) (u : State) (part : Option (ℕ × ℕ)) (j : ℕ) → (typed_head a src u part s.at j t7).answer ≡ Going → a ≡ Going
       goes_on Going u part j r = refl
       goes_on Done u part j r = absurd (done_going r)
       goes_on (Refused f) u part j r = absurd (refused_going f r)
 
-      by : (j : ℕ) → name_at src s.at ≡ NameTo j → (o : Typing) → o.answer ≡ Going → TypeRead src (with_at (first_start s s.at j) j) o → (a : Answer) → a ≡ Going
+      by : (j : ℕ) → name_at src s.at ≡ Ok j → (o : Typing) → o.answer ≡ Going → TypeRead src (with_at (first_start s s.at j) j) o → (a : Answer) → a ≡ Going
           → (typed_head a src o.state o.given s.at j t7).answer ≡ Going → HeadRead src s (typed_head a src o.state o.given s.at j t7).state
       by j e o q w Going x r =
           record {
@@ -172,12 +165,12 @@ module _ (src : List ℕ) (s : State) (t7 : List ℕ) where
       by j e o q w Done x r = absurd (done_going r)
       by j e o q w (Refused f) x r = absurd (refused_going f r)
 
-      go : (n : Name) → name_at src s.at ≡ n → (head_found n src s t7).answer ≡ Going → HeadRead src s (head_found n src s t7).state
-      go (NameTo j) e r =
+      go : (n : Result ℕ ℕ) → name_at src s.at ≡ n → (head_found n src s t7).answer ≡ Going → HeadRead src s (head_found n src s t7).state
+      go (Ok j) e r =
           let o = rule_type src (with_at (first_start s s.at j) j) in
           let a = goes_on o.answer o.state o.given j r in
           by j e o a (type_read src (with_at (first_start s s.at j) j) a) o.answer a r
-      go (NoName k) e r = absurd (refused_going _ r)
+      go (Err k) e r = absurd (refused_going _ r)
 
 -- A body that was read.
 record BodyRead (src : List ℕ) (s u : State) : Type 0 where
@@ -211,7 +204,7 @@ record NextRead (src : List ℕ) (s u : State) : Type 0 where
   lines : ℕ
   rule : Rule
   stands : Rule1 s.kind src s.at end rule
-  gap : gap_at s.kind true src end ≡ GapTo u.at lines
+  gap : gap_at s.kind true src end ≡ Ok (u.at, lines)
   of : u.kind ≡ s.kind
 
 module _ (src : List ℕ) (s : State) (t1 t7 t8 t9 : List ℕ) where
@@ -330,9 +323,9 @@ programs_read src s =
     on_test (λ (o : Out0). o.answer ≡ Going → (p : Programs) × Programs1 s.kind src s.at p) (starts_at percents src s.at) _ _
     (λ e. go e (gap_at s.kind true src (s.at + 2)) refl) (λ e r. (none, none1 e))
   where
-    go : starts_at percents src s.at ≡ true → (g : Gap) → gap_at s.kind true src (s.at + 2) ≡ g → (programs_gap g src s).answer ≡ Going → (p : Programs) × Programs1 s.kind src s.at p
-    go e (GapTo k m) f r = (given (drop k src), given1 e f refl)
-    go e (GapRefused q) f r = absurd (refused_going q r)
+    go : starts_at percents src s.at ≡ true → (g : Result (ℕ × ℕ) Refusal) → gap_at s.kind true src (s.at + 2) ≡ g → (programs_gap g src s).answer ≡ Going → (p : Programs) × Programs1 s.kind src s.at p
+    go e (Ok (k, m)) f r = (given (drop k src), given1 e f refl)
+    go e (Err q) f r = absurd (refused_going q r)
 
 -- T1 of all behind the declarations
 module _ (src : List ℕ) (s : State) (t1 t7 t8 t9 : List ℕ) where

@@ -1,4 +1,5 @@
 -- What is shipped of a source's rules and programs is UTF-8 where the source is. Assumes nothing.
+use Rattle.std.specs.Prelude.{Ok}
 use Prim.Native.Nat.{ℕ, ◌+◌, ◌-◌, ◌≤◌, ◌<◌}
 use mathlib.Core.Path.{◌≡◌, refl, sym, ◌∙◌}
 use mathlib.Core.List.{List, [], ◌∷◌, ◌++◌}
@@ -16,15 +17,11 @@ use Rattle.scan.specs.Scan.{in_class, is_letter, is_digit}
 use Rattle.scan.proofs.Bytes.{told, within_true, le_or_lt, drop_below, drop_byte, starts_fits}
 use Rattle.whole.specs.Encode.{encoded, Text}
 use Rattle.whole.proofs.Boundaries.{between, begins_boundary, ascii_behind}
-use Rattle.words.specs.declared.Name.TheVariants.{NameTo}
-use Rattle.words.specs.declared.Token.TheVariants.{Found}
 use Rattle.words.specs.Words.{name_at, token_at, is_quote, IsWord}
 use Rattle.words.proofs.Meaning.{name_iff, bare_iff, quoted_iff}
-use Rattle.texts.specs.declared.Action.TheVariants.{Body}
 use Rattle.texts.specs.Action.{action_at}
 use Rattle.texts.proofs.Balance.{action_is}
 use Rattle.texts.proofs.Meaning.{edge_boundary, starts_boundary}
-use Rattle.grammar.specs.declared.Gap.TheVariants.{GapTo}
 use Rattle.grammar.specs.State.{Gapped}
 use Rattle.grammar.proofs.Kept.{gapped}
 use Rattle.rules.specs.Rules.{percents}
@@ -91,13 +88,13 @@ module _ (src : List ℕ) (text : Text src) where
       part i e (omega arith) w.goes_on.inside (f _ w.begins)
       (⊎_elim (λ h. g _ (w.goes_on.each (e - 1) h (omega arith))) (λ h. let z : e - 1 ≡ i = omega arith in rw z (f _ w.begins)) (le_or_lt (i + 1) (e - 1)))
 
-  name_text : (i e : ℕ) (x : List ℕ) → name_at src i ≡ NameTo e → slice i e src ≡ x → Text x
+  name_text : (i e : ℕ) (x : List ℕ) → name_at src i ≡ Ok e → slice i e src ≡ x → Text x
   name_text i e x h is = told (λ (l : List ℕ). Text l) is (word_text NameStart NameByte name_start name_byte i e ((name_iff src i e).0 h))
 
   token_text : (i e : ℕ) (x : List ℕ) → TokenAt src i e x → Text x
   token_text i e x w = told (λ (l : List ℕ). Text l) w.spelled (go w.place e w.quoted (shape src i w.place e w.quoted w.is) w.is)
     where
-      go : (p : Place) (e : ℕ) (q : Bool) → Shape i p e q → token_at src i ≡ Found p e q → Text (slice i e src)
+      go : (p : Place) (e : ℕ) (q : Bool) → Shape i p e q → token_at src i ≡ Ok (p, e, q) → Text (slice i e src)
       go _ _ _ (plain to) h = word_text TokenStart TokenByte token_start token_byte i to ((bare_iff src i to).0 h)
       go _ _ _ (quote to) h =
           let v = (quoted_iff src i to).0 h in
@@ -107,7 +104,7 @@ module _ (src : List ℕ) (text : Text src) where
           let z : to + 1 - 1 ≡ to = omega arith in
           part i (to + 1) (omega arith) (omega arith) c (rw (z, v.closes) c)
 
-  action_whole : (i e n : ℕ) (p q : Place) (l : List ℕ) → drop i src ≡ 123 ∷ l → action_at src i ≡ Body e n p q → Text (slice i e src)
+  action_whole : (i e n : ℕ) (p q : Place) (l : List ℕ) → drop i src ≡ 123 ∷ l → action_at src i ≡ Ok (e, n, p, q) → Text (slice i e src)
   action_whole i e n p q l d h =
       let b = drop_below src i 123 l d in
       let z = drop_byte src i 123 l d in
@@ -175,7 +172,7 @@ module _ (kind : ℕ) (src : List ℕ) (text : Text src) where
   programs_text_lem (none1 e) = nothing
   programs_text_lem (given1 {i} {k} {m} {x} e g d) =
       let l = starts_fits percents src i e (omega arith) in
-      let y : Gapped src (i + 2) (GapTo k m) = told (Gapped src (i + 2)) g (gapped kind true src (i + 2) l) in
+      let y : Gapped src (i + 2) (Ok (k, m)) = told (Gapped src (i + 2)) g (gapped kind true src (i + 2) l) in
       let b = edge_boundary src text (i + 2) k (starts_boundary src text percents i e (omega arith) (omega arith)) y.1 y.2 in
       ahead (37 ∷ 37 ∷ 10 ∷ []) x (omega arith, (omega arith, (omega arith, tt)))
       (told (λ (z : List ℕ). Text z) (rest_slice k src ∙ d) (between src k (length src) y.1 b (rw (take-length src) text)))

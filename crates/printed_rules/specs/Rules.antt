@@ -1,13 +1,10 @@
 -- Document 02, request Eleven: rules and programs as they stand in a source of kinds 1 to 3, and as they are shipped.
-use Rattle.std.specs.Prelude.{ℕ, ◌+◌, ◌≡◌, List, [], ◌∷◌, ◌++◌, Bool, true, false, ◌||◌, eqb, leb, length, drop}
+use Rattle.std.specs.Prelude.{ℕ, ◌+◌, ◌≡◌, List, [], ◌∷◌, ◌++◌, Bool, true, false, ◌||◌, eqb, leb, length, drop, Ok}
 use Rattle.std.proofs.Math.Seq.{slice}
 use Rattle.scan.specs.declared.Place.{Place}
 use Rattle.scan.specs.Scan.{starts_at}
-use Rattle.words.specs.declared.Name.TheVariants.{NameTo}
 use Rattle.words.specs.Words.{name_at}
-use Rattle.texts.specs.declared.ColonText.TheVariants.{Upto}
 use Rattle.texts.specs.Colon.{colon_text_at}
-use Rattle.grammar.specs.declared.Gap.TheVariants.{GapTo}
 use Rattle.grammar.specs.State.{gap_at}
 use Rattle.rules.specs.Rules.{percents}
 use Rattle.alike.specs.Like.{Same}
@@ -51,15 +48,15 @@ pub record MarkAt (kind : ℕ) (src word : List ℕ) (i j : ℕ) : Type 0 where
   pub at : ℕ
   pub before : ℕ
   pub after : ℕ
-  pub gap : gap_at kind true src i ≡ GapTo at before
+  pub gap : gap_at kind true src i ≡ Ok (at, before)
   pub is : starts_at word src at ≡ true
-  pub next : gap_at kind true src (at + length word) ≡ GapTo j after
+  pub next : gap_at kind true src (at + length word) ≡ Ok (j, after)
 
 -- kind 2's `->` and the type from `from` to the colon at `to`, whose trimmed place is p
 pub record TypeAt (kind : ℕ) (src : List ℕ) (i from to : ℕ) (p : Place) : Type 0 where
   pub lines : ℕ
   pub arrow : MarkAt kind src (45 ∷ 62 ∷ []) i from
-  pub text : colon_text_at src from ≡ Upto to lines p
+  pub text : colon_text_at src from ≡ Ok (to, lines, p)
 
 -- the type of a rule's head, from behind its name on
 pub data Type1 (kind : ℕ) (src : List ℕ) : ℕ → ℕ → List ℕ → Type 0 where
@@ -72,7 +69,7 @@ pub record Rule1 (kind : ℕ) (src : List ℕ) (i e : ℕ) (r : Rule) : Type 0 w
   pub to : ℕ
   pub head : ℕ
   pub from : ℕ
-  pub named : name_at src i ≡ NameTo to
+  pub named : name_at src i ≡ Ok to
   pub spelled : slice i to src ≡ r.name
   pub typed : Type1 kind src to head r.type
   pub colon : MarkAt kind src (58 ∷ []) head from
@@ -85,13 +82,13 @@ over src i = leb (length src) i || starts_at percents src i
 -- the rules from i on, up to j, with spacing behind each
 pub data Rules1 (kind : ℕ) (src : List ℕ) : ℕ → ℕ → List Rule → Type 0 where
   over1 : {i : ℕ} → over src i ≡ true → Rules1 kind src i i []
-  rule1 : {i e k m j : ℕ} {r : Rule} {rs : List Rule} → over src i ≡ false → Rule1 kind src i e r → gap_at kind true src e ≡ GapTo k m → Rules1 kind src k j rs
+  rule1 : {i e k m j : ℕ} {r : Rule} {rs : List Rule} → over src i ≡ false → Rule1 kind src i e r → gap_at kind true src e ≡ Ok (k, m) → Rules1 kind src k j rs
       → Rules1 kind src i j (r ∷ rs)
 
 -- the programs text behind a second `%%` and spacing, up to the source's end; or no second `%%`
 pub data Programs1 (kind : ℕ) (src : List ℕ) : ℕ → Programs → Type 0 where
   none1 : {i : ℕ} → starts_at percents src i ≡ false → Programs1 kind src i none
-  given1 : {i k m : ℕ} {x : List ℕ} → starts_at percents src i ≡ true → gap_at kind true src (i + 2) ≡ GapTo k m → drop k src ≡ x → Programs1 kind src i (given x)
+  given1 : {i k m : ℕ} {x : List ℕ} → starts_at percents src i ≡ true → gap_at kind true src (i + 2) ≡ Ok (k, m) → drop k src ≡ x → Programs1 kind src i (given x)
 
 -- two sources have the same type behind a name,
 pub data Type2 (kind : ℕ) (src out : List ℕ) : ℕ → ℕ → ℕ → ℕ → Type 0 where
@@ -111,13 +108,13 @@ pub record Rule2 (kind : ℕ) (src out : List ℕ) (i j e f : ℕ) (r : Rule) : 
 pub data Rules2 (kind : ℕ) (src out : List ℕ) : ℕ → ℕ → ℕ → ℕ → List Rule → Type 0 where
   over2 : {i j : ℕ} → over src i ≡ true → over out j ≡ true → Rules2 kind src out i j i j []
   rule2 : {i j e f k l m n c d : ℕ} {r : Rule} {rs : List Rule} → over src i ≡ false → over out j ≡ false → Rule2 kind src out i j e f r
-      → gap_at kind true src e ≡ GapTo k m → gap_at kind true out f ≡ GapTo l n → Rules2 kind src out k l c d rs → Rules2 kind src out i j c d (r ∷ rs)
+      → gap_at kind true src e ≡ Ok (k, m) → gap_at kind true out f ≡ Ok (l, n) → Rules2 kind src out k l c d rs → Rules2 kind src out i j c d (r ∷ rs)
 
 -- and the same programs text
 pub data Programs2 (kind : ℕ) (src out : List ℕ) : ℕ → ℕ → Programs → Type 0 where
   none2 : {i j : ℕ} → starts_at percents src i ≡ false → starts_at percents out j ≡ false → Programs2 kind src out i j none
   given2 : {i j k l m n : ℕ} {x : List ℕ} → starts_at percents src i ≡ true → starts_at percents out j ≡ true
-      → gap_at kind true src (i + 2) ≡ GapTo k m → gap_at kind true out (j + 2) ≡ GapTo l n → drop k src ≡ x → drop l out ≡ x → Programs2 kind src out i j (given x)
+      → gap_at kind true src (i + 2) ≡ Ok (k, m) → gap_at kind true out (j + 2) ≡ Ok (l, n) → drop k src ≡ x → drop l out ≡ x → Programs2 kind src out i j (given x)
 
 -- where a reading of programs ends, that of rules having ended at i
 abbrev pub end_of : Programs → List ℕ → ℕ → ℕ

@@ -1,4 +1,5 @@
 -- A production that is stored as a row is the one that is loaded from it. Assumes nothing.
+use Rattle.std.specs.Prelude.{Option, Some, None}
 use Prim.Native.Nat.{ℕ, ◌+◌, ◌*◌, ◌≤◌, ◌<◌}
 use mathlib.Core.Path.{◌≡◌, refl}
 use mathlib.Core.List.{List}
@@ -7,22 +8,18 @@ use lib.ListN.{length, get_or}
 use Rattle.tables.specs.Table.{put}
 use Rattle.tables.specs.Layout.{productions, width}
 use Rattle.tables.proofs.Rows.{cell_new}
-use Rattle.productions.specs.declared.Prec.{Prec}
-use Rattle.productions.specs.declared.Prec.TheVariants.{NoPrec, PrecAt}
-use Rattle.productions.specs.declared.Act.{Act}
-use Rattle.productions.specs.declared.Act.TheVariants.{NoAction, ActionAt}
 use Rattle.productions.specs.declared.Production.{Production}
 use Rattle.productions.specs.Cells.{prec_cells, action_cells, production_cells, prec_of, action_of, cell_of, production_at}
 
-prec_back : (q : Prec) → prec_of (get_or (prec_cells q) 0 0) (get_or (prec_cells q) 1 0) (get_or (prec_cells q) 2 0) ≡ q
+prec_back : (q : Option (ℕ × ℕ)) → prec_of (get_or (prec_cells q) 0 0) (get_or (prec_cells q) 1 0) (get_or (prec_cells q) 2 0) ≡ q
 unfolding prec_of
-prec_back NoPrec = refl
-prec_back (PrecAt a b) = refl
+prec_back None = refl
+prec_back (Some (a, b)) = refl
 
-action_back : (q : Act) → action_of (get_or (action_cells q) 0 0) (get_or (action_cells q) 1 0) (get_or (action_cells q) 2 0) (get_or (action_cells q) 3 0) (get_or (action_cells q) 4 0) ≡ q
+action_back : (q : Option (ℕ × ℕ × ℕ × ℕ)) → action_of (get_or (action_cells q) 0 0) (get_or (action_cells q) 1 0) (get_or (action_cells q) 2 0) (get_or (action_cells q) 3 0) (get_or (action_cells q) 4 0) ≡ q
 unfolding action_of
-action_back NoAction = refl
-action_back (ActionAt a b c d) = refl
+action_back None = refl
+action_back (Some (a, b, c, d)) = refl
 
 pub stored : (p : Production) (n : ℕ) (t : List ℕ) → n * width productions + width productions ≤ length t → production_at (put t (n * width productions) (production_cells p)) n ≡ p
 unfolding production_at

@@ -1,26 +1,22 @@
 -- Document 01: "8 productions (rule row, place, symbol range, `%prec`, action)": a production as the cells of its row, and back.
-use Rattle.std.specs.Prelude.{ℕ, ◌+◌, ◌≡◌, refl, List, [], ◌∷◌, Bool, true, false, not, get_or, eqb}
+use Rattle.std.specs.Prelude.{ℕ, ◌+◌, ◌≡◌, refl, List, [], ◌∷◌, Bool, true, false, not, get_or, eqb, Option, Some, None}
 use Rattle.tables.specs.Below.{below}
 use Rattle.tables.specs.Table.{cell}
 use Rattle.tables.specs.Layout.{productions, rule_row, place, symbols_from, symbols_to, prec, action, width}
 use Rattle.grammar.specs.declared.State.{State}
 use Rattle.grammar.specs.declared.Refusal.TheVariants.{NoRoom}
 use Rattle.grammar.specs.State.{Out1, no_room, push_row}
-use Rattle.productions.specs.declared.Prec.{Prec}
-use Rattle.productions.specs.declared.Prec.TheVariants.{NoPrec, PrecAt}
-use Rattle.productions.specs.declared.Act.{Act}
-use Rattle.productions.specs.declared.Act.TheVariants.{NoAction, ActionAt}
 use Rattle.productions.specs.declared.Production.{Production}
 
 -- "A production's `%prec` is either absent or a name with its place": 0 and zeros, or 1 and the place
-abbrev pub prec_cells : Prec → List ℕ
-prec_cells NoPrec = 0 ∷ 0 ∷ 0 ∷ []
-prec_cells (PrecAt a b) = 1 ∷ a ∷ b ∷ []
+abbrev pub prec_cells : Option (ℕ × ℕ) → List ℕ
+prec_cells None = 0 ∷ 0 ∷ 0 ∷ []
+prec_cells (Some (a, b)) = 1 ∷ a ∷ b ∷ []
 
 -- "its action is absent, or the place of its trimmed text beside the crate's span": 0 and zeros, or 1 and both places
-abbrev pub action_cells : Act → List ℕ
-action_cells NoAction = 0 ∷ 0 ∷ 0 ∷ 0 ∷ 0 ∷ []
-action_cells (ActionAt a b c d) = 1 ∷ a ∷ b ∷ c ∷ d ∷ []
+abbrev pub action_cells : Option (ℕ × ℕ × ℕ × ℕ) → List ℕ
+action_cells None = 0 ∷ 0 ∷ 0 ∷ 0 ∷ 0 ∷ []
+action_cells (Some (a, b, c, d)) = 1 ∷ a ∷ b ∷ c ∷ d ∷ []
 
 -- the row of a production
 abbrev pub production_cells : Production → List ℕ
@@ -30,11 +26,11 @@ production_cells p =
     ∷ get_or (action_cells p.action) 0 0 ∷ get_or (action_cells p.action) 1 0 ∷ get_or (action_cells p.action) 2 0 ∷ get_or (action_cells p.action) 3 0 ∷ get_or (action_cells p.action) 4 0 ∷ []
 
 -- back: a flag of 1 says that the places are given
-unfoldable pub prec_of : ℕ → ℕ → ℕ → Prec
-prec_of f a b = elim (eqb f 1) [ true ↦ PrecAt a b | false ↦ NoPrec ]
+unfoldable pub prec_of : ℕ → ℕ → ℕ → Option (ℕ × ℕ)
+prec_of f a b = elim (eqb f 1) [ true ↦ Some (a, b) | false ↦ None ]
 
-unfoldable pub action_of : ℕ → ℕ → ℕ → ℕ → ℕ → Act
-action_of f a b c d = elim (eqb f 1) [ true ↦ ActionAt a b c d | false ↦ NoAction ]
+unfoldable pub action_of : ℕ → ℕ → ℕ → ℕ → ℕ → Option (ℕ × ℕ × ℕ × ℕ)
+action_of f a b c d = elim (eqb f 1) [ true ↦ Some (a, b, c, d) | false ↦ None ]
 
 abbrev pub cell_of : List ℕ → ℕ → ℕ → ℕ
 cell_of t r k = cell (width productions) t r k

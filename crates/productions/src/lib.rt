@@ -7,20 +7,6 @@ ghost use Rattle.grammar.specs.State.{Out1};
 
 use grammar::{State, Step};
 
-// The name of a production's `%prec`, by its place.
-#[derive(Clone, Copy)]
-pub enum Prec {
-    NoPrec,
-    PrecAt(u32, u32),
-}
-
-// A production's action: the place of its trimmed text, and the crate's span.
-#[derive(Clone, Copy)]
-pub enum Act {
-    NoAction,
-    ActionAt(u32, u32, u32, u32),
-}
-
 #[derive(Clone, Copy)]
 pub struct Production {
     pub rule: u32,
@@ -28,25 +14,27 @@ pub struct Production {
     pub to: u32,
     pub first: u32,
     pub last: u32,
-    pub prec: Prec,
-    pub action: Act,
+    // The name of its `%prec`, by its place.
+    pub prec: Option<(u32, u32)>,
+    // Its action: the place of its trimmed text, and the crate's span.
+    pub action: Option<(u32, u32, u32, u32)>,
 }
 
-pub fn prec_cells(p: Prec) -> [u32; 3]
+pub fn prec_cells(p: Option<(u32, u32)>) -> [u32; 3]
     ensures { result ≡ prec_cells p }
 {
     match p {
-        Prec::NoPrec => [0, 0, 0],
-        Prec::PrecAt(a, b) => [1, a, b],
+        None => [0, 0, 0],
+        Some((a, b)) => [1, a, b],
     }
 }
 
-pub fn action_cells(p: Act) -> [u32; 5]
+pub fn action_cells(p: Option<(u32, u32, u32, u32)>) -> [u32; 5]
     ensures { result ≡ action_cells p }
 {
     match p {
-        Act::NoAction => [0, 0, 0, 0, 0],
-        Act::ActionAt(a, b, c, d) => [1, a, b, c, d],
+        None => [0, 0, 0, 0, 0],
+        Some((a, b, c, d)) => [1, a, b, c, d],
     }
 }
 
@@ -62,24 +50,16 @@ pub fn production_cells(p: Production) -> [u32; 13]
     ]
 }
 
-pub fn prec_of(f: u32, a: u32, b: u32) -> Prec
+pub fn prec_of(f: u32, a: u32, b: u32) -> Option<(u32, u32)>
     ensures { result ≡ prec_of f a b }
 {
-    if f == 1 {
-        Prec::PrecAt(a, b)
-    } else {
-        Prec::NoPrec
-    }
+    if f == 1 { Some((a, b)) } else { None }
 }
 
-pub fn action_of(f: u32, a: u32, b: u32, c: u32, d: u32) -> Act
+pub fn action_of(f: u32, a: u32, b: u32, c: u32, d: u32) -> Option<(u32, u32, u32, u32)>
     ensures { result ≡ action_of f a b c d }
 {
-    if f == 1 {
-        Act::ActionAt(a, b, c, d)
-    } else {
-        Act::NoAction
-    }
+    if f == 1 { Some((a, b, c, d)) } else { None }
 }
 
 // A row of table 8.
@@ -128,12 +108,5 @@ pub fn load_production(t: &[u32], r: u32) -> Production
 pub fn has_precs(t: &[u32], n: u32) -> bool
     ensures { result ≡ gives_prec t.now n }
 {
-    let mut r = 0;
-    while r < n {
-        if cell(t, r, tables::PREC) == 1 {
-            return true;
-        }
-        r += 1;
-    }
-    false
+    (0..n).any(|r| cell(t, r, tables::PREC) == 1)
 }

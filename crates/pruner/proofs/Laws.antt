@@ -1,4 +1,5 @@
 -- Small laws of pruning's functions: whether a row stays, and what its new number is. Assumes nothing.
+use Rattle.std.specs.Prelude.{Option, Some, None}
 use Prim.Native.Nat.{ℕ, suc, ◌+◌, ◌*◌, ◌<◌}
 use mathlib.Core.Path.{◌≡◌, refl, sym, ap, ◌∙◌}
 use mathlib.Core.List.{List, []}
@@ -11,8 +12,6 @@ use lib.Dec.{eqb}
 use lib.Seq.{get_or-drop, get_or-set_same, get_or-set_other}
 use borrow.Author.Tests.{eq-eqb, ne_eqb}
 use Rattle.bits.specs.Bits.{bit}
-use Rattle.tables.specs.declared.Found.{Found}
-use Rattle.tables.specs.declared.Found.TheVariants.{RowAt, NoRow}
 use Rattle.tables.specs.Table.{cell, find_name, zeroed}
 use Rattle.tables.specs.Layout.{tokens, productions, rule_row, width}
 use Rattle.grammar.specs.declared.Counts.{Counts}
@@ -25,17 +24,17 @@ use Rattle.pruner.specs.Moving.{Ranked, number_in}
 
 -- ---- whether a name, a row, a production stays
 
-module _ (src : List ℕ) (c : Counts) (t1 ws : List ℕ) (a b n : ℕ) (m : n ≡ count_at c tokens) (f : Found) (e : f ≡ find_name src (width tokens) 0 n t1 a b) where
+module _ (src : List ℕ) (c : Counts) (t1 ws : List ℕ) (a b n : ℕ) (m : n ≡ count_at c tokens) (f : Option ℕ) (e : f ≡ find_name src (width tokens) 0 n t1 a b) where
   found_is : f ≡ find_name src (width tokens) 0 (count_at c tokens) t1 a b
   found_is = e ∙ ap (λ (k : ℕ). find_name src (width tokens) 0 k t1 a b) m
 
-  pub name_found : (base : ℕ) → base ≡ (token_sort c).base → (t : ℕ) → f ≡ RowAt t → (q : Bool) → q ≡ eqb (bit ws (base + t)) 1 → q ≡ name_stays src c t1 ws a b
+  pub name_found : (base : ℕ) → base ≡ (token_sort c).base → (t : ℕ) → f ≡ Some t → (q : Bool) → q ≡ eqb (bit ws (base + t)) 1 → q ≡ name_stays src c t1 ws a b
   unfolding name_stays
-  name_found base d t h q k = k ∙ (ap (λ (y : ℕ). eqb (bit ws (y + t)) 1) d ∙ ap (λ (y : Found). found_stays y c ws) (sym h ∙ found_is))
+  name_found base d t h q k = k ∙ (ap (λ (y : ℕ). eqb (bit ws (y + t)) 1) d ∙ ap (λ (y : Option ℕ). found_stays y c ws) (sym h ∙ found_is))
 
-  pub name_unfound : f ≡ NoRow → true ≡ name_stays src c t1 ws a b
+  pub name_unfound : f ≡ None → true ≡ name_stays src c t1 ws a b
   unfolding name_stays
-  name_unfound h = ap (λ (y : Found). found_stays y c ws) (sym h ∙ found_is)
+  name_unfound h = ap (λ (y : Option ℕ). found_stays y c ws) (sym h ∙ found_is)
 
 -- rows that are not read yet are as they were
 pub shut_cell : {stays : ℕ → Bool} (w : ℕ) (t₀ : List ℕ) (r m : ℕ) (t : List ℕ) → Shut stays w t₀ r m t → (k : ℕ) → cell w t r k ≡ cell w t₀ r k

@@ -16,9 +16,8 @@ ghost use Rattle.pruner.specs.Moving.{Ranked, number_in, moved_symbol, moved_sym
 ghost use Rattle.pruner.specs.Asked.{Mentioned, Mentions, mentions_left, Owned, Movable, Linked, Closable, Links, links_left, Leaves};
 
 use grammar::{Counts, Singles};
-use pruning::Pruning;
-use tables::Found;
-use validation::Validity;
+use pruning::PruningError;
+use validation::ValidityError;
 
 // How many rows of tables 3 and 5 stay.
 #[derive(Clone, Copy)]
@@ -37,7 +36,7 @@ pub struct Linking {
 // The answer, and the counts that are left; after a refusal those that were.
 #[derive(Clone, Copy)]
 pub struct Outcome {
-    pub answer: Pruning,
+    pub answer: Result<(), PruningError>,
     pub counts: Counts,
 }
 
@@ -59,8 +58,8 @@ fn name_stays(src: &[u8], c: Counts, t1: &[u32], fx: &[u16], ws: &[u32], a: u32,
     let n = sound::rows_of(c, tables::TOKENS);
     let base = token_base(c);
     match finder::find(src, t1, tables::TOKEN_WIDTH, tables::NAME, n, fx, a, b) {
-        Found::RowAt(t) => bits::test_bit(ws, base + t as usize),
-        Found::NoRow => true,
+        Some(t) => bits::test_bit(ws, base + t as usize),
+        None => true,
     }
 }
 
@@ -81,14 +80,12 @@ fn close_named(
 {
     let first = k as u32;
     let second = first + 1;
-    let mut r = 0;
     let mut m = 0;
-    while r < n {
+    for r in 0..n {
         let a = tables::cell(t, w, r, first);
         let b = tables::cell(t, w, r, second);
         let stays = name_stays(src, c, t1, fx, ws, a, b);
         m = closing::keep_row(t, w, stays, r, m);
-        r += 1;
     }
     closing::zero_from(t, (m as usize) * (w as usize));
     m
@@ -150,7 +147,7 @@ fn close_by(
     close_held(t3, t5, src, c, t1, fx, ws)
 }
 
-// Without slots, where there is nothing to look up.
+// Without slots, where there is nothing to look up, so that no token is entered either.
 fn close_none(
     t3: &mut [u32],
     t5: &mut [u32],
@@ -166,8 +163,8 @@ fn close_none(
     close_held(t3, t5, src, c, t1, &none, ws)
 }
 
-// With few slots, which are soon cleared.
-fn close_few(
+// With `N` slots: few are soon cleared, many do for every grammar that is read.
+fn close_in<const N: usize>(
     t3: &mut [u32],
     t5: &mut [u32],
     src: &[u8],
@@ -175,26 +172,10 @@ fn close_few(
     t1: &[u32],
     ws: &[u32],
 ) -> Mentioning
-    requires { Mentioned src.now c t1.now t3.old t5.old }
+    requires { Mentioned src.now c t1.now t3.old t5.old × (N < 2 ^ 40) }
     ensures { ◌≡◌ {A = Mentions} (record { avoided = result.avoided; epps = result.epps; t3 = t3.new; t5 = t5.new }) (mentions_left src.now c t1.now t3.old t5.old ws.now) }
 {
-    let mut fx = [0u16; finder::FEW_SLOTS];
-    close_by(t3, t5, src, c, t1, &mut fx, ws)
-}
-
-// With slots for every grammar that is read.
-fn close_many(
-    t3: &mut [u32],
-    t5: &mut [u32],
-    src: &[u8],
-    c: Counts,
-    t1: &[u32],
-    ws: &[u32],
-) -> Mentioning
-    requires { Mentioned src.now c t1.now t3.old t5.old }
-    ensures { ◌≡◌ {A = Mentions} (record { avoided = result.avoided; epps = result.epps; t3 = t3.new; t5 = t5.new }) (mentions_left src.now c t1.now t3.old t5.old ws.now) }
-{
-    let mut fx = [0u16; finder::MANY_SLOTS];
+    let mut fx = [0u16; N];
     close_by(t3, t5, src, c, t1, &mut fx, ws)
 }
 
@@ -216,9 +197,9 @@ fn close_mentions(
         return close_none(t3, t5, src, c, t1, ws);
     }
     if sound::rows_of(c, tables::TOKENS) <= finder::FEW_ROWS {
-        return close_few(t3, t5, src, c, t1, ws);
+        return close_in::<{ finder::FEW_SLOTS }>(t3, t5, src, c, t1, ws);
     }
-    close_many(t3, t5, src, c, t1, ws)
+    close_in::<{ finder::MANY_SLOTS }>(t3, t5, src, c, t1, ws)
 }
 
 // ---- new numbers
@@ -239,12 +220,10 @@ fn write_ranks(ix: &mut [u32], ws: &[u32], base: usize, n: u32)
     requires { (n ≤ length ix.old) × (base < 2 ^ 40) }
     ensures { Ranked (by_bit ws.now base) n ix.new }
 {
-    let mut r = 0;
     let mut m = 0;
-    while r < n {
+    for r in 0..n {
         ix[r as usize] = m;
         m = next_rank(ws, base, r, m);
-        r += 1;
     }
 }
 
@@ -277,10 +256,8 @@ fn move_symbols(t9: &mut [u32], from: u32, to: u32, n: u32, i1: &[u32], i7: &[u3
     requires { (to ≤ from) × ((from + n) * width symbols ≤ length t9.old) × (from + n ≤ 4294967295) }
     ensures { t9.new ≡ moved_symbols i1.now i7.now from to n t9.old }
 {
-    let mut k = 0;
-    while k < n {
+    for k in 0..n {
         move_symbol(t9, from + k, to + k, i1, i7);
-        k += 1;
     }
 }
 
@@ -321,11 +298,9 @@ fn close_symbols(t9: &mut [u32], t8: &[u32], c: Counts, ws: &[u32], i1: &[u32], 
     ensures { ◌≡◌ {A = Step} (record { count = result; cells = t9.new }) (record { count = length (symbols_left c t8.now t9.old ws.now); cells = table_of (length t9.old) (symbols_left c t8.now t9.old ws.now) }) }
 {
     let n = sound::rows_of(c, tables::PRODUCTIONS);
-    let mut p = 0;
     let mut m = 0;
-    while p < n {
+    for p in 0..n {
         m = keep_symbols(t9, t8, p, m, ws, i1, i7);
-        p += 1;
     }
     closing::zero_from(t9, (m as usize) * (tables::SYMBOL_WIDTH as usize));
     m
@@ -366,14 +341,12 @@ fn close_productions(t8: &mut [u32], c: Counts, ws: &[u32], i7: &[u32]) -> u32
     ensures { ◌≡◌ {A = Step} (record { count = result; cells = t8.new }) (record { count = length (productions_left c t8.old ws.now); cells = table_of (length t8.old) (chained ws.now 0 (productions_left c t8.old ws.now)) }) }
 {
     let n = sound::rows_of(c, tables::PRODUCTIONS);
-    let mut p = 0;
     let mut m = 0;
     let mut e = 0;
-    while p < n {
+    for p in 0..n {
         let k = keep_production(t8, p, m, e, ws, i7);
         m = k.rows;
         e = k.symbols;
-        p += 1;
     }
     closing::zero_from(t8, (m as usize) * (tables::PRODUCTION_WIDTH as usize));
     m
@@ -456,7 +429,7 @@ fn close_all(
     ws: &[u32],
 ) -> Counts
     requires { Closable src.now c (record { t1 = t1.now; t3 = t3.old; t5 = t5.old; t7 = t7.old; t8 = t8.old; t9 = t9.old; i1 = i1.old; i7 = i7.old }) }
-    ensures { Leaves src.now c (record { t1 = t1.entry.now; t3 = t3.old; t5 = t5.old; t7 = t7.old; t8 = t8.old; t9 = t9.old; i1 = i1.old; i7 = i7.old }) ws.now result (record { t1 = t1.exit.now; t3 = t3.new; t5 = t5.new; t7 = t7.new; t8 = t8.new; t9 = t9.new; i1 = i1.new; i7 = i7.new }) }
+    ensures { Leaves src.now c (record { t1 = t1.old; t3 = t3.old; t5 = t5.old; t7 = t7.old; t8 = t8.old; t9 = t9.old; i1 = i1.old; i7 = i7.old }) ws.now result (record { t1 = t1.new; t3 = t3.new; t5 = t5.new; t7 = t7.new; t8 = t8.new; t9 = t9.new; i1 = i1.new; i7 = i7.new }) }
 {
     let m = close_mentions(t3, t5, src, c, t1, ws);
     let l = close_linked(t8, t9, i1, i7, c, ws);
@@ -486,34 +459,34 @@ pub fn prune(
     i7: &mut [u32],
     work: &mut [u32],
 ) -> Outcome
-    ensures { Prunings src.now g result.answer (record { counts = c; tables = record { t1 = t1.entry.now; t2 = t2.now; t3 = t3.old; t4 = t4.now; t5 = t5.old; t6 = t6.now; t7 = t7.old; t8 = t8.old; t9 = t9.old; t10 = t10.now }; indexes = record { tokens = i1.old; rules = i7.old }; work = work.old }) (record { counts = result.counts; tables = record { t1 = t1.exit.now; t2 = t2.now; t3 = t3.new; t4 = t4.now; t5 = t5.new; t6 = t6.now; t7 = t7.new; t8 = t8.new; t9 = t9.new; t10 = t10.now }; indexes = record { tokens = i1.new; rules = i7.new }; work = work.new }) }
+    ensures { Prunings src.now g result.answer (record { counts = c; tables = record { t1 = t1.old; t2 = t2.now; t3 = t3.old; t4 = t4.now; t5 = t5.old; t6 = t6.now; t7 = t7.old; t8 = t8.old; t9 = t9.old; t10 = t10.now }; indexes = record { tokens = i1.old; rules = i7.old }; work = work.old }) (record { counts = result.counts; tables = record { t1 = t1.new; t2 = t2.now; t3 = t3.new; t4 = t4.now; t5 = t5.new; t6 = t6.now; t7 = t7.new; t8 = t8.new; t9 = t9.new; t10 = t10.now }; indexes = record { tokens = i1.new; rules = i7.new }; work = work.new }) }
 {
     match validator::validate(src, c, g, t1, t2, t3, t4, t5, t6, t7, t8, t9, t10, i1, i7) {
-        Validity::Valid => {
+        Ok(()) => {
             let start = g.start;
             if !staying::mark_staying(work, src, c, start, t1, t4, t6, t7, t8, t9, i1, i7) {
                 return Outcome {
-                    answer: Pruning::PruningNoWords,
+                    answer: Err(PruningError::PruningNoWords),
                     counts: c,
                 };
             }
             let d = close_all(src, c, t1, t3, t5, t7, t8, t9, i1, i7, work);
             Outcome {
-                answer: Pruning::AllPruned,
+                answer: Ok(()),
                 counts: d,
             }
         }
-        Validity::UnsoundTables => {
+        Err(ValidityError::UnsoundTables) => {
             tables::zero(work);
             Outcome {
-                answer: Pruning::PruningUnsound,
+                answer: Err(PruningError::PruningUnsound),
                 counts: c,
             }
         }
-        Validity::Invalid(f) => {
+        Err(ValidityError::Invalid(f)) => {
             tables::zero(work);
             Outcome {
-                answer: Pruning::PruningInvalid(f),
+                answer: Err(PruningError::PruningInvalid(f)),
                 counts: c,
             }
         }

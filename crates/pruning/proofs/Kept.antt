@@ -1,4 +1,5 @@
 -- What valid tables name: the names of a production that stays are those of rows that stay, and are found in their new rows. Assumes nothing.
+use Rattle.std.specs.Prelude.{Some, None, Ok}
 use Prim.Native.Nat.{ℕ, ◌+◌, ◌≤◌, ◌<◌}
 use mathlib.Core.Path.{◌≡◌, refl, sym, ◌∙◌}
 use mathlib.Core.List.{List, []}
@@ -7,7 +8,6 @@ use native.Mathlib.Omega.{arith}
 use lib.ListN.{length}
 use lib.Dec.{eqb}
 use borrow.Author.Tests.{eq-eqb, eqb-true}
-use Rattle.tables.specs.declared.Found.TheVariants.{RowAt}
 use Rattle.tables.specs.Table.{cell, has_name, find_name}
 use Rattle.tables.specs.Layout.{tokens, precedences, avoided, epps, unused, rules, productions, symbols, rule_row, symbols_from, symbols_to, prec, kind_name, known_row, width}
 use Rattle.tables.proofs.Rows.{row_cell}
@@ -16,12 +16,10 @@ use Rattle.symbols.proofs.Laws.{named_rule, named_token, symbol_is}
 use Rattle.grammar.specs.declared.Counts.{Counts}
 use Rattle.grammar.specs.declared.Singles.{Singles}
 use Rattle.grammar.specs.Sound.{Tables, Indexes, Sound, lexicon_of}
-use Rattle.productions.specs.declared.Prec.TheVariants.{NoPrec, PrecAt}
 use Rattle.productions.specs.Cells.{prec_of}
 use Rattle.sound.specs.Test.{count_at}
 use Rattle.sound.proofs.Iff.{sound_iff}
 use Rattle.validation.specs.declared.Flaw.TheVariants.{NoPrecForToken}
-use Rattle.validation.specs.declared.Validity.TheVariants.{Valid}
 use Rattle.validation.specs.Faults.{known, prec_given, prec_faults, kind_faults, validity}
 use Rattle.validation.proofs.Order.{validity_first}
 use Rattle.reach.specs.Reach.{Begins, Calls, here, precedence}
@@ -57,11 +55,11 @@ module _ (src : List ℕ) (t1 : List ℕ) (n : ℕ) (t2 : List ℕ) (m : ℕ) wh
       given : known src t1 (width tokens) n a b ≡ true → known src t2 (width precedences) m a b ≡ true → prec_given (known src t1 (width tokens) n a b) (known src t2 (width precedences) m a b) a b ≡ []
       given p q = rw (p, q)
 
-      go : (q : Bool) → eqb f 1 ≡ q → prec_faults src (elim q [ true ↦ PrecAt a b | false ↦ NoPrec ]) t1 n t2 m ≡ []
+      go : (q : Bool) → eqb f 1 ≡ q → prec_faults src (elim q [ true ↦ Some (a, b) | false ↦ None ]) t1 n t2 m ≡ []
       go true e = let k = eqb-true f 1 e in given (x k) (y k)
       go false e = refl
 
-module _ (src : List ℕ) (c : Counts) (g : Singles) (T : Tables) (X : Indexes) (ws : List ℕ) (ten : length c.n ≡ 10) (v : validity src c g T X ≡ Valid) (work : StayWork (grammar_in src g.start c T) (excuses_in src c T) ws) where
+module _ (src : List ℕ) (c : Counts) (g : Singles) (T : Tables) (X : Indexes) (ws : List ℕ) (ten : length c.n ≡ 10) (v : validity src c g T X ≡ Ok tt) (work : StayWork (grammar_in src g.start c T) (excuses_in src c T) ws) where
   pub sound : Sound src c g T X
   sound = (sound_iff src c g T X).0 ((validity_first src c g T X).0.0 v).0
 
@@ -122,13 +120,13 @@ module _ (src : List ℕ) (c : Counts) (g : Singles) (T : Tables) (X : Indexes) 
         omega arith
 
     -- and is found in the row that it has
-    pub rule_found : cell (width symbols) T.t9 s 0 ≡ 1 → find_name src (width rules) 0 (count_at c rules) T.t7 (cell (width symbols) T.t9 s kind_name) (cell (width symbols) T.t9 s (kind_name + 1)) ≡ RowAt (cell (width symbols) T.t9 s known_row)
+    pub rule_found : cell (width symbols) T.t9 s 0 ≡ 1 → find_name src (width rules) 0 (count_at c rules) T.t7 (cell (width symbols) T.t9 s kind_name) (cell (width symbols) T.t9 s (kind_name + 1)) ≡ Some (cell (width symbols) T.t9 s known_row)
     unfolding kind_faults known
     rule_found k =
         found_row _ _ (rule_name_known src (cell (width symbols) T.t9 s 0) (cell (width symbols) T.t9 s kind_name) (cell (width symbols) T.t9 s (kind_name + 1)) T.t1 (count_at c tokens) T.t7 (count_at c rules) (asked.syms p s there from to) k)
         (sound.known.row s symbol_in ∙ sym (symbol_is (lexicon_of src c T) T.t9 s _ _ _ _ refl refl refl (named_rule (lexicon_of src c T) _ _ _ _ k refl)))
 
-    pub token_found_lem : (cell (width symbols) T.t9 s 0 ≡ 1 → ⊥) → find_name src (width tokens) 0 (count_at c tokens) T.t1 (cell (width symbols) T.t9 s kind_name) (cell (width symbols) T.t9 s (kind_name + 1)) ≡ RowAt (cell (width symbols) T.t9 s known_row)
+    pub token_found_lem : (cell (width symbols) T.t9 s 0 ≡ 1 → ⊥) → find_name src (width tokens) 0 (count_at c tokens) T.t1 (cell (width symbols) T.t9 s kind_name) (cell (width symbols) T.t9 s (kind_name + 1)) ≡ Some (cell (width symbols) T.t9 s known_row)
     unfolding kind_faults known
     token_found_lem k =
         found_row _ _ (token_name_known src (cell (width symbols) T.t9 s 0) (cell (width symbols) T.t9 s kind_name) (cell (width symbols) T.t9 s (kind_name + 1)) T.t1 (count_at c tokens) T.t7 (count_at c rules) (asked.syms p s there from to) k)
@@ -173,10 +171,10 @@ module _ (src : List ℕ) (c : Counts) (g : Singles) (T : Tables) (X : Indexes) 
           (named_token_stays owner (record { prod = p; there = there; of = refl; sym = s; holds = record { from = from; to = to; kind = token_kind p s there from to k; row = x } }))
 
       -- and are found under their new numbers
-      pub rule_new : cell (width symbols) T.t9 s 0 ≡ 1 → find_name src (width rules) 0 (rank (rule_stays ws) (count_at c rules)) (closed (rule_stays ws) (width rules) (count_at c rules) T.t7).cells (cell (width symbols) T.t9 s kind_name) (cell (width symbols) T.t9 s (kind_name + 1)) ≡ RowAt (rank (rule_stays ws) (cell (width symbols) T.t9 s known_row))
+      pub rule_new : cell (width symbols) T.t9 s 0 ≡ 1 → find_name src (width rules) 0 (rank (rule_stays ws) (count_at c rules)) (closed (rule_stays ws) (width rules) (count_at c rules) T.t7).cells (cell (width symbols) T.t9 s kind_name) (cell (width symbols) T.t9 s (kind_name + 1)) ≡ Some (rank (rule_stays ws) (cell (width symbols) T.t9 s known_row))
       rule_new k = find_new src (rule_stays ws) (width rules) (count_at c rules) T.t7 ready.rules_fit (omega arith) _ _ _ (rule_found p s there from to k) (rule_kept k)
 
-      pub token_new : (cell (width symbols) T.t9 s 0 ≡ 1 → ⊥) → find_name src (width tokens) 0 (rank (token_stays c ws) (count_at c tokens)) (closed (token_stays c ws) (width tokens) (count_at c tokens) T.t1).cells (cell (width symbols) T.t9 s kind_name) (cell (width symbols) T.t9 s (kind_name + 1)) ≡ RowAt (rank (token_stays c ws) (cell (width symbols) T.t9 s known_row))
+      pub token_new : (cell (width symbols) T.t9 s 0 ≡ 1 → ⊥) → find_name src (width tokens) 0 (rank (token_stays c ws) (count_at c tokens)) (closed (token_stays c ws) (width tokens) (count_at c tokens) T.t1).cells (cell (width symbols) T.t9 s kind_name) (cell (width symbols) T.t9 s (kind_name + 1)) ≡ Some (rank (token_stays c ws) (cell (width symbols) T.t9 s known_row))
       token_new k = find_new src (token_stays c ws) (width tokens) (count_at c tokens) T.t1 ready.tokens_fit (omega arith) _ _ _ (token_found_lem p s there from to k) (token_kept k)
 
     -- the token of its `%prec` stays

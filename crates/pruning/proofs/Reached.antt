@@ -1,4 +1,5 @@
 -- After pruning every rule stays: what stayed is reached again, by new numbers. Assumes nothing.
+use Rattle.std.specs.Prelude.{Option, Some, None}
 use Prim.Native.Nat.{ℕ, ◌+◌, ◌≤◌, ◌<◌}
 use mathlib.Core.Path.{◌≡◌, refl, ◌∙◌}
 use mathlib.Core.List.{List}
@@ -10,8 +11,6 @@ use borrow.Author.Tests.{eq-eqb, eqb-true}
 use Rattle.scan.proofs.Bytes.{told}
 use Rattle.tables.specs.Layout.{tokens, avoided, implicit, epps, unused, rules, productions, symbols, width}
 use Rattle.grammar.specs.declared.Counts.{Counts}
-use Rattle.grammar.specs.declared.Part.{Part}
-use Rattle.grammar.specs.declared.Part.TheVariants.{Absent, At}
 use Rattle.grammar.specs.Sound.{Tables, Indexes}
 use Rattle.sound.specs.Test.{count_at}
 use Rattle.bits.specs.Bits.{bit}
@@ -32,7 +31,7 @@ count_else c a b d e f g k p q r s t u =
     ∙ (get_or-set_other (set (set (set c.n tokens a) avoided b) epps d) rules k e 0 s
     ∙ (get_or-set_other (set (set c.n tokens a) avoided b) epps k d 0 r ∙ (get_or-set_other (set c.n tokens a) avoided k b 0 q ∙ get_or-set_other c.n tokens k a 0 p))))
 
-module _ (src : List ℕ) (c : Counts) (from : Part) (T : Tables) (X : Indexes) (ws : List ℕ) (ready : Ready c T) where
+module _ (src : List ℕ) (c : Counts) (from : Option (ℕ × ℕ)) (T : Tables) (X : Indexes) (ws : List ℕ) (ready : Ready c T) where
   unfoldable pub before : Grammar
   before = grammar_of src c from T.t1 T.t7 T.t8 T.t9
 
@@ -105,9 +104,9 @@ module _ (src : List ℕ) (c : Counts) (from : Part) (T : Tables) (X : Indexes) 
     unfolding before
     staying_in s = chain_in s.chain (root_in s.begins)
       where
-        begins_in : (q : Part) {r : ℕ} → Begins src before.rules q r → r < before.rules.sort.count
-        begins_in Absent x = absurd x
-        begins_in (At a b) x = x.inside
+        begins_in : (q : Option (ℕ × ℕ)) {r : ℕ} → Begins src before.rules q r → r < before.rules.sort.count
+        begins_in None x = absurd x
+        begins_in (Some (a, b)) x = x.inside
 
         root_in : {r : ℕ} → Root before excuses r → r < before.rules.sort.count
         root_in (start_rule x) = begins_in from x
@@ -132,9 +131,9 @@ module _ (src : List ℕ) (c : Counts) (from : Part) (T : Tables) (X : Indexes) 
     unfolding before after pruned
     root_forth {r} s (start_rule x) = start_rule (begins from x)
       where
-        begins : (q : Part) → Begins src before.rules q r → Begins src after.rules q (rank (rule_stays ws) r)
-        begins Absent y = absurd y
-        begins (At a b) y = rule_calls s y
+        begins : (q : Option (ℕ × ℕ)) → Begins src before.rules q r → Begins src after.rules q (rank (rule_stays ws) r)
+        begins None y = absurd y
+        begins (Some (a, b)) y = rule_calls s y
     root_forth {r} s (excused_rule h x) =
         let e = closed_row (rule_stays ws) (width rules) (count_at c rules) T.t7 r ready.rules_fit h s in
         let u = (closed (rule_stays ws) (width rules) (count_at c rules) T.t7).cells in

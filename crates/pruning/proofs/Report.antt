@@ -1,4 +1,5 @@
 -- The report of the pruned tables. Assumes nothing.
+use Rattle.std.specs.Prelude.{Option}
 use Prim.Native.Nat.{ℕ, zero, suc, ◌≤◌, ◌<◌}
 use mathlib.Core.Path.{◌≡◌, refl, ap}
 use mathlib.Core.List.{List, [], ◌∷◌, ◌++◌}
@@ -6,7 +7,6 @@ use mathlib.Core.Bool.{Bool, true, false}
 use native.Mathlib.Omega.{arith}
 use Rattle.tables.specs.Layout.{tokens, rules, width}
 use Rattle.grammar.specs.declared.Counts.{Counts}
-use Rattle.grammar.specs.declared.Part.{Part}
 use Rattle.grammar.specs.Sound.{Tables, Indexes}
 use Rattle.sound.specs.Test.{count_at}
 use Rattle.usage.specs.Report.{ExcusedRow, UnusedRule, UnusedToken, Picks, none, take, skip}
@@ -62,7 +62,7 @@ module _ (stays : ℕ → Bool) where
       go true e x = rw (rank_yes n e) (skip x (λ z. a ((f n (omega arith) e).1 z)))
       go false e x = rw (rank_no n e) x
 
-module _ (src : List ℕ) (c : Counts) (from : Part) (T : Tables) (X : Indexes) (ws : List ℕ) (ready : Ready c T) (work : StayWork (before src c from T X ws ready) (excuses src c from T X ws ready) ws) where
+module _ (src : List ℕ) (c : Counts) (from : Option (ℕ × ℕ)) (T : Tables) (X : Indexes) (ws : List ℕ) (ready : Ready c T) (work : StayWork (before src c from T X ws ready) (excuses src c from T X ws ready) ws) where
   -- excuses by name are the same
   Same : Type 0 → Type 0 → Type 0
   Same X Y = (X → Y) × (Y → X)

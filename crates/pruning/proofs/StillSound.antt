@@ -1,4 +1,5 @@
 -- The pruned tables are sound, with their indexes and with the rows that symbols have. Assumes nothing.
+use Rattle.std.specs.Prelude.{Ok}
 use Prim.Native.Nat.{ℕ, zero, suc, ◌+◌, ◌≤◌, ◌<◌}
 use mathlib.Core.Path.{◌≡◌, refl, sym, ap, ap₂, ◌∙◌}
 use mathlib.Core.List.{List, []}
@@ -19,7 +20,6 @@ use Rattle.grammar.specs.declared.Counts.{Counts}
 use Rattle.grammar.specs.declared.Singles.{Singles}
 use Rattle.grammar.specs.Sound.{Tables, tab, Indexes, SoundIndexes, View, KindRow, ProductionRow, Table, sound_view, lexicon_of, Sound}
 use Rattle.sound.specs.Test.{count_at}
-use Rattle.validation.specs.declared.Validity.TheVariants.{Valid}
 use Rattle.validation.specs.Faults.{validity}
 use Rattle.closing.specs.Close.{rank}
 use Rattle.closing.proofs.Numbers.{From, rank_from, rank_below, kept_at, kept_length, closed_length, closed_rows}
@@ -61,7 +61,7 @@ symbol_row_lem src c ws x y =
     let k2 = get_or-set_other x known_row (kind_name + 1) v 0 (λ q. omega arith) in
     record { least = rw k0 y.least; most = rw k0 y.most; name = rw (k1, k2) y.name }
 
-module _ (src : List ℕ) (c : Counts) (g : Singles) (T : Tables) (X : Indexes) (ws : List ℕ) (ten : length c.n ≡ 10) (v : validity src c g T X ≡ Valid) (work : StayWork (grammar_in src g.start c T) (excuses_in src c T) ws) where
+module _ (src : List ℕ) (c : Counts) (g : Singles) (T : Tables) (X : Indexes) (ws : List ℕ) (ten : length c.n ≡ 10) (v : validity src c g T X ≡ Ok tt) (work : StayWork (grammar_in src g.start c T) (excuses_in src c T) ws) where
   abbrev ok : Ready c T
   ok = ready src c g T X ws ten v work
 

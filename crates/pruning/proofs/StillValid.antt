@@ -1,4 +1,5 @@
 -- "The pruned tables validate": every name that is left is still known. Assumes nothing.
+use Rattle.std.specs.Prelude.{Option, Some, None, Ok}
 use Prim.Native.Nat.{ℕ, ◌+◌, ◌-◌, ◌≤◌, ◌<◌}
 use mathlib.Core.Path.{◌≡◌, refl, sym, ap, ◌∙◌}
 use mathlib.Core.List.{List, []}
@@ -6,23 +7,18 @@ use mathlib.Core.Bool.{Bool, true, false, ◌||◌}
 use native.Mathlib.Omega.{arith}
 use lib.ListN.{length}
 use Rattle.scan.proofs.Bytes.{told}
-use Rattle.tables.specs.declared.Found.{Found}
-use Rattle.tables.specs.declared.Found.TheVariants.{RowAt, NoRow}
 use Rattle.tables.specs.Table.{cell, find_name}
 use Rattle.tables.specs.Rows.{row_at}
 use Rattle.tables.specs.Layout.{tokens, precedences, implicit, epps, unused, rules, productions, symbols, key_name, symbols_from, symbols_to, prec, kind_name, known_row, width}
 use Rattle.tables.proofs.Rows.{row_cell}
 use Rattle.tables.proofs.Cases.{find_iff}
 use Rattle.grammar.specs.declared.Counts.{Counts}
-use Rattle.grammar.specs.declared.Part.{Part}
-use Rattle.grammar.specs.declared.Part.TheVariants.{Absent, At}
 use Rattle.grammar.specs.declared.Singles.{Singles}
 use Rattle.grammar.specs.Sound.{Tables, Indexes}
 use Rattle.productions.specs.Cells.{production_at}
 use Rattle.sound.specs.Test.{count_at}
 use Rattle.sound.proofs.Iff.{sound_iff}
 use Rattle.validation.specs.declared.Flaw.TheVariants.{InvalidStartRule, UnknownEppKey}
-use Rattle.validation.specs.declared.Validity.TheVariants.{Valid}
 use Rattle.validation.specs.Faults.{is_row, known, start_faults, prec_faults, kind_faults, epp_faults, validity}
 use Rattle.validation.proofs.Order.{validity_first}
 use Rattle.reach.specs.Reach.{Calls}
@@ -51,7 +47,7 @@ or_second : (p q : Bool) → q ≡ true → (p || q) ≡ true
 or_second true q e = refl
 or_second false q e = e
 
-module _ (src : List ℕ) (c : Counts) (g : Singles) (T : Tables) (X : Indexes) (ws : List ℕ) (ten : length c.n ≡ 10) (v : validity src c g T X ≡ Valid) (work : StayWork (grammar_in src g.start c T) (excuses_in src c T) ws) where
+module _ (src : List ℕ) (c : Counts) (g : Singles) (T : Tables) (X : Indexes) (ws : List ℕ) (ten : length c.n ≡ 10) (v : validity src c g T X ≡ Ok tt) (work : StayWork (grammar_in src g.start c T) (excuses_in src c T) ws) where
   abbrev ok : Ready c T
   ok = ready src c g T X ws ten v work
 
@@ -74,10 +70,10 @@ module _ (src : List ℕ) (c : Counts) (g : Singles) (T : Tables) (X : Indexes) 
   token_still a b t s x = calls_known src (after src c g.start T X ws ok).tokens a b (rank (token_stays c ws) t) (token_calls src c g.start T X ws ok s x)
 
   -- the start
-  start_still : (p : Part) → p ≡ g.start → start_faults src p T.t7 (count_at c rules) ≡ [] → start_faults src p made.tables.t7 (count_at made.counts rules) ≡ []
+  start_still : (p : Option (ℕ × ℕ)) → p ≡ g.start → start_faults src p T.t7 (count_at c rules) ≡ [] → start_faults src p made.tables.t7 (count_at made.counts rules) ≡ []
   unfolding before
-  start_still Absent q e = let z : ◌≡◌ {A = ℕ} 0 1 = cc in absurd (omega arith)
-  start_still (At a b) q e =
+  start_still None q e = let z : ◌≡◌ {A = ℕ} 0 1 = cc in absurd (omega arith)
+  start_still (Some (a, b)) q e =
       let x = known_calls src (before src c g.start T X ws ok).rules a b (unless_none (known src T.t7 (width rules) (count_at c rules) a b) (InvalidStartRule a b) e) in
       none_unless (known src made.tables.t7 (width rules) (count_at made.counts rules) a b) (InvalidStartRule a b)
       (rule_still a b x.0 (start_stays src c g T X ws ten v work x.0 (rw (← q) x.1)) x.1)
@@ -141,11 +137,11 @@ module _ (src : List ℕ) (c : Counts) (g : Singles) (T : Tables) (X : Indexes) 
       (λ k. or_first now-token now-implicit (token (find_name src (width tokens) 0 (count_at c tokens) T.t1 a b) refl k s))
       (λ k. or_second now-token now-implicit (ap (λ (m : ℕ). known src T.t4 (width implicit) m a b) (sym n) ∙ k))
     where
-      token : (f : Found) → find_name src (width tokens) 0 (count_at c tokens) T.t1 (cell (width epps) T.t5 r key_name) (cell (width epps) T.t5 r (key_name + 1)) ≡ f → is_row f ≡ true → found_stays f c ws ≡ true → known src made.tables.t1 (width tokens) (count_at made.counts tokens) (cell (width epps) T.t5 r key_name) (cell (width epps) T.t5 r (key_name + 1)) ≡ true
-      token (RowAt t) e k d =
+      token : (f : Option ℕ) → find_name src (width tokens) 0 (count_at c tokens) T.t1 (cell (width epps) T.t5 r key_name) (cell (width epps) T.t5 r (key_name + 1)) ≡ f → is_row f ≡ true → found_stays f c ws ≡ true → known src made.tables.t1 (width tokens) (count_at made.counts tokens) (cell (width epps) T.t5 r key_name) (cell (width epps) T.t5 r (key_name + 1)) ≡ true
+      token (Some t) e k d =
           let x = (find_iff src (width tokens) 0 (count_at c tokens) T.t1 (cell (width epps) T.t5 r key_name) (cell (width epps) T.t5 r (key_name + 1)) t).0 e in
           token_still _ _ t d (record { inside = x.inside; same = x.named })
-      token NoRow e k d = let z : ◌≡◌ {A = ℕ} 0 1 = cc in absurd (omega arith)
+      token None e k d = let z : ◌≡◌ {A = ℕ} 0 1 = cc in absurd (omega arith)
 
   epp_still : (r : ℕ) → r < count_at made.counts epps → epp_faults src made.tables.t1 (count_at made.counts tokens) made.tables.t4 (count_at made.counts implicit) made.tables.t5 r ≡ []
   unfolding epp_faults made pruned
@@ -190,7 +186,7 @@ module _ (src : List ℕ) (c : Counts) (g : Singles) (T : Tables) (X : Indexes) 
       }
 
   -- "The pruned tables validate"
-  pub still_valid : validity src (pruned src c T X ws).counts g (pruned src c T X ws).tables (pruned src c T X ws).indexes ≡ Valid
+  pub still_valid : validity src (pruned src c T X ws).counts g (pruned src c T X ws).tables (pruned src c T X ws).indexes ≡ Ok tt
   unfolding made
   still_valid =
       let p = pruned src c T X ws in

@@ -1,5 +1,6 @@
 -- Request Eight, of tables that validate and of the work bits that mark what stays: the pruned tables validate, pruning twice is pruning once, use and the report are the
 -- earlier ones limited to rows that stayed, renumbered. Assumes nothing.
+use Rattle.std.specs.Prelude.{Option, Ok}
 use Prim.Native.Nat.{ℕ, zero, suc, ◌+◌, ◌*◌, ◌-◌, ◌≤◌, ◌<◌}
 use mathlib.Core.Path.{◌≡◌, refl, sym, ◌∙◌}
 use mathlib.Core.List.{List, ◌++◌}
@@ -8,7 +9,6 @@ use mathlib.Core.Logic.{◌↔◌}
 use native.Mathlib.Omega.{arith}
 use lib.ListN.{length, replicate}
 use Rattle.scan.proofs.Bytes.{told}
-use Rattle.tables.specs.declared.Found.{Found}
 use Rattle.tables.specs.Table.{cell}
 use Rattle.tables.specs.Layout.{tokens, avoided, epps, rules, width}
 use Rattle.tables.proofs.Cases.{find_cases}
@@ -17,7 +17,6 @@ use Rattle.grammar.specs.declared.Counts.{Counts}
 use Rattle.grammar.specs.declared.Singles.{Singles}
 use Rattle.grammar.specs.Sound.{Tables, tab, Indexes, Sound}
 use Rattle.sound.specs.Test.{count_at}
-use Rattle.validation.specs.declared.Validity.TheVariants.{Valid}
 use Rattle.validation.specs.Faults.{validity}
 use Rattle.reach.specs.Reach.{Grammar, Calls, Names, Uses, UsedRule, UsedToken}
 use Rattle.reach.proofs.Fair.{fair_sound}
@@ -38,7 +37,7 @@ use Rattle.pruning.proofs.Kept.{sound, ready, resolved, working}
 use Rattle.pruning.proofs.StillSound.{still_sound}
 use Rattle.pruning.proofs.StillValid.{still_valid}
 
-module _ (src : List ℕ) (c : Counts) (g : Singles) (T : Tables) (X : Indexes) (ws : List ℕ) (ten : length c.n ≡ 10) (v : validity src c g T X ≡ Valid) (work : StayWork (grammar_in src g.start c T) (excuses_in src c T) ws) where
+module _ (src : List ℕ) (c : Counts) (g : Singles) (T : Tables) (X : Indexes) (ws : List ℕ) (ten : length c.n ≡ 10) (v : validity src c g T X ≡ Ok tt) (work : StayWork (grammar_in src g.start c T) (excuses_in src c T) ws) where
   abbrev ok : Ready c T
   ok = ready src c g T X ws ten v work
 
@@ -58,7 +57,7 @@ module _ (src : List ℕ) (c : Counts) (g : Singles) (T : Tables) (X : Indexes) 
   excuses_after = excuses_in src left.counts left.tables
 
   -- "The pruned tables validate", so they are sound, with their indexes and with the rows that symbols have.
-  pub pruned_valid : validity src left.counts g left.tables left.indexes ≡ Valid
+  pub pruned_valid : validity src left.counts g left.tables left.indexes ≡ Ok tt
   pruned_valid = still_valid src c g T X ws ten v work
 
   pub pruned_sound : Sound src left.counts g left.tables left.indexes
@@ -96,7 +95,7 @@ module _ (src : List ℕ) (c : Counts) (g : Singles) (T : Tables) (X : Indexes) 
   pub named_row_stays : (w k : ℕ) (t : List ℕ) (r : ℕ) → (row_stays src c T.t1 ws w k t r ≡ true) ↔ ((q : ℕ) → Calls src before.tokens (cell w t r k) (cell w t r (k + 1)) q → token_stays c ws q ≡ true)
   unfolding row_stays name_stays
   named_row_stays w k t r =
-      find_cases (λ (f : Found). (found_stays f c ws ≡ true) ↔ ((q : ℕ) → Calls src before.tokens (cell w t r k) (cell w t r (k + 1)) q → token_stays c ws q ≡ true)) src (width tokens) 0 (count_at c tokens) T.t1 (cell w t r k) (cell w t r (k + 1))
+      find_cases (λ (f : Option ℕ). (found_stays f c ws ≡ true) ↔ ((q : ℕ) → Calls src before.tokens (cell w t r k) (cell w t r (k + 1)) q → token_stays c ws q ≡ true)) src (width tokens) 0 (count_at c tokens) T.t1 (cell w t r k) (cell w t r (k + 1))
       (λ q h e none.
       let x : Calls src before.tokens (cell w t r k) (cell w t r (k + 1)) q = record { inside = h; same = e } in
       (λ s p y. rw ((fair_sound src c g T X (sound src c g T X ws ten v work)).tokens_apart _ _ p q y x) s, λ s. s q x))

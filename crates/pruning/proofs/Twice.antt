@@ -1,4 +1,5 @@
 -- "pruning twice gives the tables of pruning once". Assumes nothing.
+use Rattle.std.specs.Prelude.{Option}
 use Prim.Native.Nat.{ℕ, ◌+◌, ◌≤◌, ◌<◌}
 use mathlib.Core.Path.{◌≡◌, refl, sym, ap, ◌∙◌}
 use mathlib.Core.List.{List, []}
@@ -8,7 +9,6 @@ use native.Mathlib.Decide.{ℕ_discrete}
 use lib.ListN.{length, get_or}
 use lib.Seq.{set-get_or}
 use borrow.Author.Tests.{eq-eqb}
-use Rattle.tables.specs.declared.Found.{Found}
 use Rattle.tables.specs.Table.{cell}
 use Rattle.tables.specs.Rows.{row_at, rows_of}
 use Rattle.tables.specs.Layout.{tokens, avoided, epps, rules, productions, symbols, key_name, rule_row, symbols_from, symbols_to, known_row, width}
@@ -17,7 +17,6 @@ use Rattle.tables.proofs.Cases.{find_cases}
 use Rattle.index.specs.Index.{entries}
 use Rattle.index.proofs.Theorems.{entries_length}
 use Rattle.grammar.specs.declared.Counts.{Counts}
-use Rattle.grammar.specs.declared.Part.{Part}
 use Rattle.grammar.specs.Sound.{Tables, Indexes}
 use Rattle.sound.specs.Test.{count_at}
 use Rattle.bits.specs.Bits.{bit}
@@ -32,7 +31,7 @@ use Rattle.pruning.proofs.Fixed.{rows_back, chained_fixed, symbol_fixed, symbols
 use Rattle.pruning.proofs.Sizes.{long_8, long_9}
 use Rattle.pruning.proofs.Reached.{before, after, excuses, excuses_after, rules_count, tokens_count, every_rule_stays, every_token_stays}
 
-module _ (src : List ℕ) (c : Counts) (from : Part) (T : Tables) (X : Indexes) (ws : List ℕ) (ready : Ready c T) (resolved : Resolved c T) (work : StayWork (before src c from T X ws ready) (excuses src c from T X ws ready) ws) (vs : List ℕ) (again : StayWork (after src c from T X ws ready) (excuses_after src c from T X ws ready) vs) where
+module _ (src : List ℕ) (c : Counts) (from : Option (ℕ × ℕ)) (T : Tables) (X : Indexes) (ws : List ℕ) (ready : Ready c T) (resolved : Resolved c T) (work : StayWork (before src c from T X ws ready) (excuses src c from T X ws ready) ws) (vs : List ℕ) (again : StayWork (after src c from T X ws ready) (excuses_after src c from T X ws ready) vs) where
   unfoldable pub once : Pruned
   once = pruned src c T X ws
 
@@ -67,7 +66,7 @@ module _ (src : List ℕ) (c : Counts) (from : Part) (T : Tables) (X : Indexes) 
   -- a name that a token has stays, and so does one that none has
   names_all : (a b : ℕ) → name_stays src once.counts once.tables.t1 vs a b ≡ true
   unfolding name_stays
-  names_all a b = find_cases (λ (f : Found). found_stays f once.counts vs ≡ true) src (width tokens) 0 (count_at once.counts tokens) once.tables.t1 a b (λ r l e q. tokens_all r l) (λ q. refl)
+  names_all a b = find_cases (λ (f : Option ℕ). found_stays f once.counts vs ≡ true) src (width tokens) 0 (count_at once.counts tokens) once.tables.t1 a b (λ r l e q. tokens_all r l) (λ q. refl)
 
   pub named_all : (w k : ℕ) (t : List ℕ) (r : ℕ) → row_stays src once.counts once.tables.t1 vs w k t r ≡ true
   unfolding row_stays

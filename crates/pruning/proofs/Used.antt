@@ -1,4 +1,5 @@
 -- Use is the same before and after: "the report afterwards is the earlier one limited to rows that stayed, renumbered". Assumes nothing.
+use Rattle.std.specs.Prelude.{Option, Some, None}
 use Prim.Native.Nat.{ℕ}
 use mathlib.Core.Path.{◌≡◌, refl, sym, ◌∙◌}
 use mathlib.Core.List.{List}
@@ -7,8 +8,6 @@ use native.Mathlib.Omega.{arith}
 use lib.ListN.{length}
 use Rattle.scan.proofs.Bytes.{told}
 use Rattle.grammar.specs.declared.Counts.{Counts}
-use Rattle.grammar.specs.declared.Part.{Part}
-use Rattle.grammar.specs.declared.Part.TheVariants.{Absent, At}
 use Rattle.grammar.specs.Sound.{Tables, Indexes}
 use Rattle.reach.specs.Reach.{Grammar, Begins, Calls, Names, Chain, here, next, UsedRule, Uses, symbol, precedence, UsedToken}
 use Rattle.closing.specs.Close.{rank}
@@ -20,7 +19,7 @@ use Rattle.pruning.proofs.Stays.{used_rule_stays}
 use Rattle.pruning.proofs.Back.{Was, calls_back, NamedBy, named_exact, names_back, precs_back}
 use Rattle.pruning.proofs.Reached.{before, after, excuses, rules_count, rule_calls, tokens_count, token_names, token_precs, chain_forth, stays_yes}
 
-module _ (src : List ℕ) (c : Counts) (from : Part) (T : Tables) (X : Indexes) (ws : List ℕ) (ready : Ready c T) where
+module _ (src : List ℕ) (c : Counts) (from : Option (ℕ × ℕ)) (T : Tables) (X : Indexes) (ws : List ℕ) (ready : Ready c T) where
   abbrev old : Grammar
   old = before src c from T X ws ready
 
@@ -70,9 +69,9 @@ module _ (src : List ℕ) (c : Counts) (from : Part) (T : Tables) (X : Indexes) 
   unfolding before after
   chain_back {f} b here = first from b (λ r s. s)
     where
-      first : (q : Part) → Begins src new.rules q f → ((r : ℕ) → Begins src old.rules q r → Begins src old.rules from r) → UsedBefore f
-      first Absent x g = absurd x
-      first (At a e) x g = let w = rule_was a e f x in record { row = w.row; kept = w.kept; same = w.same; used = record { first = w.row; begins = g w.row w.calls; chain = here } }
+      first : (q : Option (ℕ × ℕ)) → Begins src new.rules q f → ((r : ℕ) → Begins src old.rules q r → Begins src old.rules from r) → UsedBefore f
+      first None x g = absurd x
+      first (Some (a, e)) x g = let w = rule_was a e f x in record { row = w.row; kept = w.kept; same = w.same; used = record { first = w.row; begins = g w.row w.calls; chain = here } }
   chain_back b (next q n) = more (chain_back b q) (rules_back n)
     where
       more : {k j : ℕ} → UsedBefore k → NamedBy Names src c T ws (rule_stays ws) old.rules k j → UsedBefore j
@@ -89,9 +88,9 @@ module _ (src : List ℕ) (c : Counts) (from : Part) (T : Tables) (X : Indexes) 
       go x = told (UsedRule old) (rank_inject (rule_stays ws) x.row r x.kept s x.same) x.used
 
   -- and the other way round
-  begins_forth : (q : Part) (r : ℕ) → rule_stays ws r ≡ true → Begins src old.rules q r → Begins src new.rules q (rank (rule_stays ws) r)
-  begins_forth Absent r s x = absurd x
-  begins_forth (At a b) r s x = rule_calls src c from T X ws ready s x
+  begins_forth : (q : Option (ℕ × ℕ)) (r : ℕ) → rule_stays ws r ≡ true → Begins src old.rules q r → Begins src new.rules q (rank (rule_stays ws) r)
+  begins_forth None r s x = absurd x
+  begins_forth (Some (a, b)) r s x = rule_calls src c from T X ws ready s x
 
   pub used_forth : StayWork old (excuses src c from T X ws ready) ws → (r : ℕ) → UsedRule old r → UsedRule new (rank (rule_stays ws) r)
   unfolding before after

@@ -1,8 +1,6 @@
 -- Document 02, request Eight: the pruned tables, by the work bits: every cell is determined. "Rows close up in their old order, freed rows are zero [..], and stored row
 -- numbers and indexes follow."
-use Rattle.std.specs.Prelude.{ℕ, zero, suc, ◌+◌, ◌-◌, ◌≤◌, ◌<◌, ◌≡◌, List, [], ◌∷◌, ◌++◌, Bool, true, false, eqb, length, get_or, set}
-use Rattle.tables.specs.declared.Found.{Found}
-use Rattle.tables.specs.declared.Found.TheVariants.{RowAt, NoRow}
+use Rattle.std.specs.Prelude.{ℕ, zero, suc, ◌+◌, ◌-◌, ◌≤◌, ◌<◌, ◌≡◌, List, [], ◌∷◌, ◌++◌, Bool, true, false, eqb, length, get_or, set, Option, Some, None, Result, Ok, Err}
 use Rattle.tables.specs.Table.{cell, find_name, zeroed}
 use Rattle.tables.specs.Rows.{row_at}
 use Rattle.tables.specs.Layout.{tokens, avoided, epps, rules, productions, symbols, key_name, rule_row, symbols_from, symbols_to, known_row, width}
@@ -11,14 +9,14 @@ use Rattle.grammar.specs.declared.Counts.{Counts}
 use Rattle.grammar.specs.declared.Singles.{Singles}
 use Rattle.grammar.specs.Sound.{Tables, Indexes}
 use Rattle.sound.specs.Test.{count_at}
-use Rattle.validation.specs.declared.Validity.{Validity}
-use Rattle.validation.specs.declared.Validity.TheVariants.{Valid, UnsoundTables, Invalid}
+use Rattle.validation.specs.declared.ValidityError.{ValidityError}
+use Rattle.validation.specs.declared.ValidityError.TheVariants.{UnsoundTables, Invalid}
 use Rattle.validation.specs.Faults.{flaw_numbers, validity}
 use Rattle.reach.specs.Reach.{Grammar, token_sort, need}
 use Rattle.usage.specs.Report.{Excuses}
 use Rattle.closing.specs.Close.{Step, kept_rows, rank, table_of, by_bit, closed}
-use Rattle.pruning.specs.declared.Pruning.{Pruning}
-use Rattle.pruning.specs.declared.Pruning.TheVariants.{AllPruned, PruningUnsound, PruningInvalid, PruningNoWords}
+use Rattle.pruning.specs.declared.PruningError.{PruningError}
+use Rattle.pruning.specs.declared.PruningError.TheVariants.{PruningUnsound, PruningInvalid, PruningNoWords}
 use Rattle.pruning.specs.Stays.{StayWork}
 use Rattle.pruning.specs.Again.{grammar_in, excuses_in}
 
@@ -31,9 +29,9 @@ abbrev pub token_stays : Counts → List ℕ → ℕ → Bool
 token_stays c ws t = by_bit ws (token_sort c).base t
 
 -- "Avoid and `%epp` rows of dropped tokens go": a row's name is that of a token that stays, or of no token
-abbrev pub found_stays : Found → Counts → List ℕ → Bool
-found_stays (RowAt t) c ws = token_stays c ws t
-found_stays NoRow c ws = true
+abbrev pub found_stays : Option ℕ → Counts → List ℕ → Bool
+found_stays (Some t) c ws = token_stays c ws t
+found_stays None c ws = true
 
 -- the name from a to b
 unfoldable pub name_stays : List ℕ → Counts → List ℕ → List ℕ → ℕ → ℕ → Bool
@@ -140,11 +138,11 @@ pruned src c T X ws =
 -- ---- the outcome
 
 -- number, place and table number (0 unless 42): "Refusals: 44, then validation's number, then 42 for work bits"
-abbrev pub pruning_numbers : Pruning → List ℕ
-pruning_numbers AllPruned = 0 ∷ 0 ∷ 0 ∷ 0 ∷ []
-pruning_numbers PruningUnsound = 44 ∷ 0 ∷ 0 ∷ 0 ∷ []
-pruning_numbers (PruningInvalid f) = flaw_numbers f ++ (0 ∷ [])
-pruning_numbers PruningNoWords = 42 ∷ 0 ∷ 0 ∷ 11 ∷ []
+abbrev pub pruning_numbers : Result (Unit {0}) PruningError → List ℕ
+pruning_numbers (Ok _) = 0 ∷ 0 ∷ 0 ∷ 0 ∷ []
+pruning_numbers (Err PruningUnsound) = 44 ∷ 0 ∷ 0 ∷ 0 ∷ []
+pruning_numbers (Err (PruningInvalid f)) = flaw_numbers f ++ (0 ∷ [])
+pruning_numbers (Err PruningNoWords) = 42 ∷ 0 ∷ 0 ∷ 11 ∷ []
 
 -- what is lent and answered: counts, tables, indexes and work bits
 pub record Lent : Type 0 where
@@ -168,19 +166,19 @@ pub record Prunes (src : List ℕ) (g : Grammar) (x : Excuses) (a b : Lent) : Ty
   pub same : record { counts = b.counts; tables = b.tables; indexes = b.indexes } ≡ pruned src a.counts a.tables a.indexes b.work
 
 -- of tables that are valid: pruned, or "42 for work bits"
-abbrev pub ValidPruning : List ℕ → Grammar → Excuses → Pruning → Lent → Lent → Type 0
-ValidPruning src g x AllPruned a b = Prunes src g x a b
-ValidPruning src g x PruningUnsound a b = ⊥
-ValidPruning src g x (PruningInvalid f) a b = ⊥
-ValidPruning src g x PruningNoWords a b = (length a.work < need g) × Unchanged a b
+abbrev pub ValidPruning : List ℕ → Grammar → Excuses → Result (Unit {0}) PruningError → Lent → Lent → Type 0
+ValidPruning src g x (Ok _) a b = Prunes src g x a b
+ValidPruning src g x (Err PruningUnsound) a b = ⊥
+ValidPruning src g x (Err (PruningInvalid f)) a b = ⊥
+ValidPruning src g x (Err PruningNoWords) a b = (length a.work < need g) × Unchanged a b
 
 -- "44, then validation's number", then what valid tables give
-abbrev pub ToldPruning : Validity → List ℕ → Grammar → Excuses → Pruning → Lent → Lent → Type 0
-ToldPruning Valid src g x o a b = ValidPruning src g x o a b
-ToldPruning UnsoundTables src g x o a b = (o ≡ PruningUnsound) × Unchanged a b
-ToldPruning (Invalid f) src g x o a b = (o ≡ PruningInvalid f) × Unchanged a b
+abbrev pub ToldPruning : Result (Unit {0}) ValidityError → List ℕ → Grammar → Excuses → Result (Unit {0}) PruningError → Lent → Lent → Type 0
+ToldPruning (Ok _) src g x o a b = ValidPruning src g x o a b
+ToldPruning (Err UnsoundTables) src g x o a b = (o ≡ Err PruningUnsound) × Unchanged a b
+ToldPruning (Err (Invalid f)) src g x o a b = (o ≡ Err (PruningInvalid f)) × Unchanged a b
 
 -- the whole outcome of pruning
-abbrev pub Prunings : List ℕ → Singles → Pruning → Lent → Lent → Type 0
+abbrev pub Prunings : List ℕ → Singles → Result (Unit {0}) PruningError → Lent → Lent → Type 0
 Prunings src g o a b =
     ToldPruning (validity src a.counts g a.tables a.indexes) src (grammar_in src g.start a.counts a.tables) (excuses_in src a.counts a.tables) o a b

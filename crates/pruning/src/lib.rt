@@ -5,8 +5,7 @@ use validation::Flaw;
 
 // An enum holds no array, so the counts that are left are answered beside it.
 #[derive(Clone, Copy)]
-pub enum Pruning {
-    AllPruned,
+pub enum PruningError {
     PruningUnsound,
     PruningInvalid(Flaw),
     // Too few words for the work bits.

@@ -1,4 +1,5 @@
 -- What the C names' proofs cite: what is made of a reading's numbers, and each operation's answer in numbers. Assumes nothing.
+use Rattle.std.specs.Prelude.{Option, Result, Ok, Err}
 use Prim.Native.Nat.{ℕ, ◌≤◌, ◌<◌}
 use mathlib.Core.Path.{◌≡◌, refl, sym, ap, ◌∙◌}
 use mathlib.Core.Bool.{Bool, true, false}
@@ -25,24 +26,24 @@ use Rattle.loading.specs.Load.{judgement_numbers, LoadResult, load_all}
 use Rattle.loading.proofs.Theorems.{flaw_number_lem}
 use Rattle.sound.specs.Test.{count_at, sound_test}
 use Rattle.sound.proofs.Iff.{sound_iff}
-use Rattle.validation.specs.declared.Validity.{Validity}
-use Rattle.validation.specs.declared.Validity.TheVariants.{Valid, UnsoundTables, Invalid}
+use Rattle.validation.specs.declared.ValidityError.{ValidityError}
+use Rattle.validation.specs.declared.ValidityError.TheVariants.{UnsoundTables, Invalid}
 use Rattle.validation.specs.declared.Flaw.{Flaw}
 use Rattle.validation.specs.Faults.{flaw_numbers, validity_numbers, validity}
-use Rattle.validation.specs.declared.FaultListing.{FaultListing}
+use Rattle.validation.specs.declared.FaultsError.{FaultsError}
 use Rattle.validation.specs.Walk.{AllFaults, fault_listing, fault_listing_numbers}
-use Rattle.usage.specs.declared.Listing.{Listing}
-use Rattle.usage.specs.declared.Marking.{Marking}
+use Rattle.usage.specs.declared.ListingError.{ListingError}
+use Rattle.usage.specs.declared.MarkingError.{MarkingError}
 use Rattle.usage.specs.Report.{listing_numbers, marking_numbers, Reported, MarkedBits}
-use Rattle.pruning.specs.declared.Pruning.{Pruning}
+use Rattle.pruning.specs.declared.PruningError.{PruningError}
 use Rattle.pruning.specs.Pruned.{pruning_numbers, Prunings}
-use Rattle.walks.specs.declared.Next.{Next}
+use Rattle.walks.specs.declared.NextError.{NextError}
 use Rattle.walks.specs.declared.Standing.{Standing}
 use Rattle.walks.specs.Walk.{next_numbers, next_spot, Advanced}
 use Rattle.names.specs.Name.{nowhere, row_place, name_place}
-use Rattle.values.specs.declared.Valuation.{Valuation}
+use Rattle.values.specs.declared.ValuationError.{ValuationError}
 use Rattle.values.specs.Value.{valuation_numbers, Valued, epp_value}
-use Rattle.storing.specs.declared.Storing.{Storing}
+use Rattle.storing.specs.declared.StoringError.{StoringError}
 use Rattle.storing.specs.Storing.{StoreResult, storing_numbers, store_all}
 use Rattle.restoring.specs.Restoring.{Restored, restored}
 use Rattle.shipping.specs.Shipping.{ShipResult, shipment_numbers, shipping}
@@ -55,16 +56,16 @@ use Rattle.quiltrudder.specs.Face.{halves, spot_cells, loading_numbers, LoadFace
 pub flaw_from : (f : Flaw) (z : List ℕ) → get_or (flaw_numbers f ++ z) 1 0 ≡ get_or (flaw_numbers f) 1 0
 flaw_from f z = get_or-append (flaw_numbers f) z 0 1 (rw (flaw_number_lem f).0 (omega arith))
 
-pub validity_from : (v : Validity) → get_or (validity_numbers v ++ (0 ∷ [])) 1 0 ≡ get_or (validity_numbers v) 1 0
-validity_from Valid = refl
-validity_from UnsoundTables = refl
-validity_from (Invalid f) = flaw_from f (0 ∷ [])
+pub validity_from : (v : Result (Unit {0}) ValidityError) → get_or (validity_numbers v ++ (0 ∷ [])) 1 0 ≡ get_or (validity_numbers v) 1 0
+validity_from (Ok _) = refl
+validity_from (Err UnsoundTables) = refl
+validity_from (Err (Invalid f)) = flaw_from f (0 ∷ [])
 
 module _ (src : List ℕ) (t : Told) (s : Spot) (hs : s ≡ answer_spot src (told_numbers t)) where
   pub spot_told : (l : List ℕ) → told_numbers t ≡ l → s ≡ answer_spot src l
   spot_told l h = hs ∙ ap (answer_spot src) h
 
-  pub spot_validity : (v : Validity) → told_numbers t ≡ validity_numbers v ++ (0 ∷ []) → s ≡ answer_spot src (validity_numbers v)
+  pub spot_validity : (v : Result (Unit {0}) ValidityError) → told_numbers t ≡ validity_numbers v ++ (0 ∷ []) → s ≡ answer_spot src (validity_numbers v)
   spot_validity v h = spot_told _ h ∙ ap (spot_at src) (validity_from v)
 
   pub spot_counted : (l : List ℕ) → told_numbers t ≡ take 4 l → s ≡ answer_spot src l
@@ -87,28 +88,28 @@ counted src t l n s a ht hn hs ha =
 
 -- the others, on what is made of a reading's numbers
 module _ (src m : List ℕ) (T : Tables) (X : Indexes) (c : Counts) (g : Singles) (hc : c ≡ counts_of m) (hg : g ≡ singles_of m) where
-  pub face_validity : (t : Told) (v : Validity) (s : Spot) → v ≡ validity src c g T X → told_numbers t ≡ validity_numbers v ++ (0 ∷ []) → s ≡ answer_spot src (validity_numbers v) → told_numbers t ++ spot_cells s ≡ validate_face src m T X
+  pub face_validity : (t : Told) (v : Result (Unit {0}) ValidityError) (s : Spot) → v ≡ validity src c g T X → told_numbers t ≡ validity_numbers v ++ (0 ∷ []) → s ≡ answer_spot src (validity_numbers v) → told_numbers t ++ spot_cells s ≡ validate_face src m T X
   face_validity t v s hv ht hs =
       let e : validity src c g T X ≡ validity src (counts_of m) (singles_of m) T X = rw (hc, hg) in
       ap (λ (x : List ℕ). x ++ spot_cells s) ht ∙ ap (λ (x : Spot). validity_numbers v ++ (0 ∷ []) ++ spot_cells x) hs ∙ ap (validity_cells src) (hv ∙ e)
 
-  pub face_faults : (t₀ u a : List ℕ) (l : FaultListing) (t : Told) (n : ℕ) (s : Spot) → ◌≡◌ {A = AllFaults} (record { answer = l; cells = u }) (fault_listing src c g T X t₀) → told_numbers t ≡ take 4 (fault_listing_numbers l) → n ≡ get_or (fault_listing_numbers l) 4 0 → s ≡ answer_spot src (fault_listing_numbers l) → a ≡ told_numbers t ++ halves n ++ spot_cells s
+  pub face_faults : (t₀ u a : List ℕ) (l : Result ℕ FaultsError) (t : Told) (n : ℕ) (s : Spot) → ◌≡◌ {A = AllFaults} (record { answer = l; cells = u }) (fault_listing src c g T X t₀) → told_numbers t ≡ take 4 (fault_listing_numbers l) → n ≡ get_or (fault_listing_numbers l) 4 0 → s ≡ answer_spot src (fault_listing_numbers l) → a ≡ told_numbers t ++ halves n ++ spot_cells s
       → ◌≡◌ {A = FaultsFace} (record { answer = a; cells = u }) (faults_face src m T X t₀)
   face_faults t₀ u a l t n s e ht hn hs ha =
       let k : a ≡ fault_listing_cells src l = counted src t (fault_listing_numbers l) n s a ht hn hs ha in
       let f : ◌≡◌ {A = AllFaults} (record { answer = l; cells = u }) (fault_listing src (counts_of m) (singles_of m) T X t₀) = rw (hc, hg) at e in
       rw k (ap (faults_face_of src) f)
 
-  pub face_report : (ws₀ ws out₀ out a : List ℕ) (l : Listing) (t : Told) (n : ℕ) (s : Spot) → Reported src c g T X l ws₀ ws out₀ out → told_numbers t ≡ take 4 (listing_numbers l) → n ≡ get_or (listing_numbers l) 4 0 → s ≡ answer_spot src (listing_numbers l) → a ≡ told_numbers t ++ halves n ++ spot_cells s → ReportFace src m T X ws₀ ws out₀ out a
+  pub face_report : (ws₀ ws out₀ out a : List ℕ) (l : Result ℕ ListingError) (t : Told) (n : ℕ) (s : Spot) → Reported src c g T X l ws₀ ws out₀ out → told_numbers t ≡ take 4 (listing_numbers l) → n ≡ get_or (listing_numbers l) 4 0 → s ≡ answer_spot src (listing_numbers l) → a ≡ told_numbers t ++ halves n ++ spot_cells s → ReportFace src m T X ws₀ ws out₀ out a
   face_report ws₀ ws out₀ out a l t n s p ht hn hs ha = record { listing = l; reported = rw (hc, hg) at p; numbers = counted src t (listing_numbers l) n s a ht hn hs ha }
 
-  pub face_mark : (ws₀ ws : List ℕ) (k : Marking) (t : Told) (s : Spot) → MarkedBits src c g T X k ws₀ ws → told_numbers t ≡ marking_numbers k → s ≡ answer_spot src (marking_numbers k) → MarkFace src m T X ws₀ ws (told_numbers t ++ spot_cells s)
+  pub face_mark : (ws₀ ws : List ℕ) (k : Result (Unit {0}) MarkingError) (t : Told) (s : Spot) → MarkedBits src c g T X k ws₀ ws → told_numbers t ≡ marking_numbers k → s ≡ answer_spot src (marking_numbers k) → MarkFace src m T X ws₀ ws (told_numbers t ++ spot_cells s)
   face_mark ws₀ ws k t s p ht hs = record { marking = k; marked = rw (hc, hg) at p; numbers = ap (λ (x : List ℕ). x ++ spot_cells s) ht ∙ ap (λ (x : Spot). marking_numbers k ++ spot_cells x) hs }
 
-  pub face_next : (ws at₀ a : List ℕ) (n : Next) (u : Standing) (s : Spot) → Advanced src c g T X ws (standing_of at₀) n u → s ≡ next_spot src n → a ≡ next_numbers n ++ spot_cells s → NextFace src m T X ws at₀ (standing_cells u) a
+  pub face_next : (ws at₀ a : List ℕ) (n : Result (Option (ℕ × ℕ)) NextError) (u : Standing) (s : Spot) → Advanced src c g T X ws (standing_of at₀) n u → s ≡ next_spot src n → a ≡ next_numbers n ++ spot_cells s → NextFace src m T X ws at₀ (standing_cells u) a
   face_next ws at₀ a n u s p hs ha = record { next = n; stands = u; advanced = rw (hc, hg) at p; record_is = refl; numbers = ha ∙ ap (λ (x : Spot). next_numbers n ++ spot_cells x) hs }
 
-  pub face_prune : (m' : List ℕ) (d : Counts) (T' : Tables) (X' : Indexes) (ws₀ ws : List ℕ) (k : Pruning) (t : Told) (s : Spot) → Prunings src g k (record { counts = c; tables = T; indexes = X; work = ws₀ }) (record { counts = d; tables = T'; indexes = X'; work = ws })
+  pub face_prune : (m' : List ℕ) (d : Counts) (T' : Tables) (X' : Indexes) (ws₀ ws : List ℕ) (k : Result (Unit {0}) PruningError) (t : Told) (s : Spot) → Prunings src g k (record { counts = c; tables = T; indexes = X; work = ws₀ }) (record { counts = d; tables = T'; indexes = X'; work = ws })
       → m' ≡ reading_after k d m → told_numbers t ≡ pruning_numbers k → s ≡ answer_spot src (pruning_numbers k) → PruneFace src m m' T T' X X' ws₀ ws (told_numbers t ++ spot_cells s)
   face_prune m' d T' X' ws₀ ws k t s p hm ht hs =
       record { pruning = k; counts = d; pruned = rw (hc, hg) at p; reading = hm; numbers = ap (λ (x : List ℕ). x ++ spot_cells s) ht ∙ ap (λ (x : Spot). pruning_numbers k ++ spot_cells x) hs }
@@ -116,7 +117,7 @@ module _ (src m : List ℕ) (T : Tables) (X : Indexes) (c : Counts) (g : Singles
   pub face_name : (table row : ℕ) (a : List ℕ) → a ≡ name_cells src (name_at src c g T X table row) → a ≡ name_face src m T X table row
   face_name table row a h = h ∙ rw (hc, hg)
 
-  pub face_value : (row : ℕ) (out₀ out a : List ℕ) (v : Valuation) (t : Told) (n : ℕ) (s : Spot) → ◌≡◌ {A = Valued} (record { answer = v; out = out }) (epp_value src c g T X row out₀) → told_numbers t ≡ take 4 (valuation_numbers v) → n ≡ get_or (valuation_numbers v) 4 0 → s ≡ answer_spot src (valuation_numbers v) → a ≡ told_numbers t ++ halves n ++ spot_cells s
+  pub face_value : (row : ℕ) (out₀ out a : List ℕ) (v : Result ℕ ValuationError) (t : Told) (n : ℕ) (s : Spot) → ◌≡◌ {A = Valued} (record { answer = v; out = out }) (epp_value src c g T X row out₀) → told_numbers t ≡ take 4 (valuation_numbers v) → n ≡ get_or (valuation_numbers v) 4 0 → s ≡ answer_spot src (valuation_numbers v) → a ≡ told_numbers t ++ halves n ++ spot_cells s
       → ◌≡◌ {A = ValueFace} (record { answer = a; out = out }) (value_face src m T X row out₀)
   face_value row out₀ out a v t n s e ht hn hs ha =
       let k : a ≡ valuation_cells src v = counted src t (valuation_numbers v) n s a ht hn hs ha in
@@ -125,7 +126,7 @@ module _ (src m : List ℕ) (T : Tables) (X : Indexes) (c : Counts) (g : Singles
 
 -- a reading into blocks
 pub face_store : (src m : List ℕ) (kind : ℕ) (T : AllTables) (X : Indexes) (c : Counts) (q : PosixCounts) (g : Singles) → c ≡ counts_of m → q ≡ posix_of m → g ≡ singles_of m
-    → (out₀ out a : List ℕ) (k : Storing) (t : Told) (n : ℕ) (s : Spot) → ◌≡◌ {A = StoreResult} (record { answer = k; blocks = out }) (store_all src kind c q g T X out₀) → told_numbers t ≡ take 4 (storing_numbers k) → n ≡ get_or (storing_numbers k) 4 0 → s ≡ answer_spot src (told_numbers t) → a ≡ told_numbers t ++ halves n ++ spot_cells s
+    → (out₀ out a : List ℕ) (k : Result ℕ StoringError) (t : Told) (n : ℕ) (s : Spot) → ◌≡◌ {A = StoreResult} (record { answer = k; blocks = out }) (store_all src kind c q g T X out₀) → told_numbers t ≡ take 4 (storing_numbers k) → n ≡ get_or (storing_numbers k) 4 0 → s ≡ answer_spot src (told_numbers t) → a ≡ told_numbers t ++ halves n ++ spot_cells s
     → ◌≡◌ {A = StoreFace} (record { answer = a; blocks = out }) (store_face src kind m T X out₀)
 face_store src m kind T X c q g hc hq hg out₀ out a k t n s e ht hn hs ha =
     let l : a ≡ counted_cells src (storing_numbers k) = counted src t (storing_numbers k) n s a ht hn (spot_counted src t s hs (storing_numbers k) ht) ha in

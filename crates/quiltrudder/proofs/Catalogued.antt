@@ -1,4 +1,5 @@
 -- The catalogue through the C names: what the C name of load left is never unsound for storing, and what was stored comes back with the numbers that the others take. Assumes nothing.
+use Rattle.std.specs.Prelude.{Some, None, Result, Ok, Err}
 use Prim.Native.Nat.{ℕ, zero, suc, ◌+◌, ◌*◌, ◌≤◌, ◌<◌}
 use mathlib.Core.Path.{◌≡◌, refl, sym, ap, ◌∙◌}
 use mathlib.Core.List.{List, [], ◌∷◌, ◌++◌}
@@ -12,9 +13,6 @@ use Rattle.scan.proofs.Bytes.{told}
 use Rattle.places.specs.declared.Spot.{Spot}
 use Rattle.places.specs.Places.{Spotted}
 use Rattle.places.proofs.Meaning.{spot_first, spotted_first}
-use Rattle.grammar.specs.declared.Part.TheVariants.{Absent, At}
-use Rattle.grammar.specs.declared.Expect.TheVariants.{NotExpected, Expected}
-use Rattle.grammar.specs.declared.Param.TheVariants.{NoParam, ParamAt}
 use Rattle.grammar.specs.Numbers.{part_numbers, param_numbers}
 use Rattle.grammar.specs.Sound.{AllTables, Indexes, cells_of}
 use Rattle.sections.specs.Sections.{sized}
@@ -23,13 +21,13 @@ use Rattle.singles.proofs.Laws.{cells_back}
 use Rattle.catalogue.specs.declared.Head.{Head}
 use Rattle.catalogue.specs.Catalogue.{Fit32, Bytes, head_cells, cells_at, sound_reading}
 use Rattle.catalogue.proofs.Contents.{append_below}
-use Rattle.storing.specs.declared.Storing.{Storing}
-use Rattle.storing.specs.declared.Storing.TheVariants.{StoredBlocks, UnknownKind, StoringUnsound, NoBlocks}
+use Rattle.storing.specs.declared.StoringError.{StoringError}
+use Rattle.storing.specs.declared.StoringError.TheVariants.{UnknownKind, StoringUnsound, NoBlocks}
 use Rattle.storing.specs.Storing.{head_with, storing_numbers, store_all}
 use Rattle.storing.proofs.Laws.{reading_iff, reading_short}
 use Rattle.storing.proofs.Theorems.{stored_iff, unsound_iff}
-use Rattle.restoring.specs.declared.Restoring.{Restoring}
-use Rattle.restoring.specs.declared.Restoring.TheVariants.{AllRestored, NotWhole, BadNumber, BadCheck, BadContent, BadSizes, NoSpace, RestoringUnsound}
+use Rattle.restoring.specs.declared.RestoringError.{RestoringError}
+use Rattle.restoring.specs.declared.RestoringError.TheVariants.{NotWhole, BadNumber, BadCheck, BadContent, BadSizes, NoSpace, RestoringUnsound}
 use Rattle.restoring.specs.Restoring.{Restored, restoring_numbers, restored}
 use Rattle.roundtrip.specs.Roundtrip.{Plain, Back}
 use Rattle.roundtrip.proofs.Back.{load_back}
@@ -64,7 +62,7 @@ part_fits : (f a b : ℕ) → a < 4294967296 → b < 4294967296 → Fit32 (part_
 unfolding part_from
 part_fits f a b h k = go (eqb f 0)
   where
-    go : (t : Bool) → Fit32 (part_numbers (elim t [ true ↦ Absent | false ↦ At a b ]))
+    go : (t : Bool) → Fit32 (part_numbers (elim t [ true ↦ None | false ↦ Some (a, b) ]))
     go true = fit_three 0 0 0 (omega arith) (omega arith) (omega arith)
     go false = fit_three 1 a b (omega arith) h k
 
@@ -72,7 +70,7 @@ expect_fits : (f l h a b : ℕ) → l < 4294967296 → h < 4294967296 → a < 42
 unfolding expect_from
 expect_fits f l h a b hl hh ha hb = go (eqb f 0)
   where
-    go : (t : Bool) → Fit32 (expect_cells (elim t [ true ↦ NotExpected | false ↦ Expected (h * 4294967296 + l) a b ]))
+    go : (t : Bool) → Fit32 (expect_cells (elim t [ true ↦ None | false ↦ Some (h * 4294967296 + l, a, b) ]))
     go true = fit_five 0 0 0 0 0 (omega arith) (omega arith) (omega arith) (omega arith) (omega arith)
     go false = fit_five 1 _ _ a b (omega arith) (omega arith) (omega arith) ha hb
 
@@ -80,7 +78,7 @@ param_fits : (f a b c d : ℕ) → a < 4294967296 → b < 4294967296 → c < 429
 unfolding param_from
 param_fits f a b c d ha hb hc hd = go (eqb f 0)
   where
-    go : (t : Bool) → Fit32 (param_numbers (elim t [ true ↦ NoParam | false ↦ ParamAt a b c d ]))
+    go : (t : Bool) → Fit32 (param_numbers (elim t [ true ↦ None | false ↦ Some (a, b, c, d) ]))
     go true = fit_five 0 0 0 0 0 (omega arith) (omega arith) (omega arith) (omega arith) (omega arith)
     go false = fit_five 1 a b c d (omega arith) ha hb hc hd
 
@@ -137,15 +135,15 @@ module _ (n t : ℕ) (h : Head) where
   behind i = reading_behind (n ∷ 0 ∷ 0 ∷ t ∷ []) rest h.counts h.singles refl i
 
 -- Line and column of loading back are those of the place that it answers, 0 in any source;
-restoring_told : (a : Restoring) → restoring_numbers a ≡ get_or (restoring_numbers a) 0 0 ∷ 0 ∷ 0 ∷ get_or (restoring_numbers a) 3 0 ∷ []
-restoring_told AllRestored = refl
-restoring_told NotWhole = refl
-restoring_told BadNumber = refl
-restoring_told BadCheck = refl
-restoring_told BadContent = refl
-restoring_told BadSizes = refl
-restoring_told (NoSpace k) = refl
-restoring_told RestoringUnsound = refl
+restoring_told : (a : Result (Unit {0}) RestoringError) → restoring_numbers a ≡ get_or (restoring_numbers a) 0 0 ∷ 0 ∷ 0 ∷ get_or (restoring_numbers a) 3 0 ∷ []
+restoring_told (Ok _) = refl
+restoring_told (Err NotWhole) = refl
+restoring_told (Err BadNumber) = refl
+restoring_told (Err BadCheck) = refl
+restoring_told (Err BadContent) = refl
+restoring_told (Err BadSizes) = refl
+restoring_told (Err (NoSpace k)) = refl
+restoring_told (Err RestoringUnsound) = refl
 
 pub face_restore_spotted : (src s S : List ℕ) (T : AllTables) (X : Indexes) → CellsSpotted src (restore_face s S T X).answer 1 41
 face_restore_spotted src s S T X =
@@ -165,14 +163,14 @@ module _ (src : List ℕ) (kind : ℕ) (m : List ℕ) (T : AllTables) (X : Index
   told_blocks = get_or said 5 0 * 4294967296 + get_or said 4 0
 
   -- a number of 0 tells how many blocks there are
-  stored_told : get_or said 0 0 ≡ 0 → (store_all src kind (counts_of m) (posix_of m) (singles_of m) T X out).answer ≡ StoredBlocks told_blocks
+  stored_told : get_or said 0 0 ≡ 0 → (store_all src kind (counts_of m) (posix_of m) (singles_of m) T X out).answer ≡ Ok told_blocks
   stored_told = go (store_all src kind (counts_of m) (posix_of m) (singles_of m) T X out).answer
     where
-      go : (a : Storing) → let l = counted_cells src (storing_numbers a) in get_or l 0 0 ≡ 0 → a ≡ StoredBlocks (get_or l 5 0 * 4294967296 + get_or l 4 0)
-      go (StoredBlocks n) e = ap StoredBlocks (sym (div-add-mod' n 4294967296))
-      go UnknownKind e = absurd (omega arith)
-      go StoringUnsound e = absurd (omega arith)
-      go NoBlocks e = absurd (omega arith)
+      go : (a : Result ℕ StoringError) → let l = counted_cells src (storing_numbers a) in get_or l 0 0 ≡ 0 → a ≡ Ok (get_or l 5 0 * 4294967296 + get_or l 4 0)
+      go (Ok n) e = ap Ok (sym (div-add-mod' n 4294967296))
+      go (Err UnknownKind) e = absurd (omega arith)
+      go (Err StoringUnsound) e = absurd (omega arith)
+      go (Err NoBlocks) e = absurd (omega arith)
 
   module _ (S : List ℕ) (T₀ : AllTables) (X₀ : Indexes) where
     in-numbers : (r : Restored) → Back src kind (counts_of m) (posix_of m) (singles_of m) T S T₀ X₀ r → BackFace src kind m T S T₀ X₀ (restore_face_of r)
@@ -242,8 +240,8 @@ module _ (src : List ℕ) (kind : ℕ) (T : AllTables) (X : Indexes) where
       let same : sound_reading src (counts_of m) (posix_of m) (singles_of m) o.tables o.indexes ≡ true = rw (b.0, b.1, face_posix_back) sound in
       false≢true (sym ((unsound_iff src k (counts_of m) (posix_of m) (singles_of m) o.tables o.indexes out).0 (unsound _ e)).2 ∙ same)
     where
-      unsound : (a : Storing) → get_or (counted_cells src (storing_numbers a)) 0 0 ≡ 44 → a ≡ StoringUnsound
-      unsound (StoredBlocks n) e = absurd (omega arith)
-      unsound UnknownKind e = absurd (omega arith)
-      unsound StoringUnsound e = refl
-      unsound NoBlocks e = absurd (omega arith)
+      unsound : (a : Result ℕ StoringError) → get_or (counted_cells src (storing_numbers a)) 0 0 ≡ 44 → a ≡ Err StoringUnsound
+      unsound (Ok n) e = absurd (omega arith)
+      unsound (Err UnknownKind) e = absurd (omega arith)
+      unsound (Err StoringUnsound) e = refl
+      unsound (Err NoBlocks) e = absurd (omega arith)

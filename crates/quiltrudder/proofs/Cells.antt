@@ -1,4 +1,5 @@
 -- What the C names' proofs cite: the numbers of a load, and those of any answer with a reading's, put together. Assumes nothing.
+use Rattle.std.specs.Prelude.{Result}
 use Prim.Native.Nat.{ℕ}
 use mathlib.Core.Path.{◌≡◌, sym, ap, ◌∙◌}
 use mathlib.Core.List.{List, [], ◌∷◌, ◌++◌, append_assoc, append-nil}
@@ -10,7 +11,7 @@ use Rattle.grammar.specs.declared.Counts.{Counts}
 use Rattle.grammar.specs.declared.PosixCounts.{PosixCounts}
 use Rattle.grammar.specs.declared.Singles.{Singles}
 use Rattle.grammar.specs.declared.Told.{Told}
-use Rattle.loading.specs.declared.Judgement.{Judgement}
+use Rattle.loading.specs.declared.LoadError.{LoadError}
 use Rattle.loading.specs.Load.{judgement_numbers}
 use Rattle.numbers.specs.Numbers.{told_numbers}
 use Rattle.singles.specs.Singles.{singles_cells, posix_cells, counts_cells}
@@ -18,7 +19,7 @@ use Rattle.singles.proofs.Laws.{put_over, put_behind, singles_length}
 use Rattle.quiltrudder.specs.Face.{spot_cells, loading_cells}
 
 -- a load's numbers, stored one behind the other, with line and column
-module _ (j : Judgement) (c : Counts) (g : Singles) (q : PosixCounts) (p : Spot) (t : Told) (s m1 m2 m3 m4 m5 : List ℕ) where
+module _ (j : Result ℕ LoadError) (c : Counts) (g : Singles) (q : PosixCounts) (p : Spot) (t : Told) (s m1 m2 m3 m4 m5 : List ℕ) where
   abbrev front : List ℕ
   front = told_numbers t ++ counts_cells c
 

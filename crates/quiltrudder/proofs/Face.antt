@@ -1,4 +1,5 @@
 -- Theorems about the C names: what a read wrote is what the others take. Assumes nothing.
+use Rattle.std.specs.Prelude.{Option, Result, Ok, Err}
 use Prim.Native.Nat.{ℕ, zero, suc, ◌+◌, ◌<◌}
 use mathlib.Core.Path.{◌≡◌, refl, sym, ap, ◌∙◌}
 use mathlib.Core.List.{List, [], ◌∷◌, ◌++◌}
@@ -11,21 +12,20 @@ use Rattle.grammar.specs.declared.Singles.{Singles}
 use Rattle.grammar.specs.Sound.{Tables, Indexes}
 use Rattle.validation.specs.declared.Flaw.{Flaw}
 use Rattle.validation.specs.declared.Flaw.TheVariants.{NoStartRule, InvalidStartRule, UnknownRuleRef, UnknownTokenRef, UnknownPrecToken, NoPrecForToken, UnknownEppKey}
-use Rattle.loading.specs.declared.Judgement.{Judgement}
-use Rattle.loading.specs.declared.Judgement.TheVariants.{Loaded, NotRead, NotValid}
+use Rattle.loading.specs.declared.LoadError.{LoadError}
+use Rattle.loading.specs.declared.LoadError.TheVariants.{NotRead, NotValid}
 use Rattle.validation.specs.Faults.{flaw_numbers}
 use Rattle.loading.specs.Load.{judgement_numbers, LoadResult}
 use Rattle.sound.specs.Test.{sound_test}
-use Rattle.usage.specs.declared.Marking.{Marking}
+use Rattle.usage.specs.declared.MarkingError.{MarkingError}
 use Rattle.usage.proofs.Outcome.{Outcome, reported_one, marking_one}
-use Rattle.pruning.specs.declared.Pruning.{Pruning}
+use Rattle.pruning.specs.declared.PruningError.{PruningError}
 use Rattle.pruning.specs.Pruned.{Lent}
 use Rattle.pruning.proofs.Outcome.{pruning_one}
-use Rattle.walks.specs.declared.Next.{Next}
+use Rattle.walks.specs.declared.NextError.{NextError}
 use Rattle.walks.specs.declared.Standing.{Standing}
 use Rattle.walks.proofs.Once.{next_one}
-use Rattle.shipping.specs.declared.Shipment.{Shipment}
-use Rattle.shipping.specs.declared.Shipment.TheVariants.{Sent, Unsent}
+use Rattle.grammar.specs.declared.Refusal.{Refusal}
 use Rattle.shipping.specs.Shipping.{shipment_numbers}
 use Rattle.singles.specs.Singles.{singles_cells, singles_of, counts_cells, counts_of}
 use Rattle.singles.proofs.Laws.{singles_length, cells_back}
@@ -46,14 +46,14 @@ flaw_four (UnknownPrecToken a b) = refl
 flaw_four (NoPrecForToken a b) = refl
 flaw_four (UnknownEppKey a b) = refl
 
-pub judgement_four : (j : Judgement) → judgement_numbers j ≡ four (judgement_numbers j)
-judgement_four (Loaded i) = refl
-judgement_four (NotRead f) = refl
-judgement_four (NotValid f) = flaw_four f
+pub judgement_four : (j : Result ℕ LoadError) → judgement_numbers j ≡ four (judgement_numbers j)
+judgement_four (Ok i) = refl
+judgement_four (Err (NotRead f)) = refl
+judgement_four (Err (NotValid f)) = flaw_four f
 
-pub shipment_four : (s : Shipment) → let l = take 4 (shipment_numbers s) in l ≡ four l
-shipment_four (Sent n) = refl
-shipment_four (Unsent f) = refl
+pub shipment_four : (s : Result ℕ Refusal) → let l = take 4 (shipment_numbers s) in l ≡ four l
+shipment_four (Ok n) = refl
+shipment_four (Err f) = refl
 
 -- the ten counts by their numbers
 pub cells_at : (c : Counts) (k : ℕ) → k < 10 → get_or (counts_cells c) k 0 ≡ get_or c.n k 0
@@ -134,19 +134,19 @@ report_face_one src m T X ws₀ ws vs out₀ out out' a b p q =
 pub mark_face_one : (src m : List ℕ) (T : Tables) (X : Indexes) (ws₀ ws vs a b : List ℕ) → MarkFace src m T X ws₀ ws a → MarkFace src m T X ws₀ vs b → (ws ≡ vs) × (a ≡ b)
 mark_face_one src m T X ws₀ ws vs a b p q =
     let e = marking_one src (counts_of m) (singles_of m) T X ws₀ p.marking q.marking ws vs p.marked q.marked in
-    (e.1, p.numbers ∙ ap (λ (k : Marking). marking_cells src k) e.0 ∙ sym q.numbers)
+    (e.1, p.numbers ∙ ap (λ (k : Result (Unit {0}) MarkingError). marking_cells src k) e.0 ∙ sym q.numbers)
 
 pub next_face_one : (src m : List ℕ) (T : Tables) (X : Indexes) (ws at₀ at at' a b : List ℕ) → NextFace src m T X ws at₀ at a → NextFace src m T X ws at₀ at' b → (at ≡ at') × (a ≡ b)
 next_face_one src m T X ws at₀ at at' a b p q =
     let e = next_one src (counts_of m) (singles_of m) T X ws (standing_of at₀) p.next q.next p.stands q.stands p.advanced q.advanced in
-    (p.record_is ∙ ap (λ (s : Standing). standing_cells s) e.1 ∙ sym q.record_is, p.numbers ∙ ap (λ (n : Next). next_cells src n) e.0 ∙ sym q.numbers)
+    (p.record_is ∙ ap (λ (s : Standing). standing_cells s) e.1 ∙ sym q.record_is, p.numbers ∙ ap (λ (n : Result (Option (ℕ × ℕ)) NextError). next_cells src n) e.0 ∙ sym q.numbers)
 
 pub prune_face_one : (src m₀ m m' : List ℕ) (T₀ T T' : Tables) (X₀ X X' : Indexes) (ws₀ ws ws' a a' : List ℕ) → PruneFace src m₀ m T₀ T X₀ X ws₀ ws a → PruneFace src m₀ m' T₀ T' X₀ X' ws₀ ws' a' → (m ≡ m') × (T ≡ T') × (X ≡ X') × (ws ≡ ws') × (a ≡ a')
 prune_face_one src m₀ m m' T₀ T T' X₀ X X' ws₀ ws ws' a a' p q =
     let e = pruning_one src (singles_of m₀) (record { counts = counts_of m₀; tables = T₀; indexes = X₀; work = ws₀ }) p.pruning q.pruning _ _ p.pruned q.pruned in (
-      p.reading ∙ ap (λ (k : Pruning). reading_after k p.counts m₀) e.0 ∙ ap (λ (l : Lent). reading_after q.pruning l.counts m₀) e.1 ∙ sym q.reading,
+      p.reading ∙ ap (λ (k : Result (Unit {0}) PruningError). reading_after k p.counts m₀) e.0 ∙ ap (λ (l : Lent). reading_after q.pruning l.counts m₀) e.1 ∙ sym q.reading,
       ap (λ (l : Lent). l.tables) e.1,
       ap (λ (l : Lent). l.indexes) e.1,
       ap (λ (l : Lent). l.work) e.1,
-      p.numbers ∙ ap (λ (k : Pruning). pruning_cells src k) e.0 ∙ sym q.numbers,
+      p.numbers ∙ ap (λ (k : Result (Unit {0}) PruningError). pruning_cells src k) e.0 ∙ sym q.numbers,
     )

@@ -1,5 +1,6 @@
 -- The promises through the C names: on what the C name of load wrote, the others give what the operations give on the reading; so the third demand holds of them,
 -- and none answers 44 on a full reading. Assumes nothing.
+use Rattle.std.specs.Prelude.{Result, Ok, Err}
 use Prim.Native.Nat.{ℕ, ◌*◌, ◌≤◌, ◌<◌}
 use mathlib.Core.Path.{◌≡◌, refl, sym, ap, ◌∙◌}
 use mathlib.Core.List.{List, [], ◌∷◌, ◌++◌}
@@ -21,25 +22,25 @@ use Rattle.refusals.specs.Refusal.{CauseNumber}
 use Rattle.refusals.proofs.Read.{cause_number}
 use Rattle.grammar.specs.Sound.{Tables, AllTables, ten_of, Indexes}
 use Rattle.reader.specs.Allowed.{RepeatsOnly}
-use Rattle.loading.specs.declared.Judgement.{Judgement}
-use Rattle.loading.specs.declared.Judgement.TheVariants.{Loaded, NotRead, NotValid}
+use Rattle.loading.specs.declared.LoadError.{LoadError}
+use Rattle.loading.specs.declared.LoadError.TheVariants.{NotRead, NotValid}
 use Rattle.loading.specs.Load.{judgement_numbers, LoadResult, load_all, FullLoad}
 use Rattle.loading.proofs.Theorems.{flaw_number_lem, load_ten, load_valid}
 use Rattle.sound.specs.Test.{count_at}
-use Rattle.validation.specs.declared.Validity.{Validity}
-use Rattle.validation.specs.declared.Validity.TheVariants.{Valid, UnsoundTables, Invalid}
-use Rattle.validation.specs.declared.FaultListing.{FaultListing}
-use Rattle.validation.specs.declared.FaultListing.TheVariants.{Faulted, FaultsUnsound, FaultsNoRoom}
+use Rattle.validation.specs.declared.ValidityError.{ValidityError}
+use Rattle.validation.specs.declared.ValidityError.TheVariants.{UnsoundTables, Invalid}
+use Rattle.validation.specs.declared.FaultsError.{FaultsError}
+use Rattle.validation.specs.declared.FaultsError.TheVariants.{FaultsUnsound, FaultsNoRoom}
 use Rattle.validation.specs.Walk.{fault_listing}
 use Rattle.validation.specs.Faults.{validity}
 use Rattle.reach.specs.Reach.{Grammar, need}
-use Rattle.usage.specs.declared.Listing.{Listing}
-use Rattle.usage.specs.declared.Listing.TheVariants.{Unused, OfUnsound, OfInvalid, NoWords, NoRoom}
+use Rattle.usage.specs.declared.ListingError.{ListingError}
+use Rattle.usage.specs.declared.ListingError.TheVariants.{OfUnsound, OfInvalid, NoWords, NoRoom}
 use Rattle.usage.specs.Report.{Excuses, Reported}
 use Rattle.usage.specs.Standing.{UnusedRows}
 use Rattle.names.specs.Name.{part_at, name_of}
-use Rattle.values.specs.declared.Valuation.{Valuation}
-use Rattle.values.specs.declared.Valuation.TheVariants.{Written, OfUnsoundTables, PastCount, NotString, NoTextRoom}
+use Rattle.values.specs.declared.ValuationError.{ValuationError}
+use Rattle.values.specs.declared.ValuationError.TheVariants.{OfUnsoundTables, PastCount, NotString, NoTextRoom}
 use Rattle.values.specs.Value.{valuation_numbers, epp_value}
 use Rattle.quiltrudder.specs.Report.{grammar_read, excuses_read, Roomy, Exactly}
 use Rattle.singles.specs.Singles.{singles_cells, singles_of, counts_cells, counts_of}
@@ -83,34 +84,34 @@ refusal_some BadKind e = omega arith
 refusal_some BadIndex e = omega arith
 
 module _ (src : List ℕ) where
-  validity_0 : (v : Validity) → get_or (validity_cells src v) 0 0 ≡ 0 → v ≡ Valid
-  validity_0 Valid e = refl
-  validity_0 UnsoundTables e = absurd (omega arith)
-  validity_0 (Invalid f) e = let q = flaw_number_lem f in absurd (omega (arith, rw q.0 at e, q.1))
+  validity_0 : (v : Result (Unit {0}) ValidityError) → get_or (validity_cells src v) 0 0 ≡ 0 → v ≡ Ok tt
+  validity_0 (Ok _) e = refl
+  validity_0 (Err UnsoundTables) e = absurd (omega arith)
+  validity_0 (Err (Invalid f)) e = let q = flaw_number_lem f in absurd (omega (arith, rw q.0 at e, q.1))
 
-  validity_44 : (v : Validity) → get_or (validity_cells src v) 0 0 ≡ 44 → v ≡ UnsoundTables
-  validity_44 Valid e = absurd (omega arith)
-  validity_44 UnsoundTables e = refl
-  validity_44 (Invalid f) e = let q = flaw_number_lem f in absurd (omega (arith, rw q.0 at e, q.2))
+  validity_44 : (v : Result (Unit {0}) ValidityError) → get_or (validity_cells src v) 0 0 ≡ 44 → v ≡ Err UnsoundTables
+  validity_44 (Ok _) e = absurd (omega arith)
+  validity_44 (Err UnsoundTables) e = refl
+  validity_44 (Err (Invalid f)) e = let q = flaw_number_lem f in absurd (omega (arith, rw q.0 at e, q.2))
 
-  listing_44 : (l : Listing) → get_or (listing_cells src l) 0 0 ≡ 44 → l ≡ OfUnsound
-  listing_44 (Unused n) e = absurd (omega arith)
-  listing_44 OfUnsound e = refl
-  listing_44 (OfInvalid f) e = let q = flaw_number_lem f in absurd (omega (arith, rw q.0 at e, q.2))
-  listing_44 NoWords e = absurd (omega arith)
-  listing_44 NoRoom e = absurd (omega arith)
+  listing_44 : (l : Result ℕ ListingError) → get_or (listing_cells src l) 0 0 ≡ 44 → l ≡ Err OfUnsound
+  listing_44 (Ok n) e = absurd (omega arith)
+  listing_44 (Err OfUnsound) e = refl
+  listing_44 (Err (OfInvalid f)) e = let q = flaw_number_lem f in absurd (omega (arith, rw q.0 at e, q.2))
+  listing_44 (Err NoWords) e = absurd (omega arith)
+  listing_44 (Err NoRoom) e = absurd (omega arith)
 
-  faults_44 : (l : FaultListing) → get_or (fault_listing_cells src l) 0 0 ≡ 44 → l ≡ FaultsUnsound
-  faults_44 (Faulted n) e = absurd (omega arith)
-  faults_44 FaultsUnsound e = refl
-  faults_44 FaultsNoRoom e = absurd (omega arith)
+  faults_44 : (l : Result ℕ FaultsError) → get_or (fault_listing_cells src l) 0 0 ≡ 44 → l ≡ Err FaultsUnsound
+  faults_44 (Ok n) e = absurd (omega arith)
+  faults_44 (Err FaultsUnsound) e = refl
+  faults_44 (Err FaultsNoRoom) e = absurd (omega arith)
 
-  valuation_number : (v : Valuation) → get_or (valuation_cells src v) 0 0 ≡ get_or (valuation_numbers v) 0 0
-  valuation_number (Written n) = refl
-  valuation_number OfUnsoundTables = refl
-  valuation_number PastCount = refl
-  valuation_number NotString = refl
-  valuation_number NoTextRoom = refl
+  valuation_number : (v : Result ℕ ValuationError) → get_or (valuation_cells src v) 0 0 ≡ get_or (valuation_numbers v) 0 0
+  valuation_number (Ok n) = refl
+  valuation_number (Err OfUnsoundTables) = refl
+  valuation_number (Err PastCount) = refl
+  valuation_number (Err NotString) = refl
+  valuation_number (Err NoTextRoom) = refl
 
 module _ (src : List ℕ) (kind : ℕ) (T : AllTables) (X : Indexes) where
   abbrev o : LoadResult
@@ -145,7 +146,7 @@ module _ (src : List ℕ) (kind : ℕ) (T : AllTables) (X : Indexes) where
   same_faults t = forth (λ c g. faults_face src m left slots t ≡ faults_face_of src (fault_listing src c g left slots t)) refl
 
   -- the report with its answer in numbers,
-  pub same_report : (ws₀ ws out₀ out a : List ℕ) → ReportFace src m left slots ws₀ ws out₀ out a ↔ ((l : Listing) × Reported src o.counts o.singles (ten_of o.tables) o.indexes l ws₀ ws out₀ out × (a ≡ listing_cells src l))
+  pub same_report : (ws₀ ws out₀ out a : List ℕ) → ReportFace src m left slots ws₀ ws out₀ out a ↔ ((l : Result ℕ ListingError) × Reported src o.counts o.singles (ten_of o.tables) o.indexes l ws₀ ws out₀ out × (a ≡ listing_cells src l))
   same_report ws₀ ws out₀ out a = (
     (λ r. (r.listing, forth (λ c g. Reported src c g left slots r.listing ws₀ ws out₀ out) r.reported, r.numbers)),
     (λ r. record { listing = r.0; reported = back (λ c g. Reported src c g left slots r.0 ws₀ ws out₀ out) r.1; numbers = r.2 }),
@@ -169,10 +170,10 @@ module _ (src : List ℕ) (kind : ℕ) (T : AllTables) (X : Indexes) where
   unfolding loading_cells
   face_full = go o.answer (counts_cells o.counts) (singles_cells o.singles) _
     where
-      go : (j : Judgement) (xs ys zs : List ℕ) → FullNumber (get_or ((judgement_numbers j ++ xs ++ ys) ++ zs) 0 0) → FullLoad j
-      go (Loaded i) xs ys zs n = tt
-      go (NotRead f) xs ys zs n = refusal_full f n
-      go (NotValid f) xs ys zs n = tt
+      go : (j : Result ℕ LoadError) (xs ys zs : List ℕ) → FullNumber (get_or ((judgement_numbers j ++ xs ++ ys) ++ zs) 0 0) → FullLoad j
+      go (Ok i) xs ys zs n = tt
+      go (Err (NotRead f)) xs ys zs n = refusal_full f n
+      go (Err (NotValid f)) xs ys zs n = tt
 
   -- After a full reading none of them answers 44;
   module _ (full : FullLoad o.answer) where
@@ -185,8 +186,8 @@ module _ (src : List ℕ) (kind : ℕ) (T : AllTables) (X : Indexes) where
     pub face_report_not_44 : (ws₀ ws out₀ out a : List ℕ) → ReportFace src m left slots ws₀ ws out₀ out a → get_or a 0 0 ≡ 44 → ⊥
     face_report_not_44 ws₀ ws out₀ out a r e =
         let q = (same_report ws₀ ws out₀ out a).0 r in
-        let l : q.0 ≡ OfUnsound = listing_44 src q.0 (rw q.2 at e) in
-        report_not_44 src kind T X full ws₀ ws out₀ out (told (λ (l : Listing). Reported src o.counts o.singles left slots l ws₀ ws out₀ out) l q.1)
+        let l : q.0 ≡ Err OfUnsound = listing_44 src q.0 (rw q.2 at e) in
+        report_not_44 src kind T X full ws₀ ws out₀ out (told (λ (l : Result ℕ ListingError). Reported src o.counts o.singles left slots l ws₀ ws out₀ out) l q.1)
 
     pub face_value_not_44 : (row : ℕ) (out : List ℕ) → row < count_at (counts_of m) epps → get_or (value_face src m left slots row out).answer 0 0 ≡ 44 → ⊥
     face_value_not_44 row out h e =
@@ -202,18 +203,18 @@ module _ (src : List ℕ) (kind : ℕ) (T : AllTables) (X : Indexes) where
     excuses = excuses_read src o
 
     module _ (ws₀ ws out₀ out a : List ℕ) (valid : get_or (validate_face src m left slots) 0 0 ≡ 0) (r : ReportFace src m left slots ws₀ ws out₀ out a) where
-      reading_valid : validity src o.counts o.singles (ten_of o.tables) o.indexes ≡ Valid
+      reading_valid : validity src o.counts o.singles (ten_of o.tables) o.indexes ≡ Ok tt
       reading_valid = validity_0 src _ (rw same_validity at valid)
 
       -- what the operation reported, and the numbers that tell it
-      told_by : {Q : Type 0} → ((l : Listing) → Reported src o.counts o.singles (ten_of o.tables) o.indexes l ws₀ ws out₀ out → a ≡ listing_cells src l → Q) → Q
+      told_by : {Q : Type 0} → ((l : Result ℕ ListingError) → Reported src o.counts o.singles (ten_of o.tables) o.indexes l ws₀ ws out₀ out → a ≡ listing_cells src l → Q) → Q
       told_by f = let q = (same_report ws₀ ws out₀ out a).0 r in f q.0 q.1 q.2
 
       -- line and column of an answer without a place
       first : (l : List ℕ) → l ++ spot_cells (spot_at src 0) ≡ l ++ (1 ∷ 1 ∷ [])
       first l = ap (λ (s : Spot). l ++ spot_cells s) (spot_first src)
 
-      in-numbers : (l : Listing) → a ≡ listing_cells src l → Exactly grammar excuses l out → ExactlyFace grammar excuses out a
+      in-numbers : (l : Result ℕ ListingError) → a ≡ listing_cells src l → Exactly grammar excuses l out → ExactlyFace grammar excuses out a
       in-numbers l e x = record { count = x.count; numbers = e ∙ ap (listing_cells src) x.listed ∙ first (0 ∷ 0 ∷ 0 ∷ 0 ∷ halves x.count); rows = x.rows }
 
       pub face_report_either : need grammar ≤ length ws₀ → ExactlyFace grammar excuses out a ⊎ CrowdedFace grammar excuses out₀ a
@@ -227,14 +228,14 @@ module _ (src : List ℕ) (kind : ℕ) (T : AllTables) (X : Indexes) where
       face_report_exactly room = told_by (λ l p e. in-numbers l e (report_exactly src kind T X full l ws₀ ws out₀ out reading_valid room p))
 
   -- The third demand from load's own number: it is 0 exactly where the source was read and what was read is valid,
-  pub face_loaded : get_or m 0 0 ≡ 0 → (i : ℕ) × (o.answer ≡ Loaded i)
+  pub face_loaded : get_or m 0 0 ≡ 0 → (i : ℕ) × (o.answer ≡ Ok i)
   unfolding loading_cells
   face_loaded = go o.answer (counts_cells o.counts) (singles_cells o.singles) _
     where
-      go : (j : Judgement) (xs ys zs : List ℕ) → get_or ((judgement_numbers j ++ xs ++ ys) ++ zs) 0 0 ≡ 0 → (i : ℕ) × (j ≡ Loaded i)
-      go (Loaded i) xs ys zs e = (i, refl)
-      go (NotRead f) xs ys zs e = absurd (refusal_some f e)
-      go (NotValid f) xs ys zs e = let q = flaw_number_lem f in absurd (omega (arith, rw q.0 at e, q.1))
+      go : (j : Result ℕ LoadError) (xs ys zs : List ℕ) → get_or ((judgement_numbers j ++ xs ++ ys) ++ zs) 0 0 ≡ 0 → (i : ℕ) × (j ≡ Ok i)
+      go (Ok i) xs ys zs e = (i, refl)
+      go (Err (NotRead f)) xs ys zs e = absurd (refusal_some f e)
+      go (Err (NotValid f)) xs ys zs e = let q = flaw_number_lem f in absurd (omega (arith, rw q.0 at e, q.1))
 
   -- and then the report that the C name wrote is exactly the unused rows.
   pub face_load_exactly : (ws₀ ws out₀ out a : List ℕ) → get_or m 0 0 ≡ 0 → Roomy (grammar_read src o) ws₀ out₀ → ReportFace src m left slots ws₀ ws out₀ out a → ExactlyFace (grammar_read src o) (excuses_read src o) out a

@@ -1,4 +1,5 @@
 -- What the C name of prune left is what the others take: the counts in the numbers are those that are left, and the reading is valid. Assumes nothing.
+use Rattle.std.specs.Prelude.{Result, Ok}
 use Prim.Native.Nat.{◌≤◌, ℕ, ◌+◌, ◌<◌}
 use mathlib.Core.Path.{◌≡◌, refl, sym, ap, ◌∙◌}
 use mathlib.Core.List.{List, ◌++◌, append_assoc}
@@ -9,10 +10,8 @@ use Rattle.tables.specs.Table.{put}
 use Rattle.tables.proofs.Rows.{put_eq}
 use Rattle.grammar.specs.declared.Counts.{Counts}
 use Rattle.grammar.specs.Sound.{Tables, Indexes}
-use Rattle.validation.specs.declared.Validity.{Validity}
-use Rattle.validation.specs.declared.Validity.TheVariants.{Valid}
+use Rattle.validation.specs.declared.ValidityError.{ValidityError}
 use Rattle.validation.specs.Faults.{validity}
-use Rattle.pruning.specs.declared.Pruning.TheVariants.{AllPruned}
 use Rattle.pruning.specs.Pruned.{Prunings}
 use Rattle.pruning.proofs.Outcome.{pruning_ten, pruning_validates}
 use Rattle.singles.specs.Singles.{singles_of, counts_cells, counts_of}
@@ -52,8 +51,8 @@ module _ (m : List ℕ) (d : Counts) (long : 14 ≤ length m) where
   singles_after = rw (past m (counts_cells d) long refl 0, past m (counts_cells d) long refl 1, past m (counts_cells d) long refl 2, past m (counts_cells d) long refl 3, past m (counts_cells d) long refl 4, past m (counts_cells d) long refl 5, past m (counts_cells d) long refl 6, past m (counts_cells d) long refl 7, past m (counts_cells d) long refl 8, past m (counts_cells d) long refl 9, past m (counts_cells d) long refl 10, past m (counts_cells d) long refl 11, past m (counts_cells d) long refl 12, past m (counts_cells d) long refl 13, past m (counts_cells d) long refl 14, past m (counts_cells d) long refl 15, past m (counts_cells d) long refl 16, past m (counts_cells d) long refl 17, past m (counts_cells d) long refl 18, past m (counts_cells d) long refl 19, past m (counts_cells d) long refl 20, past m (counts_cells d) long refl 21, past m (counts_cells d) long refl 22, past m (counts_cells d) long refl 23) refl
 
 -- behind a pruning that went through
-module _ (src m₀ m : List ℕ) (T₀ T : Tables) (X₀ X : Indexes) (ws₀ ws a : List ℕ) (long : 14 ≤ length m₀) (r : PruneFace src m₀ m T₀ T X₀ X ws₀ ws a) (e : r.pruning ≡ AllPruned) where
-  went : Prunings src (singles_of m₀) AllPruned (record { counts = counts_of m₀; tables = T₀; indexes = X₀; work = ws₀ }) (record { counts = r.counts; tables = T; indexes = X; work = ws })
+module _ (src m₀ m : List ℕ) (T₀ T : Tables) (X₀ X : Indexes) (ws₀ ws a : List ℕ) (long : 14 ≤ length m₀) (r : PruneFace src m₀ m T₀ T X₀ X ws₀ ws a) (e : r.pruning ≡ Ok tt) where
+  went : Prunings src (singles_of m₀) (Ok tt) (record { counts = counts_of m₀; tables = T₀; indexes = X₀; work = ws₀ }) (record { counts = r.counts; tables = T; indexes = X; work = ws })
   went = rw e at r.pruned
 
   is_put : m ≡ put m₀ 4 (counts_cells r.counts)
@@ -69,5 +68,5 @@ module _ (src m₀ m : List ℕ) (T₀ T : Tables) (X₀ X : Indexes) (ws₀ ws 
   pub face_pruned_valid : get_or (validate_face src m T X) 0 0 ≡ 0
   face_pruned_valid =
       let v = pruning_validates src (singles_of m₀) _ _ refl went in
-      let w : validity src (counts_of m) (singles_of m) T X ≡ Valid = rw (face_prune_back.0, face_prune_back.1) v in
-      ap (λ (x : Validity). get_or (validity_cells src x) 0 0) w
+      let w : validity src (counts_of m) (singles_of m) T X ≡ Ok tt = rw (face_prune_back.0, face_prune_back.1) v in
+      ap (λ (x : Result (Unit {0}) ValidityError). get_or (validity_cells src x) 0 0) w

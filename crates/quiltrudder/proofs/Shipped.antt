@@ -1,4 +1,5 @@
 -- Shipping through the C names: number 0 tells that a text was sent and how long it is, and what the C name of ship wrote is what the others take, with the tables that it left. Assumes nothing.
+use Rattle.std.specs.Prelude.{Result, Ok, Err}
 use Prim.Native.Nat.{ℕ, ◌+◌, ◌/◌, ◌%◌}
 use mathlib.Core.Path.{◌≡◌, refl, sym, ap, ◌∙◌}
 use mathlib.Core.List.{List, ◌++◌}
@@ -13,15 +14,12 @@ use Rattle.grammar.specs.declared.Counts.{Counts}
 use Rattle.grammar.specs.declared.Singles.{Singles}
 use Rattle.grammar.specs.State.{no_posix}
 use Rattle.grammar.specs.Sound.{Tables, Indexes, Sound}
-use Rattle.reader.specs.declared.Verdict.{Verdict}
-use Rattle.reader.specs.declared.Verdict.TheVariants.{Accepted, Rejected}
+use Rattle.grammar.specs.declared.Refusal.{Refusal}
 use Rattle.reader.specs.Read.{read_all}
 use Rattle.reader.specs.Allowed.{Full}
 use Rattle.reader.proofs.Sound.{read_sound, read_ten}
 use Rattle.sound.specs.Test.{sound_test}
 use Rattle.sound.proofs.Iff.{sound_iff}
-use Rattle.shipping.specs.declared.Shipment.{Shipment}
-use Rattle.shipping.specs.declared.Shipment.TheVariants.{Sent, Unsent}
 use Rattle.shipping.specs.Shipping.{ShipResult, mailed, shipped_kind, lent_ten, shipment_numbers, shipping}
 use Rattle.shipping.proofs.Theorems.{ship_sent}
 use Rattle.singles.specs.Singles.{singles_of, counts_of, posix_of, posix_cells}
@@ -32,7 +30,7 @@ use Rattle.quiltrudder.proofs.Promises.{refusal_full, refusal_some}
 use Rattle.quiltrudder.proofs.Spots.{ship_spotted, reading_spotted}
 
 -- the numbers behind the singles
-module _ (a : Shipment) (c : Counts) (g : Singles) (s : Spot) where
+module _ (a : Result ℕ Refusal) (c : Counts) (g : Singles) (s : Spot) where
   abbrev rest : List ℕ
   rest = posix_cells no_posix ++ spot_cells s ++ halves (get_or (shipment_numbers a) 4 0)
 
@@ -63,16 +61,16 @@ module _ (src : List ℕ) (kind : ℕ) (T : Tables) (X : Indexes) (out : List �
       reading_spotted src (take 4 l) o.counts o.singles no_posix spot (halves (get_or l 4 0)) (shipment_four o.answer) (told (λ (k : ℕ). Spotted src k spot) (sym (get_or-take 4 l 1 0 (omega arith))) (ship_spotted src kind T X out))
 
   -- Number 0 tells that a text was sent; it has as many bytes as the low half of the count says, and the high half is 0.
-  pub face_ship_sent : get_or m 0 0 ≡ 0 → (o.answer ≡ Sent (get_or m 43 0)) × (get_or m 44 0 ≡ 0)
+  pub face_ship_sent : get_or m 0 0 ≡ 0 → (o.answer ≡ Ok (get_or m 43 0)) × (get_or m 44 0 ≡ 0)
   face_ship_sent = go o.answer o.counts o.singles spot refl
     where
-      go : (a : Shipment) (c : Counts) (g : Singles) (s : Spot) → o.answer ≡ a → let l = shipping_cells a c g s in get_or l 0 0 ≡ 0 → (o.answer ≡ Sent (get_or l 43 0)) × (get_or l 44 0 ≡ 0)
-      go (Sent n) c g s e z =
+      go : (a : Result ℕ Refusal) (c : Counts) (g : Singles) (s : Spot) → o.answer ≡ a → let l = shipping_cells a c g s in get_or l 0 0 ≡ 0 → (o.answer ≡ Ok (get_or l 43 0)) × (get_or l 44 0 ≡ 0)
+      go (Ok n) c g s e z =
           let h = ((ship_sent src kind T X out n).0 e).short in
           let low : n % 4294967296 ≡ n = omega (arith, h) in
           let high : n / 4294967296 ≡ 0 = omega (arith, h) in
-          (e ∙ ap Sent (sym (behind (Sent n) c g s 5 ∙ low)), behind (Sent n) c g s 6 ∙ high)
-      go (Unsent f) c g s e z = absurd (refusal_some f z)
+          (e ∙ ap Ok (sym (behind (Ok n) c g s 5 ∙ low)), behind (Ok n) c g s 6 ∙ high)
+      go (Err f) c g s e z = absurd (refusal_some f z)
 
   ten : length o.counts.n ≡ 10
   unfolding shipping
@@ -97,9 +95,9 @@ module _ (src : List ℕ) (kind : ℕ) (T : Tables) (X : Indexes) (out : List �
   unfolding shipping
   face_ship_full = go (read_all src (shipped_kind kind) (lent_ten T) X).answer _
     where
-      go : (v : Verdict) (text : List ℕ) → FullNumber (get_or (shipping_cells (mailed v text out).answer o.counts o.singles spot) 0 0) → Full v
-      go (Accepted i) text n = tt
-      go (Rejected f) text n = refusal_full f n
+      go : (v : Result ℕ Refusal) (text : List ℕ) → FullNumber (get_or (shipping_cells (mailed v text out).answer o.counts o.singles spot) 0 0) → Full v
+      go (Ok i) text n = tt
+      go (Err f) text n = refusal_full f n
 
   ship_sound : Full (read_all src (shipped_kind kind) (lent_ten T) X).answer → Sound src o.counts o.singles o.tables o.indexes
   unfolding shipping

@@ -1,4 +1,5 @@
 -- Line and column of every answer are those of its place's start: by the line's begin and the lines that end before it. Assumes nothing.
+use Rattle.std.specs.Prelude.{Option, Some, None, Result, Ok, Err}
 use Prim.Native.Nat.{ℕ, ◌+◌}
 use mathlib.Core.Path.{◌≡◌, refl, sym, ap, ◌∙◌}
 use mathlib.Core.Bool.{Bool, true, false}
@@ -19,46 +20,44 @@ use Rattle.grammar.specs.declared.Singles.{Singles}
 use Rattle.grammar.specs.declared.Refusal.{Refusal}
 use Rattle.grammar.specs.Refusals.{from_of}
 use Rattle.grammar.specs.Sound.{Tables, AllTables, Indexes}
-use Rattle.reader.specs.declared.Verdict.{Verdict}
-use Rattle.reader.specs.declared.Verdict.TheVariants.{Accepted, Rejected}
 use Rattle.reader.specs.Read.{read_all}
 use Rattle.reader.proofs.Sound.{accepted_end}
 use Rattle.refusals.proofs.Read.{refusal_documented, long_nowhere}
-use Rattle.loading.specs.declared.Judgement.{Judgement}
-use Rattle.loading.specs.declared.Judgement.TheVariants.{Loaded, NotRead, NotValid}
+use Rattle.loading.specs.declared.LoadError.{LoadError}
+use Rattle.loading.specs.declared.LoadError.TheVariants.{NotRead, NotValid}
 use Rattle.loading.specs.Load.{judgement_numbers, load_all, FullLoad}
 use Rattle.loading.proofs.Theorems.{flaw_number_lem, load_loaded, load_not_read, load_not_valid, load_sound}
 use Rattle.sound.specs.Test.{sound_test}
 use Rattle.sound.proofs.Iff.{sound_iff}
 use Rattle.validation.specs.declared.Flaw.{Flaw}
-use Rattle.validation.specs.declared.Validity.{Validity}
-use Rattle.validation.specs.declared.Validity.TheVariants.{Valid, UnsoundTables, Invalid}
-use Rattle.validation.specs.declared.FaultListing.{FaultListing}
-use Rattle.validation.specs.declared.FaultListing.TheVariants.{Faulted, FaultsUnsound, FaultsNoRoom}
+use Rattle.validation.specs.declared.ValidityError.{ValidityError}
+use Rattle.validation.specs.declared.ValidityError.TheVariants.{UnsoundTables, Invalid}
+use Rattle.validation.specs.declared.FaultsError.{FaultsError}
+use Rattle.validation.specs.declared.FaultsError.TheVariants.{FaultsUnsound, FaultsNoRoom}
 use Rattle.validation.specs.Faults.{flaw_numbers, validity_numbers, validity}
 use Rattle.validation.specs.Walk.{fault_listing, fault_listing_numbers}
 use Rattle.validation.proofs.Places.{flaw_inside}
-use Rattle.usage.specs.declared.Listing.{Listing}
-use Rattle.usage.specs.declared.Listing.TheVariants.{Unused, OfUnsound, OfInvalid, NoWords, NoRoom}
-use Rattle.usage.specs.declared.Marking.{Marking}
-use Rattle.usage.specs.declared.Marking.TheVariants.{AllMarked, MarksUnsound, MarksInvalid, MarksNoWords}
+use Rattle.usage.specs.declared.ListingError.{ListingError}
+use Rattle.usage.specs.declared.ListingError.TheVariants.{OfUnsound, OfInvalid, NoWords, NoRoom}
+use Rattle.usage.specs.declared.MarkingError.{MarkingError}
+use Rattle.usage.specs.declared.MarkingError.TheVariants.{MarksUnsound, MarksInvalid, MarksNoWords}
 use Rattle.usage.specs.Report.{listing_numbers, marking_numbers, excuses_of, Told, Reported, MarkTold, MarkedBits}
-use Rattle.pruning.specs.declared.Pruning.{Pruning}
-use Rattle.pruning.specs.declared.Pruning.TheVariants.{AllPruned, PruningUnsound, PruningInvalid, PruningNoWords}
+use Rattle.pruning.specs.declared.PruningError.{PruningError}
+use Rattle.pruning.specs.declared.PruningError.TheVariants.{PruningUnsound, PruningInvalid, PruningNoWords}
 use Rattle.pruning.specs.Pruned.{pruning_numbers, Lent, ToldPruning, Prunings}
-use Rattle.walks.specs.declared.Next.{Next}
-use Rattle.walks.specs.declared.Next.TheVariants.{NextUnused, NoneLeft, NotFitting}
+use Rattle.walks.specs.declared.NextError.{NextError}
+use Rattle.walks.specs.declared.NextError.TheVariants.{NotFitting}
 use Rattle.walks.specs.Walk.{next_numbers}
 use Rattle.reach.specs.Reach.{grammar_of}
-use Rattle.values.specs.declared.Valuation.{Valuation}
-use Rattle.values.specs.declared.Valuation.TheVariants.{Written, OfUnsoundTables, PastCount, NotString, NoTextRoom}
+use Rattle.values.specs.declared.ValuationError.{ValuationError}
+use Rattle.values.specs.declared.ValuationError.TheVariants.{OfUnsoundTables, PastCount, NotString, NoTextRoom}
 use Rattle.values.specs.Value.{valuation_numbers, epp_value}
 use Rattle.names.specs.Name.{nowhere, name_place}
-use Rattle.storing.specs.declared.Storing.{Storing}
-use Rattle.storing.specs.declared.Storing.TheVariants.{StoredBlocks, UnknownKind, StoringUnsound, NoBlocks}
+use Rattle.storing.specs.declared.StoringError.{StoringError}
+use Rattle.storing.specs.declared.StoringError.TheVariants.{UnknownKind, StoringUnsound, NoBlocks}
 use Rattle.storing.specs.Storing.{storing_numbers, store_all}
-use Rattle.restoring.specs.declared.Restoring.{Restoring}
-use Rattle.restoring.specs.declared.Restoring.TheVariants.{AllRestored, NotWhole, BadNumber, BadCheck, BadContent, BadSizes, NoSpace, RestoringUnsound}
+use Rattle.restoring.specs.declared.RestoringError.{RestoringError}
+use Rattle.restoring.specs.declared.RestoringError.TheVariants.{NotWhole, BadNumber, BadCheck, BadContent, BadSizes, NoSpace, RestoringUnsound}
 use Rattle.restoring.specs.Restoring.{restoring_numbers}
 use Rattle.shipping.specs.Shipping.{mailed_room, mailed_text, mailed, shipped_kind, lent_ten, shipment_numbers, shipping}
 use Rattle.singles.specs.Singles.{singles_cells, singles_of, posix_cells, counts_cells, counts_of, posix_of}
@@ -70,7 +69,7 @@ use Rattle.quiltrudder.proofs.Face.{four, judgement_four, reading_behind}
 -- ---- by numbers and places
 
 -- a flaw of validation, be it told by validate, by load or by the report
-flaw_spotted : (src : List ℕ) (c : Counts) (g : Singles) (T : Tables) (X : Indexes) (f : Flaw) → validity src c g T X ≡ Invalid f → AnswerSpotted src (flaw_numbers f)
+flaw_spotted : (src : List ℕ) (c : Counts) (g : Singles) (T : Tables) (X : Indexes) (f : Flaw) → validity src c g T X ≡ Err (Invalid f) → AnswerSpotted src (flaw_numbers f)
 flaw_spotted src c g T X f e =
     let h = flaw_inside src c g T X f e in
     let p = h.1 in
@@ -78,24 +77,24 @@ flaw_spotted src c g T X f e =
 
 module _ (src : List ℕ) (kind : ℕ) (T : AllTables) (X : Indexes) where
   -- a refusal of the read: a source that is too long is refused at its begin, and the places of the others lie in the source
-  refused_spotted : (f : Refusal) → (read_all src kind T X).answer ≡ Rejected f → Spotted src (from_of f) (spot_at src (from_of f))
+  refused_spotted : (f : Refusal) → (read_all src kind T X).answer ≡ Err f → Spotted src (from_of f) (spot_at src (from_of f))
   refused_spotted f e =
       ⊎_elim (λ h. let p = (refusal_documented src kind T X f e).place in spotted src (from_of f) h (omega (arith, p.onward, p.inside)))
       (λ h. let n = long_nowhere src kind T X h in let z : n.0 ≡ f = same (sym n.1 ∙ e) in let k : from_of f ≡ 0 = ap from_of (sym z) ∙ n.2 in rw k (spotted_first src)) (le_or_lt (length src) 65536)
     where
-      same : {x y : Refusal} → Rejected x ≡ Rejected y → x ≡ y
+      same : {x y : Refusal} → ◌≡◌ {A = Result ℕ Refusal} (Err x) (Err y) → x ≡ y
       same q = cc
 
   -- Load: of its end where it is accepted, else of its place's start.
   pub load_spotted : AnswerSpotted src (judgement_numbers (load_all src kind T X).answer)
   load_spotted = go (load_all src kind T X).answer refl
     where
-      go : (j : Judgement) → (load_all src kind T X).answer ≡ j → AnswerSpotted src (judgement_numbers j)
-      go (Loaded i) e = spotted src i (load_sound src kind T X (told FullLoad (sym e) tt)).short (accepted_end src kind T X i ((load_loaded src kind T X i).0 e).0)
-      go (NotRead f) e = refused_spotted f ((load_not_read src kind T X f).0 e)
-      go (NotValid f) e = appended (flaw_spotted src _ _ _ _ f ((load_not_valid src kind T X f).0 e).2)
+      go : (j : Result ℕ LoadError) → (load_all src kind T X).answer ≡ j → AnswerSpotted src (judgement_numbers j)
+      go (Ok i) e = spotted src i (load_sound src kind T X (told FullLoad (sym e) tt)).short (accepted_end src kind T X i ((load_loaded src kind T X i).0 e).0)
+      go (Err (NotRead f)) e = refused_spotted f ((load_not_read src kind T X f).0 e)
+      go (Err (NotValid f)) e = appended (flaw_spotted src _ _ _ _ f ((load_not_valid src kind T X f).0 e).2)
         where
-          appended : AnswerSpotted src (flaw_numbers f) → AnswerSpotted src (judgement_numbers (NotValid f))
+          appended : AnswerSpotted src (flaw_numbers f) → AnswerSpotted src (judgement_numbers (Err (NotValid f)))
           appended = told (λ (k : ℕ). Spotted src k (spot_at src k)) (sym (flaw_from f (0 ∷ [])))
 
 module _ (src : List ℕ) (c : Counts) (g : Singles) (T : Tables) (X : Indexes) where
@@ -103,64 +102,64 @@ module _ (src : List ℕ) (c : Counts) (g : Singles) (T : Tables) (X : Indexes) 
   pub validate_spotted : AnswerSpotted src (validity_numbers (validity src c g T X))
   validate_spotted = go (validity src c g T X) refl
     where
-      go : (v : Validity) → validity src c g T X ≡ v → AnswerSpotted src (validity_numbers v)
-      go Valid e = spotted_first src
-      go UnsoundTables e = spotted_first src
-      go (Invalid f) e = flaw_spotted src c g T X f e
+      go : (v : Result (Unit {0}) ValidityError) → validity src c g T X ≡ v → AnswerSpotted src (validity_numbers v)
+      go (Ok _) e = spotted_first src
+      go (Err UnsoundTables) e = spotted_first src
+      go (Err (Invalid f)) e = flaw_spotted src c g T X f e
 
-  pub faults_spotted : (l : FaultListing) → AnswerSpotted src (fault_listing_numbers l)
-  faults_spotted (Faulted n) = spotted_first src
-  faults_spotted FaultsUnsound = spotted_first src
-  faults_spotted FaultsNoRoom = spotted_first src
+  pub faults_spotted : (l : Result ℕ FaultsError) → AnswerSpotted src (fault_listing_numbers l)
+  faults_spotted (Ok n) = spotted_first src
+  faults_spotted (Err FaultsUnsound) = spotted_first src
+  faults_spotted (Err FaultsNoRoom) = spotted_first src
 
   -- the report,
-  pub report_spotted : (l : Listing) (ws₀ ws out₀ out : List ℕ) → Reported src c g T X l ws₀ ws out₀ out → AnswerSpotted src (listing_numbers l)
-  report_spotted (Unused n) ws₀ ws out₀ out p = spotted_first src
-  report_spotted OfUnsound ws₀ ws out₀ out p = spotted_first src
-  report_spotted (OfInvalid f) ws₀ ws out₀ out p = told (λ (k : ℕ). Spotted src k (spot_at src k)) (sym (flaw_from f (0 ∷ 0 ∷ []))) (flaw_spotted src c g T X f (go (validity src c g T X) p))
+  pub report_spotted : (l : Result ℕ ListingError) (ws₀ ws out₀ out : List ℕ) → Reported src c g T X l ws₀ ws out₀ out → AnswerSpotted src (listing_numbers l)
+  report_spotted (Ok n) ws₀ ws out₀ out p = spotted_first src
+  report_spotted (Err OfUnsound) ws₀ ws out₀ out p = spotted_first src
+  report_spotted (Err (OfInvalid f)) ws₀ ws out₀ out p = told (λ (k : ℕ). Spotted src k (spot_at src k)) (sym (flaw_from f (0 ∷ 0 ∷ []))) (flaw_spotted src c g T X f (go (validity src c g T X) p))
     where
-      go : (v : Validity) → Told v (grammar_of src c g.start T.t1 T.t7 T.t8 T.t9) (excuses_of src c T.t4 T.t6) (OfInvalid f) ws₀ ws out₀ out → v ≡ Invalid f
-      go Valid q = absurd q
-      go UnsoundTables q = let e = q.0 in let z : ◌≡◌ {A = ℕ} 0 1 = cc in absurd (omega arith)
-      go (Invalid h) q = let e = q.0 in let k : h ≡ f = cc in ap (λ (x : Flaw). Invalid x) k
-  report_spotted NoWords ws₀ ws out₀ out p = spotted_first src
-  report_spotted NoRoom ws₀ ws out₀ out p = spotted_first src
+      go : (v : Result (Unit {0}) ValidityError) → Told v (grammar_of src c g.start T.t1 T.t7 T.t8 T.t9) (excuses_of src c T.t4 T.t6) (Err (OfInvalid f)) ws₀ ws out₀ out → v ≡ Err (Invalid f)
+      go (Ok _) q = absurd q
+      go (Err UnsoundTables) q = let e = q.0 in let z : ◌≡◌ {A = ℕ} 0 1 = cc in absurd (omega arith)
+      go (Err (Invalid h)) q = let e = q.0 in let k : h ≡ f = cc in ap (λ (x : Flaw). Err (Invalid x)) k
+  report_spotted (Err NoWords) ws₀ ws out₀ out p = spotted_first src
+  report_spotted (Err NoRoom) ws₀ ws out₀ out p = spotted_first src
 
   -- its marking, pruning, a step of a walk,
-  pub mark_spotted : (k : Marking) (ws₀ ws : List ℕ) → MarkedBits src c g T X k ws₀ ws → AnswerSpotted src (marking_numbers k)
-  mark_spotted AllMarked ws₀ ws p = spotted_first src
-  mark_spotted MarksUnsound ws₀ ws p = spotted_first src
-  mark_spotted (MarksInvalid f) ws₀ ws p = told (λ (k : ℕ). Spotted src k (spot_at src k)) (sym (flaw_from f (0 ∷ []))) (flaw_spotted src c g T X f (go (validity src c g T X) p))
+  pub mark_spotted : (k : Result (Unit {0}) MarkingError) (ws₀ ws : List ℕ) → MarkedBits src c g T X k ws₀ ws → AnswerSpotted src (marking_numbers k)
+  mark_spotted (Ok _) ws₀ ws p = spotted_first src
+  mark_spotted (Err MarksUnsound) ws₀ ws p = spotted_first src
+  mark_spotted (Err (MarksInvalid f)) ws₀ ws p = told (λ (k : ℕ). Spotted src k (spot_at src k)) (sym (flaw_from f (0 ∷ []))) (flaw_spotted src c g T X f (go (validity src c g T X) p))
     where
-      go : (v : Validity) → MarkTold v (grammar_of src c g.start T.t1 T.t7 T.t8 T.t9) (MarksInvalid f) ws₀ ws → v ≡ Invalid f
-      go Valid q = absurd q
-      go UnsoundTables q = let e = q.0 in let z : ◌≡◌ {A = ℕ} 0 1 = cc in absurd (omega arith)
-      go (Invalid h) q = let e = q.0 in let k : h ≡ f = cc in ap (λ (x : Flaw). Invalid x) k
-  mark_spotted MarksNoWords ws₀ ws p = spotted_first src
+      go : (v : Result (Unit {0}) ValidityError) → MarkTold v (grammar_of src c g.start T.t1 T.t7 T.t8 T.t9) (Err (MarksInvalid f)) ws₀ ws → v ≡ Err (Invalid f)
+      go (Ok _) q = absurd q
+      go (Err UnsoundTables) q = let e = q.0 in let z : ◌≡◌ {A = ℕ} 0 1 = cc in absurd (omega arith)
+      go (Err (Invalid h)) q = let e = q.0 in let k : h ≡ f = cc in ap (λ (x : Flaw). Err (Invalid x)) k
+  mark_spotted (Err MarksNoWords) ws₀ ws p = spotted_first src
 
-  pub prune_spotted : (k : Pruning) (ws₀ : List ℕ) (b : Lent) → Prunings src g k (record { counts = c; tables = T; indexes = X; work = ws₀ }) b → AnswerSpotted src (pruning_numbers k)
-  prune_spotted AllPruned ws₀ b p = spotted_first src
-  prune_spotted PruningUnsound ws₀ b p = spotted_first src
-  prune_spotted (PruningInvalid f) ws₀ b p = told (λ (k : ℕ). Spotted src k (spot_at src k)) (sym (flaw_from f (0 ∷ []))) (flaw_spotted src c g T X f (go (validity src c g T X) p))
+  pub prune_spotted : (k : Result (Unit {0}) PruningError) (ws₀ : List ℕ) (b : Lent) → Prunings src g k (record { counts = c; tables = T; indexes = X; work = ws₀ }) b → AnswerSpotted src (pruning_numbers k)
+  prune_spotted (Ok _) ws₀ b p = spotted_first src
+  prune_spotted (Err PruningUnsound) ws₀ b p = spotted_first src
+  prune_spotted (Err (PruningInvalid f)) ws₀ b p = told (λ (k : ℕ). Spotted src k (spot_at src k)) (sym (flaw_from f (0 ∷ []))) (flaw_spotted src c g T X f (go (validity src c g T X) p))
     where
-      go : (v : Validity) → ToldPruning v src (grammar_of src c g.start T.t1 T.t7 T.t8 T.t9) (excuses_of src c T.t4 T.t6) (PruningInvalid f) (record { counts = c; tables = T; indexes = X; work = ws₀ }) b → v ≡ Invalid f
-      go Valid q = absurd q
-      go UnsoundTables q = let e = q.0 in let z : ◌≡◌ {A = ℕ} 0 1 = cc in absurd (omega arith)
-      go (Invalid h) q = let e = q.0 in let k : h ≡ f = cc in ap (λ (x : Flaw). Invalid x) k
-  prune_spotted PruningNoWords ws₀ b p = spotted_first src
+      go : (v : Result (Unit {0}) ValidityError) → ToldPruning v src (grammar_of src c g.start T.t1 T.t7 T.t8 T.t9) (excuses_of src c T.t4 T.t6) (Err (PruningInvalid f)) (record { counts = c; tables = T; indexes = X; work = ws₀ }) b → v ≡ Err (Invalid f)
+      go (Ok _) q = absurd q
+      go (Err UnsoundTables) q = let e = q.0 in let z : ◌≡◌ {A = ℕ} 0 1 = cc in absurd (omega arith)
+      go (Err (Invalid h)) q = let e = q.0 in let k : h ≡ f = cc in ap (λ (x : Flaw). Err (Invalid x)) k
+  prune_spotted (Err PruningNoWords) ws₀ b p = spotted_first src
 
-  pub next_spotted : (n : Next) → AnswerSpotted src (next_numbers n)
-  next_spotted (NextUnused kd r) = spotted_first src
-  next_spotted NoneLeft = spotted_first src
-  next_spotted NotFitting = spotted_first src
+  pub next_spotted : (n : Result (Option (ℕ × ℕ)) NextError) → AnswerSpotted src (next_numbers n)
+  next_spotted (Ok (Some (kd, r))) = spotted_first src
+  next_spotted (Ok None) = spotted_first src
+  next_spotted (Err NotFitting) = spotted_first src
 
   -- the value of an `%epp` row, and the place of a name.
-  pub value_spotted : (v : Valuation) → AnswerSpotted src (valuation_numbers v)
-  value_spotted (Written n) = spotted_first src
-  value_spotted OfUnsoundTables = spotted_first src
-  value_spotted PastCount = spotted_first src
-  value_spotted NotString = spotted_first src
-  value_spotted NoTextRoom = spotted_first src
+  pub value_spotted : (v : Result ℕ ValuationError) → AnswerSpotted src (valuation_numbers v)
+  value_spotted (Ok n) = spotted_first src
+  value_spotted (Err OfUnsoundTables) = spotted_first src
+  value_spotted (Err PastCount) = spotted_first src
+  value_spotted (Err NotString) = spotted_first src
+  value_spotted (Err NoTextRoom) = spotted_first src
 
   pub name_spotted : (table row : ℕ) → Spotted src (name_at src c g T X table row).from (spot_at src (name_at src c g T X table row).from)
   unfolding name_at
@@ -175,26 +174,26 @@ module _ (src : List ℕ) (c : Counts) (g : Singles) (T : Tables) (X : Indexes) 
 
 -- Storing and loading back answer at the source's begin.
 module _ (src : List ℕ) where
-  pub store_spotted : (s : Storing) → AnswerSpotted src (storing_numbers s)
-  store_spotted (StoredBlocks n) = spotted_first src
-  store_spotted UnknownKind = spotted_first src
-  store_spotted StoringUnsound = spotted_first src
-  store_spotted NoBlocks = spotted_first src
+  pub store_spotted : (s : Result ℕ StoringError) → AnswerSpotted src (storing_numbers s)
+  store_spotted (Ok n) = spotted_first src
+  store_spotted (Err UnknownKind) = spotted_first src
+  store_spotted (Err StoringUnsound) = spotted_first src
+  store_spotted (Err NoBlocks) = spotted_first src
 
-  pub restore_spotted : (r : Restoring) → AnswerSpotted src (restoring_numbers r)
-  restore_spotted AllRestored = spotted_first src
-  restore_spotted NotWhole = spotted_first src
-  restore_spotted BadNumber = spotted_first src
-  restore_spotted BadCheck = spotted_first src
-  restore_spotted BadContent = spotted_first src
-  restore_spotted BadSizes = spotted_first src
-  restore_spotted (NoSpace k) = spotted_first src
-  restore_spotted RestoringUnsound = spotted_first src
+  pub restore_spotted : (r : Result (Unit {0}) RestoringError) → AnswerSpotted src (restoring_numbers r)
+  restore_spotted (Ok _) = spotted_first src
+  restore_spotted (Err NotWhole) = spotted_first src
+  restore_spotted (Err BadNumber) = spotted_first src
+  restore_spotted (Err BadCheck) = spotted_first src
+  restore_spotted (Err BadContent) = spotted_first src
+  restore_spotted (Err BadSizes) = spotted_first src
+  restore_spotted (Err (NoSpace k)) = spotted_first src
+  restore_spotted (Err RestoringUnsound) = spotted_first src
 
 -- Shipping answers a refusal of its read as load does, and else at the source's begin.
-mailed_spotted : (src text out : List ℕ) (v : Verdict) → ((f : Refusal) → v ≡ Rejected f → Spotted src (from_of f) (spot_at src (from_of f))) → AnswerSpotted src (shipment_numbers (mailed v text out).answer)
-mailed_spotted src text out (Rejected f) h = h f refl
-mailed_spotted src text out (Accepted i) h = long (ltb 65536 (length text))
+mailed_spotted : (src text out : List ℕ) (v : Result ℕ Refusal) → ((f : Refusal) → v ≡ Err f → Spotted src (from_of f) (spot_at src (from_of f))) → AnswerSpotted src (shipment_numbers (mailed v text out).answer)
+mailed_spotted src text out (Err f) h = h f refl
+mailed_spotted src text out (Ok i) h = long (ltb 65536 (length text))
   where
     room : (b : Bool) → AnswerSpotted src (shipment_numbers (mailed_room b text out).answer)
     room true = spotted_first src
@@ -232,47 +231,47 @@ counted_spotted src l h s = cells_spotted src (take 4 l ++ halves (get_or l 4 0)
 flaw_long : (f : Flaw) (z : List ℕ) → length (flaw_numbers f ++ z) ≡ 3 + length z
 flaw_long f z = rw (flaw_number_lem f).0 (omega arith)
 
-listing_five : (l : Listing) → length (listing_numbers l) ≡ 5
-listing_five (Unused n) = refl
-listing_five OfUnsound = refl
-listing_five (OfInvalid f) = flaw_long f (0 ∷ 0 ∷ [])
-listing_five NoWords = refl
-listing_five NoRoom = refl
+listing_five : (l : Result ℕ ListingError) → length (listing_numbers l) ≡ 5
+listing_five (Ok n) = refl
+listing_five (Err OfUnsound) = refl
+listing_five (Err (OfInvalid f)) = flaw_long f (0 ∷ 0 ∷ [])
+listing_five (Err NoWords) = refl
+listing_five (Err NoRoom) = refl
 
-marking_four : (k : Marking) → length (marking_numbers k) ≡ 4
-marking_four AllMarked = refl
-marking_four MarksUnsound = refl
-marking_four (MarksInvalid f) = flaw_long f (0 ∷ [])
-marking_four MarksNoWords = refl
+marking_four : (k : Result (Unit {0}) MarkingError) → length (marking_numbers k) ≡ 4
+marking_four (Ok _) = refl
+marking_four (Err MarksUnsound) = refl
+marking_four (Err (MarksInvalid f)) = flaw_long f (0 ∷ [])
+marking_four (Err MarksNoWords) = refl
 
-pruning_four : (k : Pruning) → length (pruning_numbers k) ≡ 4
-pruning_four AllPruned = refl
-pruning_four PruningUnsound = refl
-pruning_four (PruningInvalid f) = flaw_long f (0 ∷ [])
-pruning_four PruningNoWords = refl
+pruning_four : (k : Result (Unit {0}) PruningError) → length (pruning_numbers k) ≡ 4
+pruning_four (Ok _) = refl
+pruning_four (Err PruningUnsound) = refl
+pruning_four (Err (PruningInvalid f)) = flaw_long f (0 ∷ [])
+pruning_four (Err PruningNoWords) = refl
 
-next_six : (n : Next) → length (next_numbers n) ≡ 6
-next_six (NextUnused kd r) = refl
-next_six NoneLeft = refl
-next_six NotFitting = refl
+next_six : (n : Result (Option (ℕ × ℕ)) NextError) → length (next_numbers n) ≡ 6
+next_six (Ok (Some (kd, r))) = refl
+next_six (Ok None) = refl
+next_six (Err NotFitting) = refl
 
-fault_listing_five : (l : FaultListing) → length (fault_listing_numbers l) ≡ 5
-fault_listing_five (Faulted n) = refl
-fault_listing_five FaultsUnsound = refl
-fault_listing_five FaultsNoRoom = refl
+fault_listing_five : (l : Result ℕ FaultsError) → length (fault_listing_numbers l) ≡ 5
+fault_listing_five (Ok n) = refl
+fault_listing_five (Err FaultsUnsound) = refl
+fault_listing_five (Err FaultsNoRoom) = refl
 
-valuation_five : (v : Valuation) → length (valuation_numbers v) ≡ 5
-valuation_five (Written n) = refl
-valuation_five OfUnsoundTables = refl
-valuation_five PastCount = refl
-valuation_five NotString = refl
-valuation_five NoTextRoom = refl
+valuation_five : (v : Result ℕ ValuationError) → length (valuation_numbers v) ≡ 5
+valuation_five (Ok n) = refl
+valuation_five (Err OfUnsoundTables) = refl
+valuation_five (Err PastCount) = refl
+valuation_five (Err NotString) = refl
+valuation_five (Err NoTextRoom) = refl
 
-storing_five : (s : Storing) → length (storing_numbers s) ≡ 5
-storing_five (StoredBlocks n) = refl
-storing_five UnknownKind = refl
-storing_five StoringUnsound = refl
-storing_five NoBlocks = refl
+storing_five : (s : Result ℕ StoringError) → length (storing_numbers s) ≡ 5
+storing_five (Ok n) = refl
+storing_five (Err UnknownKind) = refl
+storing_five (Err StoringUnsound) = refl
+storing_five (Err NoBlocks) = refl
 
 -- an answer with a reading's numbers, the three counts, line and column, and whatever comes behind them
 pub reading_spotted : (src h : List ℕ) (c : Counts) (g : Singles) (q : PosixCounts) (p : Spot) (z : List ℕ) → h ≡ four h → Spotted src (get_or h 1 0) p → CellsSpotted src ((h ++ counts_cells c ++ singles_cells g) ++ (posix_cells q ++ spot_cells p ++ z)) 1 41
@@ -290,13 +289,13 @@ module _ (src m : List ℕ) (T : Tables) (X : Indexes) where
   pub face_validate_spotted : CellsSpotted src (validate_face src m T X) 1 4
   face_validate_spotted = cells_spotted src (validity_numbers v ++ (0 ∷ [])) 1 4 (get_or (validity_numbers v) 1 0) _ (long v) (get_or-append (validity_numbers v ++ (0 ∷ [])) _ 0 1 (omega (arith, long v)) ∙ validity_from v) (validate_spotted src (counts_of m) (singles_of m) T X)
     where
-      v : Validity
+      v : Result (Unit {0}) ValidityError
       v = validity src (counts_of m) (singles_of m) T X
 
-      long : (w : Validity) → length (validity_numbers w ++ (0 ∷ [])) ≡ 4
-      long Valid = refl
-      long UnsoundTables = refl
-      long (Invalid f) = flaw_long f (0 ∷ [])
+      long : (w : Result (Unit {0}) ValidityError) → length (validity_numbers w ++ (0 ∷ [])) ≡ 4
+      long (Ok _) = refl
+      long (Err UnsoundTables) = refl
+      long (Err (Invalid f)) = flaw_long f (0 ∷ [])
 
   pub face_faults_spotted : (t : List ℕ) → CellsSpotted src (faults_face src m T X t).answer 1 6
   face_faults_spotted t = let l = (fault_listing src (counts_of m) (singles_of m) T X t).answer in counted_spotted src (fault_listing_numbers l) (fault_listing_five l) (faults_spotted src (counts_of m) (singles_of m) T X l)

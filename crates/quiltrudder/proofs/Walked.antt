@@ -1,4 +1,5 @@
 -- The unused rows one by one, of the C names: calls of `quiltrudder_next_unused` from a record of zeros give the report's rows in order, and then the end for ever. Assumes nothing.
+use Rattle.std.specs.Prelude.{Option, None, Result, Ok, Err}
 use Prim.Native.Nat.{ℕ, zero, suc, ◌%◌, ◌/◌, ◌<◌, ◌≤◌}
 use mathlib.Core.Path.{◌≡◌, refl, sym, ap, ◌∙◌}
 use mathlib.Core.List.{List, [], ◌∷◌}
@@ -12,16 +13,15 @@ use Rattle.tables.specs.Table.{cell}
 use Rattle.grammar.specs.Sound.{Tables, Indexes}
 use Rattle.loading.proofs.Theorems.{flaw_number_lem}
 use Rattle.reach.specs.Reach.{Grammar, grammar_of}
-use Rattle.usage.specs.declared.Listing.{Listing}
-use Rattle.usage.specs.declared.Listing.TheVariants.{Unused, OfUnsound, OfInvalid, NoWords, NoRoom}
-use Rattle.usage.specs.declared.Marking.{Marking}
-use Rattle.usage.specs.declared.Marking.TheVariants.{AllMarked, MarksUnsound, MarksInvalid, MarksNoWords}
+use Rattle.usage.specs.declared.ListingError.{ListingError}
+use Rattle.usage.specs.declared.ListingError.TheVariants.{OfUnsound, OfInvalid, NoWords, NoRoom}
+use Rattle.usage.specs.declared.MarkingError.{MarkingError}
+use Rattle.usage.specs.declared.MarkingError.TheVariants.{MarksUnsound, MarksInvalid, MarksNoWords}
 use Rattle.usage.specs.Report.{Excuses, excuses_of, Reported, MarkedBits}
 use Rattle.usage.specs.Standing.{UnusedRows}
 use Rattle.usage.proofs.Outcome.{report_marks}
 use Rattle.usage.proofs.Standing.{report_rows}
-use Rattle.walks.specs.declared.Next.{Next}
-use Rattle.walks.specs.declared.Next.TheVariants.{NoneLeft}
+use Rattle.walks.specs.declared.NextError.{NextError}
 use Rattle.walks.specs.declared.Standing.{Standing}
 use Rattle.walks.specs.Walk.{Advanced}
 use Rattle.walks.specs.Sequence.{FreshCalls, stands_behind}
@@ -31,25 +31,25 @@ use Rattle.singles.specs.Singles.{singles_of, counts_of}
 use Rattle.quiltrudder.specs.Face.{listing_cells, ReportFace, marking_cells, MarkFace, standing_of, standing_cells, next_cells, FreshFaces}
 
 -- the number 0 of a marking
-marking_0 : (src : List ℕ) (k : Marking) → get_or (marking_cells src k) 0 0 ≡ 0 → k ≡ AllMarked
-marking_0 src AllMarked e = refl
-marking_0 src MarksUnsound e = absurd (omega arith)
-marking_0 src (MarksInvalid f) e = let q = flaw_number_lem f in absurd (omega (arith, rw q.0 at e, q.1))
-marking_0 src MarksNoWords e = absurd (omega arith)
+marking_0 : (src : List ℕ) (k : Result (Unit {0}) MarkingError) → get_or (marking_cells src k) 0 0 ≡ 0 → k ≡ Ok tt
+marking_0 src (Ok _) e = refl
+marking_0 src (Err MarksUnsound) e = absurd (omega arith)
+marking_0 src (Err (MarksInvalid f)) e = let q = flaw_number_lem f in absurd (omega (arith, rw q.0 at e, q.1))
+marking_0 src (Err MarksNoWords) e = absurd (omega arith)
 
 -- the cells of a report that is given tell its count
-listing_is : (src : List ℕ) (l : Listing) (n : ℕ) → listing_cells src l ≡ listing_cells src (Unused n) → l ≡ Unused n
-listing_is src (Unused k) n e =
+listing_is : (src : List ℕ) (l : Result ℕ ListingError) (n : ℕ) → listing_cells src l ≡ listing_cells src (Ok n) → l ≡ Ok n
+listing_is src (Ok k) n e =
     let low : k % 4294967296 ≡ n % 4294967296 = ap (λ (x : List ℕ). get_or x 4 0) e in
     let high : k / 4294967296 ≡ n / 4294967296 = ap (λ (x : List ℕ). get_or x 5 0) e in
-    ap (λ (x : ℕ). Unused x) (sym (div-add-mod' k 4294967296) ∙ rw (low, high) (div-add-mod' n 4294967296))
-listing_is src OfUnsound n e = let z : ◌≡◌ {A = ℕ} 44 0 = ap (λ (x : List ℕ). get_or x 0 0) e in absurd (omega arith)
-listing_is src (OfInvalid f) n e =
+    ap (λ (x : ℕ). Ok x) (sym (div-add-mod' k 4294967296) ∙ rw (low, high) (div-add-mod' n 4294967296))
+listing_is src (Err OfUnsound) n e = let z : ◌≡◌ {A = ℕ} 44 0 = ap (λ (x : List ℕ). get_or x 0 0) e in absurd (omega arith)
+listing_is src (Err (OfInvalid f)) n e =
     let q = flaw_number_lem f in
     let z = ap (λ (x : List ℕ). get_or x 0 0) e in
     absurd (omega (arith, rw q.0 at z, q.1))
-listing_is src NoWords n e = let z : ◌≡◌ {A = ℕ} 42 0 = ap (λ (x : List ℕ). get_or x 0 0) e in absurd (omega arith)
-listing_is src NoRoom n e = let z : ◌≡◌ {A = ℕ} 42 0 = ap (λ (x : List ℕ). get_or x 0 0) e in absurd (omega arith)
+listing_is src (Err NoWords) n e = let z : ◌≡◌ {A = ℕ} 42 0 = ap (λ (x : List ℕ). get_or x 0 0) e in absurd (omega arith)
+listing_is src (Err NoRoom) n e = let z : ◌≡◌ {A = ℕ} 42 0 = ap (λ (x : List ℕ). get_or x 0 0) e in absurd (omega arith)
 
 module _ (src m : List ℕ) (T : Tables) (X : Indexes) where
   abbrev grammar : Grammar
@@ -63,11 +63,11 @@ module _ (src m : List ℕ) (T : Tables) (X : Indexes) where
     abbrev stood : ℕ → Standing
     stood k = standing_of (at k)
 
-    abbrev next_of : (k : ℕ) → Dec (k < N) → Next
+    abbrev next_of : (k : ℕ) → Dec (k < N) → Result (Option (ℕ × ℕ)) NextError
     next_of k (yes h) = (w.calls k h).next
-    next_of k (no h) = NoneLeft
+    next_of k (no h) = Ok None
 
-    abbrev answered : ℕ → Next
+    abbrev answered : ℕ → Result (Option (ℕ × ℕ)) NextError
     answered k = next_of k (dec_lt k N)
 
     called : (k : ℕ) (h : k < N) → Advanced src (counts_of m) (singles_of m) T X ws (stood k) (w.calls k h).next (stood (suc k))
@@ -83,24 +83,24 @@ module _ (src m : List ℕ) (T : Tables) (X : Indexes) where
     said_is : (k : ℕ) (h : k < N) → said k ≡ next_cells src (answered k)
     said_is k h =
         let e = (next_one src (counts_of m) (singles_of m) T X ws (stood k) _ _ _ _ (called k h) (walked.calls k h)).0 in
-        (w.calls k h).numbers ∙ ap (λ (n : Next). next_cells src n) e
+        (w.calls k h).numbers ∙ ap (λ (n : Result (Option (ℕ × ℕ)) NextError). next_cells src n) e
 
     -- a record is its two numbers
     two_cells : (k : ℕ) → k ≤ N → at k ≡ standing_cells (stood k)
     two_cells zero h = rw w.begins refl
     two_cells (suc k) h = let c = w.calls k (omega arith) in rw c.record_is refl
 
-    module _ (ws₀ : List ℕ) (marked : MarkedBits src (counts_of m) (singles_of m) T X AllMarked ws₀ ws) (n : ℕ) (out : List ℕ) (rows : UnusedRows grammar excuses n out) where
+    module _ (ws₀ : List ℕ) (marked : MarkedBits src (counts_of m) (singles_of m) T X (Ok tt) ws₀ ws) (n : ℕ) (out : List ℕ) (rows : UnusedRows grammar excuses n out) where
       gives : (k : ℕ) → k < N → k < n → said k ≡ 0 ∷ 0 ∷ 0 ∷ 0 ∷ cell 2 out k 0 ∷ cell 2 out k 1 ∷ 1 ∷ 1 ∷ []
       gives k h l =
           said_is k h
-          ∙ ap (λ (x : Next). next_cells src x) (walk_gives src (counts_of m) (singles_of m) T X ws₀ ws marked n out rows N stood answered walked k h l)
+          ∙ ap (λ (x : Result (Option (ℕ × ℕ)) NextError). next_cells src x) (walk_gives src (counts_of m) (singles_of m) T X ws₀ ws marked n out rows N stood answered walked k h l)
           ∙ ap (λ (s : Spot). 0 ∷ 0 ∷ 0 ∷ 0 ∷ cell 2 out k 0 ∷ cell 2 out k 1 ∷ s.line ∷ s.column ∷ []) (spot_first src)
 
       ends : (k : ℕ) → k < N → n ≤ k → (said k ≡ 0 ∷ 0 ∷ 0 ∷ 0 ∷ 0 ∷ 0 ∷ 1 ∷ 1 ∷ []) × (at (suc k) ≡ at k)
       ends k h l =
           let y = walk_ends src (counts_of m) (singles_of m) T X ws₀ ws marked n out rows N stood answered walked k h l in (
-            said_is k h ∙ ap (λ (x : Next). next_cells src x) y.0 ∙ ap (λ (s : Spot). 0 ∷ 0 ∷ 0 ∷ 0 ∷ 0 ∷ 0 ∷ s.line ∷ s.column ∷ []) (spot_first src),
+            said_is k h ∙ ap (λ (x : Result (Option (ℕ × ℕ)) NextError). next_cells src x) y.0 ∙ ap (λ (s : Spot). 0 ∷ 0 ∷ 0 ∷ 0 ∷ 0 ∷ 0 ∷ s.line ∷ s.column ∷ []) (spot_first src),
             two_cells (suc k) (omega arith) ∙ ap standing_cells y.1 ∙ sym (two_cells k (omega arith)),
           )
 
@@ -109,7 +109,7 @@ module _ (src m : List ℕ) (T : Tables) (X : Indexes) where
 
     -- With the bits of a marking whose number is 0: call k gives row k of any list of the unused rows in order, and behind the last one the end, and the record stays.
     module _ (ws₀ a : List ℕ) (r : MarkFace src m T X ws₀ ws a) (zero_is : get_or a 0 0 ≡ 0) (n : ℕ) (out : List ℕ) (rows : UnusedRows grammar excuses n out) where
-      marks : MarkedBits src (counts_of m) (singles_of m) T X AllMarked ws₀ ws
+      marks : MarkedBits src (counts_of m) (singles_of m) T X (Ok tt) ws₀ ws
       marks = let e = marking_0 src r.marking (rw r.numbers at zero_is) in rw e at r.marked
 
       pub face_mark_walked : (k : ℕ) → k < N → k < n → said k ≡ 0 ∷ 0 ∷ 0 ∷ 0 ∷ cell 2 out k 0 ∷ cell 2 out k 1 ∷ 1 ∷ 1 ∷ []
@@ -123,8 +123,8 @@ module _ (src m : List ℕ) (T : Tables) (X : Indexes) where
       face_mark_stands = stands ws₀ marks n out rows
 
     -- With the bits of a report whose answer has the number 0 and the count n: the rows that it wrote.
-    module _ (ws₀ out₀ out a : List ℕ) (r : ReportFace src m T X ws₀ ws out₀ out a) (n : ℕ) (counted : a ≡ listing_cells src (Unused n)) where
-      reported : Reported src (counts_of m) (singles_of m) T X (Unused n) ws₀ ws out₀ out
+    module _ (ws₀ out₀ out a : List ℕ) (r : ReportFace src m T X ws₀ ws out₀ out a) (n : ℕ) (counted : a ≡ listing_cells src (Ok n)) where
+      reported : Reported src (counts_of m) (singles_of m) T X (Ok n) ws₀ ws out₀ out
       reported = let e = listing_is src r.listing n (sym r.numbers ∙ counted) in rw e at r.reported
 
       pub face_report_walked : (k : ℕ) → k < N → k < n → said k ≡ 0 ∷ 0 ∷ 0 ∷ 0 ∷ cell 2 out k 0 ∷ cell 2 out k 1 ∷ 1 ∷ 1 ∷ []

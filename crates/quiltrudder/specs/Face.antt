@@ -1,5 +1,5 @@
 -- The C names' numbers: the same operations over numbers and slices alone, each with its answer written as 32-bit numbers into a lent array of fixed size.
-use Rattle.std.specs.Prelude.{ℕ, suc, ◌+◌, ◌/◌, ◌%◌, ◌-◌, ◌≤◌, ◌<◌, ◌≡◌, true, false, List, [], ◌∷◌, ◌++◌, ◌⊎◌, length, get_or, take, replicate}
+use Rattle.std.specs.Prelude.{ℕ, suc, ◌+◌, ◌/◌, ◌%◌, ◌-◌, ◌≤◌, ◌<◌, ◌≡◌, true, false, List, [], ◌∷◌, ◌++◌, ◌⊎◌, length, get_or, take, replicate, Option, Result, Ok, Err}
 use Rattle.scan.specs.declared.Place.{Place}
 use Rattle.tables.specs.Table.{put}
 use Rattle.places.specs.declared.Spot.{Spot}
@@ -10,33 +10,32 @@ use Rattle.grammar.specs.State.{no_posix}
 use Rattle.catalogue.specs.declared.Head.{Head}
 use Rattle.catalogue.specs.Catalogue.{cells_at}
 use Rattle.storing.specs.Storing.{StoreResult, storing_numbers, store_all}
-use Rattle.restoring.specs.declared.Restoring.{Restoring}
+use Rattle.restoring.specs.declared.RestoringError.{RestoringError}
 use Rattle.restoring.specs.Restoring.{Restored, restoring_numbers, entered_indexes, restored}
-use Rattle.shipping.specs.declared.Shipment.{Shipment}
+use Rattle.grammar.specs.declared.Refusal.{Refusal}
 use Rattle.shipping.specs.Shipping.{ShipResult, shipment_numbers, shipping}
 use Rattle.singles.specs.Singles.{singles_cells, counts_cells, posix_cells, singles_of, counts_of, posix_of}
 use Rattle.numbers.specs.Numbers.{answer_spot}
 use Rattle.grammar.specs.Sound.{Tables, AllTables, Indexes, cells_of}
-use Rattle.loading.specs.declared.Judgement.{Judgement}
+use Rattle.loading.specs.declared.LoadError.{LoadError}
 use Rattle.loading.specs.Load.{judgement_numbers, LoadResult, load_all}
 use Rattle.sound.specs.Test.{sound_test}
-use Rattle.validation.specs.declared.Validity.{Validity}
+use Rattle.validation.specs.declared.ValidityError.{ValidityError}
 use Rattle.validation.specs.Faults.{validity_numbers, validity}
-use Rattle.validation.specs.declared.FaultListing.{FaultListing}
+use Rattle.validation.specs.declared.FaultsError.{FaultsError}
 use Rattle.validation.specs.Walk.{AllFaults, fault_listing, fault_listing_numbers}
 use Rattle.reach.specs.Reach.{Grammar}
-use Rattle.usage.specs.declared.Listing.{Listing}
-use Rattle.usage.specs.declared.Marking.{Marking}
+use Rattle.usage.specs.declared.ListingError.{ListingError}
+use Rattle.usage.specs.declared.MarkingError.{MarkingError}
 use Rattle.usage.specs.Report.{listing_numbers, marking_numbers, Excuses, Reported, MarkedBits}
 use Rattle.usage.specs.Standing.{UnusedRows, TooMany}
-use Rattle.pruning.specs.declared.Pruning.{Pruning}
-use Rattle.pruning.specs.declared.Pruning.TheVariants.{AllPruned, PruningUnsound, PruningInvalid, PruningNoWords}
+use Rattle.pruning.specs.declared.PruningError.{PruningError}
 use Rattle.pruning.specs.Pruned.{pruning_numbers, Prunings}
-use Rattle.walks.specs.declared.Next.{Next}
+use Rattle.walks.specs.declared.NextError.{NextError}
 use Rattle.walks.specs.declared.Standing.{Standing}
 use Rattle.walks.specs.Walk.{next_numbers, next_spot, Advanced}
 use Rattle.names.specs.Name.{nowhere, name_place}
-use Rattle.values.specs.declared.Valuation.{Valuation}
+use Rattle.values.specs.declared.ValuationError.{ValuationError}
 use Rattle.values.specs.Value.{valuation_numbers, Valued, epp_value}
 
 -- a number of 64 bits, its low half first
@@ -55,7 +54,7 @@ CellsSpotted src a k n = Spotted src (get_or a k 0) (record { line = get_or a n 
 -- ---- what a load answers
 
 -- in the order number, from, to, table, the ten counts, then each single
-unfoldable pub loading_cells : Judgement → Counts → Singles → List ℕ
+unfoldable pub loading_cells : Result ℕ LoadError → Counts → Singles → List ℕ
 loading_cells j c g = judgement_numbers j ++ counts_cells c ++ singles_cells g
 
 abbrev pub loading_numbers : LoadResult → List ℕ
@@ -81,7 +80,7 @@ FullNumber n = (n ≡ 0) ⊎ (((20 ≤ n) × (n ≤ 27)) ⊎ ((30 ≤ n) × (n �
 -- ---- what the others answer
 
 -- whether a reading is valid: number and place; "table number (0 unless 42)"; line and column
-abbrev pub validity_cells : List ℕ → Validity → List ℕ
+abbrev pub validity_cells : List ℕ → Result (Unit {0}) ValidityError → List ℕ
 validity_cells src v = validity_numbers v ++ (0 ∷ []) ++ spot_cells (answer_spot src (validity_numbers v))
 
 abbrev pub validate_face : List ℕ → List ℕ → Tables → Indexes → List ℕ
@@ -96,7 +95,7 @@ pub record FaultsFace : Type 0 where
   pub answer : List ℕ
   pub cells : List ℕ
 
-abbrev pub fault_listing_cells : List ℕ → FaultListing → List ℕ
+abbrev pub fault_listing_cells : List ℕ → Result ℕ FaultsError → List ℕ
 fault_listing_cells src l = counted_cells src (fault_listing_numbers l)
 
 abbrev pub faults_face_of : List ℕ → AllFaults → FaultsFace
@@ -105,12 +104,12 @@ faults_face_of src o = record { answer = fault_listing_cells src o.answer; cells
 abbrev pub faults_face : List ℕ → List ℕ → Tables → Indexes → List ℕ → FaultsFace
 faults_face src m T X t = faults_face_of src (fault_listing src (counts_of m) (singles_of m) T X t)
 
-abbrev pub listing_cells : List ℕ → Listing → List ℕ
+abbrev pub listing_cells : List ℕ → Result ℕ ListingError → List ℕ
 listing_cells src l = counted_cells src (listing_numbers l)
 
 -- the report, with its answer in numbers
 pub record ReportFace (src m : List ℕ) (T : Tables) (X : Indexes) (ws₀ ws out₀ out answer : List ℕ) : Type 0 where
-  pub listing : Listing
+  pub listing : Result ℕ ListingError
   pub reported : Reported src (counts_of m) (singles_of m) T X listing ws₀ ws out₀ out
   pub numbers : answer ≡ listing_cells src listing
 
@@ -126,11 +125,11 @@ pub record CrowdedFace (g : Grammar) (x : Excuses) (out answer : List ℕ) : Typ
   pub many : TooMany g x out
 
 -- the marking: number and place; "table number (0 unless 42)"; line and column
-abbrev pub marking_cells : List ℕ → Marking → List ℕ
+abbrev pub marking_cells : List ℕ → Result (Unit {0}) MarkingError → List ℕ
 marking_cells src k = marking_numbers k ++ spot_cells (answer_spot src (marking_numbers k))
 
 pub record MarkFace (src m : List ℕ) (T : Tables) (X : Indexes) (ws₀ ws answer : List ℕ) : Type 0 where
-  pub marking : Marking
+  pub marking : Result (Unit {0}) MarkingError
   pub marked : MarkedBits src (counts_of m) (singles_of m) T X marking ws₀ ws
   pub numbers : answer ≡ marking_cells src marking
 
@@ -142,12 +141,12 @@ abbrev pub standing_cells : Standing → List ℕ
 standing_cells s = s.rules ∷ s.tokens ∷ []
 
 -- the next unused row: number, place and table number, kind and row, line and column
-abbrev pub next_cells : List ℕ → Next → List ℕ
+abbrev pub next_cells : List ℕ → Result (Option (ℕ × ℕ)) NextError → List ℕ
 next_cells src n = next_numbers n ++ spot_cells (next_spot src n)
 
 -- from the record's numbers at entry to those at exit
 pub record NextFace (src m : List ℕ) (T : Tables) (X : Indexes) (ws at₀ at answer : List ℕ) : Type 0 where
-  pub next : Next
+  pub next : Result (Option (ℕ × ℕ)) NextError
   pub stands : Standing
   pub advanced : Advanced src (counts_of m) (singles_of m) T X ws (standing_of at₀) next stands
   pub record_is : at ≡ standing_cells stands
@@ -159,19 +158,17 @@ pub record FreshFaces (src m : List ℕ) (T : Tables) (X : Indexes) (ws : List �
   pub calls : (k : ℕ) → k < N → NextFace src m T X ws (at k) (at (suc k)) (said k)
 
 -- pruning: number and place; "table number (0 unless 42)"; line and column
-abbrev pub pruning_cells : List ℕ → Pruning → List ℕ
+abbrev pub pruning_cells : List ℕ → Result (Unit {0}) PruningError → List ℕ
 pruning_cells src k = pruning_numbers k ++ spot_cells (answer_spot src (pruning_numbers k))
 
 -- a reading's numbers behind it: the ten counts are those that are left, and nothing else changes
-abbrev pub reading_after : Pruning → Counts → List ℕ → List ℕ
-reading_after AllPruned d m = put m 4 (counts_cells d)
-reading_after PruningUnsound d m = m
-reading_after (PruningInvalid f) d m = m
-reading_after PruningNoWords d m = m
+abbrev pub reading_after : Result (Unit {0}) PruningError → Counts → List ℕ → List ℕ
+reading_after (Ok _) d m = put m 4 (counts_cells d)
+reading_after (Err e) d m = m
 
 -- from the numbers, tables and indexes at entry to those at exit
 pub record PruneFace (src m₀ m : List ℕ) (T₀ T : Tables) (X₀ X : Indexes) (ws₀ ws answer : List ℕ) : Type 0 where
-  pub pruning : Pruning
+  pub pruning : Result (Unit {0}) PruningError
   pub counts : Counts
   pub pruned : Prunings src (singles_of m₀) pruning (record { counts = counts_of m₀; tables = T₀; indexes = X₀; work = ws₀ }) (record { counts = counts; tables = T; indexes = X; work = ws })
   pub reading : m ≡ reading_after pruning counts m₀
@@ -193,7 +190,7 @@ pub record ValueFace : Type 0 where
   pub answer : List ℕ
   pub out : List ℕ
 
-abbrev pub valuation_cells : List ℕ → Valuation → List ℕ
+abbrev pub valuation_cells : List ℕ → Result ℕ ValuationError → List ℕ
 valuation_cells src v = counted_cells src (valuation_numbers v)
 
 abbrev pub value_face_of : List ℕ → Valued → ValueFace
@@ -216,7 +213,7 @@ abbrev pub store_face : List ℕ → ℕ → List ℕ → AllTables → Indexes 
 store_face src kind m T X out = store_face_of src (store_all src kind (counts_of m) (posix_of m) (singles_of m) T X out)
 
 -- loading back: a reading's numbers as load gives them, and behind them the kind and the source's length. Every place is 0 to 0, at line 1 and column 1.
-abbrev pub restoring_cells : Restoring → Head → List ℕ
+abbrev pub restoring_cells : Result (Unit {0}) RestoringError → Head → List ℕ
 restoring_cells a h = (restoring_numbers a ++ counts_cells h.counts ++ singles_cells h.singles) ++ (posix_cells h.posix ++ (1 ∷ 1 ∷ h.kind ∷ h.length ∷ []))
 
 pub record RestoreFace : Type 0 where
@@ -247,7 +244,7 @@ pub record BackFace (src : List ℕ) (kind : ℕ) (m : List ℕ) (T : AllTables)
 -- ---- the shipping form
 
 -- a reading's numbers as load gives them, of a kind without tables 15 to 17, with line and column of the answer's place; and behind them how many bytes were sent, in halves
-abbrev pub shipping_cells : Shipment → Counts → Singles → Spot → List ℕ
+abbrev pub shipping_cells : Result ℕ Refusal → Counts → Singles → Spot → List ℕ
 shipping_cells a c g s = (take 4 (shipment_numbers a) ++ counts_cells c ++ singles_cells g) ++ (posix_cells no_posix ++ spot_cells s ++ halves (get_or (shipment_numbers a) 4 0))
 
 pub record ShipFace : Type 0 where

@@ -1,10 +1,9 @@
 -- The third demand: "The unused report holds exactly the rules and tokens that no chain of productions from the start rule reaches and no declaration excuses, each once, in
 -- order."
-use Rattle.std.specs.Prelude.{ℕ, ◌+◌, ◌*◌, ◌≤◌, ◌≡◌, List, length}
+use Rattle.std.specs.Prelude.{ℕ, ◌+◌, ◌*◌, ◌≤◌, ◌≡◌, List, length, Result, Ok}
 use Rattle.loading.specs.Load.{LoadResult}
 use Rattle.reach.specs.Reach.{Grammar, grammar_of, need}
-use Rattle.usage.specs.declared.Listing.{Listing}
-use Rattle.usage.specs.declared.Listing.TheVariants.{Unused}
+use Rattle.usage.specs.declared.ListingError.{ListingError}
 use Rattle.usage.specs.Report.{Excuses, excuses_of}
 use Rattle.usage.specs.Standing.{UnusedRows}
 
@@ -21,7 +20,7 @@ pub record Roomy (g : Grammar) (work out : List ℕ) : Type 0 where
   pub rows : (g.rules.sort.count + g.tokens.sort.count) * 2 ≤ length out
 
 -- the report has n rows, and they are the unused rows
-pub record Exactly (g : Grammar) (x : Excuses) (l : Listing) (out : List ℕ) : Type 0 where
+pub record Exactly (g : Grammar) (x : Excuses) (l : Result ℕ ListingError) (out : List ℕ) : Type 0 where
   pub count : ℕ
-  pub listed : l ≡ Unused count
+  pub listed : l ≡ Ok count
   pub rows : UnusedRows g x count out

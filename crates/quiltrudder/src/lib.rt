@@ -2,17 +2,16 @@
 // the unused rows one by one, pruning, a reading in the catalogue's blocks and back, the shipping form, the name of a row and the value of an `%epp` row, each with line and column of its answer's place, and line and column of any place. None of them requires anything.
 #![tactic(auto)]
 
-use grammar::{Counts, PosixCounts, Singles, Told};
-use loading::Judgement;
+use grammar::{Counts, PosixCounts, Refusal, Singles, Told};
+use loading::LoadError;
 use places::Spot;
-use pruning::Pruning;
-use restoring::{Restoring, StoredReading};
-use shipping::Shipment;
-use storing::Storing;
-use usage::{Listing, Marking};
-use validation::{FaultListing, Validity};
-use values::Valuation;
-use walks::{Next, NextAt, Standing};
+use pruning::PruningError;
+use restoring::{RestoringError, StoredReading};
+use storing::StoringError;
+use usage::{ListingError, MarkingError};
+use validation::{FaultsError, ValidityError};
+use values::ValuationError;
+use walks::{NextAt, NextError, Standing};
 // The next unused row, with the record of where the walk stands moved on in place.
 ghost use Rattle.std.specs.Prelude.{◌≡◌, ◌++◌};
 ghost use Rattle.grammar.specs.Sound.{Tables};
@@ -37,7 +36,7 @@ pub use walks::next_unused;
 // A load's answer, its counts and singles, and line and column of the answer's place.
 #[derive(Clone, Copy)]
 pub struct LoadingAt {
-    pub answer: Judgement,
+    pub answer: Result<u32, LoadError>,
     pub counts: Counts,
     pub posix: PosixCounts,
     pub singles: Singles,
@@ -47,52 +46,52 @@ pub struct LoadingAt {
 // The other operations' answers, with line and column of their places.
 #[derive(Clone, Copy)]
 pub struct ValidityAt {
-    pub answer: Validity,
+    pub answer: Result<(), ValidityError>,
     pub spot: Spot,
 }
 
 #[derive(Clone, Copy)]
 pub struct FaultListingAt {
-    pub answer: FaultListing,
+    pub answer: Result<usize, FaultsError>,
     pub spot: Spot,
 }
 
 #[derive(Clone, Copy)]
 pub struct ListingAt {
-    pub answer: Listing,
+    pub answer: Result<usize, ListingError>,
     pub spot: Spot,
 }
 
 #[derive(Clone, Copy)]
 pub struct MarkingAt {
-    pub answer: Marking,
+    pub answer: Result<(), MarkingError>,
     pub spot: Spot,
 }
 
 // Pruning answers the counts that are left, too; after a refusal those that were.
 #[derive(Clone, Copy)]
 pub struct PruningAt {
-    pub answer: Pruning,
+    pub answer: Result<(), PruningError>,
     pub counts: Counts,
     pub spot: Spot,
 }
 
 #[derive(Clone, Copy)]
 pub struct ValuationAt {
-    pub answer: Valuation,
+    pub answer: Result<usize, ValuationError>,
     pub spot: Spot,
 }
 
 #[derive(Clone, Copy)]
 pub struct StoringAt {
-    pub answer: Storing,
+    pub answer: Result<u32, StoringError>,
     pub spot: Spot,
 }
 
 // Loading back answers what a load does, and the kind and the source's length, which a load was given.
 #[derive(Clone, Copy)]
 pub struct RestoringAt {
-    pub answer: Restoring,
+    pub answer: Result<(), RestoringError>,
     pub kind: u32,
     pub counts: Counts,
     pub posix: PosixCounts,
@@ -104,7 +103,7 @@ pub struct RestoringAt {
 // Shipping answers what its read does, too.
 #[derive(Clone, Copy)]
 pub struct ShippingAt {
-    pub answer: Shipment,
+    pub answer: Result<u32, Refusal>,
     pub counts: Counts,
     pub singles: Singles,
     pub spot: Spot,
@@ -137,7 +136,7 @@ pub fn load(
     t16: &mut [u32],
     t17: &mut [u32],
 ) -> LoadingAt
-    ensures fact { ◌≡◌ {A = LoadResult} (record { answer = result.answer; counts = result.counts; posix = result.posix; singles = result.singles; tables = record { t1 = t1.exit.now; t2 = t2.new; t3 = t3.new; t4 = t4.new; t5 = t5.new; t6 = t6.new; t7 = t7.new; t8 = t8.new; t9 = t9.new; t10 = t10.new; t15 = t15.new; t16 = t16.new; t17 = t17.new }; indexes = record { tokens = i1.new; rules = i7.new } }) (load_all src.now kind (record { t1 = t1.entry.now; t2 = t2.old; t3 = t3.old; t4 = t4.old; t5 = t5.old; t6 = t6.old; t7 = t7.old; t8 = t8.old; t9 = t9.old; t10 = t10.old; t15 = t15.old; t16 = t16.old; t17 = t17.old }) (record { tokens = i1.old; rules = i7.old })) }
+    ensures fact { ◌≡◌ {A = LoadResult} (record { answer = result.answer; counts = result.counts; posix = result.posix; singles = result.singles; tables = record { t1 = t1.new; t2 = t2.new; t3 = t3.new; t4 = t4.new; t5 = t5.new; t6 = t6.new; t7 = t7.new; t8 = t8.new; t9 = t9.new; t10 = t10.new; t15 = t15.new; t16 = t16.new; t17 = t17.new }; indexes = record { tokens = i1.new; rules = i7.new } }) (load_all src.now kind (record { t1 = t1.old; t2 = t2.old; t3 = t3.old; t4 = t4.old; t5 = t5.old; t6 = t6.old; t7 = t7.old; t8 = t8.old; t9 = t9.old; t10 = t10.old; t15 = t15.old; t16 = t16.old; t17 = t17.old }) (record { tokens = i1.old; rules = i7.old })) }
     ensures spot_value { result.spot ≡ answer_spot src.now (judgement_numbers result.answer) }
 {
     let r = loading::load(
@@ -174,7 +173,7 @@ pub fn validate(
     i1: &[u32],
     i7: &[u32],
 ) -> ValidityAt
-    ensures answer_value { result.answer ≡ validity src.now c g (record { t1 = t1.entry.now; t2 = t2.now; t3 = t3.now; t4 = t4.now; t5 = t5.now; t6 = t6.now; t7 = t7.now; t8 = t8.now; t9 = t9.now; t10 = t10.now }) (record { tokens = i1.now; rules = i7.now }) }
+    ensures answer_value { result.answer ≡ validity src.now c g (record { t1 = t1.now; t2 = t2.now; t3 = t3.now; t4 = t4.now; t5 = t5.now; t6 = t6.now; t7 = t7.now; t8 = t8.now; t9 = t9.now; t10 = t10.now }) (record { tokens = i1.now; rules = i7.now }) }
     ensures spot_value { result.spot ≡ answer_spot src.now (validity_numbers result.answer) }
 {
     let answer = validator::validate(src, c, g, t1, t2, t3, t4, t5, t6, t7, t8, t9, t10, i1, i7);
@@ -203,7 +202,7 @@ pub fn faults(
     i7: &[u32],
     t14: &mut [u32],
 ) -> FaultListingAt
-    ensures fact { ◌≡◌ {A = AllFaults} (record { answer = result.answer; cells = t14.new }) (fault_listing src.now c g (record { t1 = t1.entry.now; t2 = t2.now; t3 = t3.now; t4 = t4.now; t5 = t5.now; t6 = t6.now; t7 = t7.now; t8 = t8.now; t9 = t9.now; t10 = t10.now }) (record { tokens = i1.now; rules = i7.now }) t14.old) }
+    ensures fact { ◌≡◌ {A = AllFaults} (record { answer = result.answer; cells = t14.new }) (fault_listing src.now c g (record { t1 = t1.now; t2 = t2.now; t3 = t3.now; t4 = t4.now; t5 = t5.now; t6 = t6.now; t7 = t7.now; t8 = t8.now; t9 = t9.now; t10 = t10.now }) (record { tokens = i1.now; rules = i7.now }) t14.old) }
     ensures spot_value { result.spot ≡ answer_spot src.now (fault_listing_numbers result.answer) }
 {
     let answer = validator::faults(
@@ -235,7 +234,7 @@ pub fn report(
     work: &mut [u32],
     out: &mut [u32],
 ) -> ListingAt
-    ensures reported { Reported src.now c g (record { t1 = t1.entry.now; t2 = t2.now; t3 = t3.now; t4 = t4.now; t5 = t5.now; t6 = t6.now; t7 = t7.now; t8 = t8.now; t9 = t9.now; t10 = t10.now }) (record { tokens = i1.now; rules = i7.now }) result.answer work.old work.new out.old out.new }
+    ensures reported { Reported src.now c g (record { t1 = t1.now; t2 = t2.now; t3 = t3.now; t4 = t4.now; t5 = t5.now; t6 = t6.now; t7 = t7.now; t8 = t8.now; t9 = t9.now; t10 = t10.now }) (record { tokens = i1.now; rules = i7.now }) result.answer work.old work.new out.old out.new }
     ensures spot_value { result.spot ≡ answer_spot src.now (listing_numbers result.answer) }
 {
     let answer = usage::report(
@@ -266,7 +265,7 @@ pub fn mark(
     i7: &[u32],
     work: &mut [u32],
 ) -> MarkingAt
-    ensures marked_bits { MarkedBits src.now c g (record { t1 = t1.entry.now; t2 = t2.now; t3 = t3.now; t4 = t4.now; t5 = t5.now; t6 = t6.now; t7 = t7.now; t8 = t8.now; t9 = t9.now; t10 = t10.now }) (record { tokens = i1.now; rules = i7.now }) result.answer work.old work.new }
+    ensures marked_bits { MarkedBits src.now c g (record { t1 = t1.now; t2 = t2.now; t3 = t3.now; t4 = t4.now; t5 = t5.now; t6 = t6.now; t7 = t7.now; t8 = t8.now; t9 = t9.now; t10 = t10.now }) (record { tokens = i1.now; rules = i7.now }) result.answer work.old work.new }
     ensures spot_value { result.spot ≡ answer_spot src.now (marking_numbers result.answer) }
 {
     let answer = usage::mark(
@@ -297,7 +296,7 @@ pub fn prune(
     i7: &mut [u32],
     work: &mut [u32],
 ) -> PruningAt
-    ensures prunings { Prunings src.now g result.answer (record { counts = c; tables = record { t1 = t1.entry.now; t2 = t2.now; t3 = t3.old; t4 = t4.now; t5 = t5.old; t6 = t6.now; t7 = t7.old; t8 = t8.old; t9 = t9.old; t10 = t10.now }; indexes = record { tokens = i1.old; rules = i7.old }; work = work.old }) (record { counts = result.counts; tables = record { t1 = t1.exit.now; t2 = t2.now; t3 = t3.new; t4 = t4.now; t5 = t5.new; t6 = t6.now; t7 = t7.new; t8 = t8.new; t9 = t9.new; t10 = t10.now }; indexes = record { tokens = i1.new; rules = i7.new }; work = work.new }) }
+    ensures prunings { Prunings src.now g result.answer (record { counts = c; tables = record { t1 = t1.old; t2 = t2.now; t3 = t3.old; t4 = t4.now; t5 = t5.old; t6 = t6.now; t7 = t7.old; t8 = t8.old; t9 = t9.old; t10 = t10.now }; indexes = record { tokens = i1.old; rules = i7.old }; work = work.old }) (record { counts = result.counts; tables = record { t1 = t1.new; t2 = t2.now; t3 = t3.new; t4 = t4.now; t5 = t5.new; t6 = t6.now; t7 = t7.new; t8 = t8.new; t9 = t9.new; t10 = t10.now }; indexes = record { tokens = i1.new; rules = i7.new }; work = work.new }) }
     ensures spot_value { result.spot ≡ answer_spot src.now (pruning_numbers result.answer) }
 {
     let p = pruner::prune(
@@ -336,7 +335,7 @@ pub fn store(
     t17: &[u32],
     blocks: &mut [u8],
 ) -> StoringAt
-    ensures fact { ◌≡◌ {A = StoreResult} (record { answer = result.answer; blocks = blocks.new }) (store_all src.now kind c p g (record { t1 = t1.entry.now; t2 = t2.now; t3 = t3.now; t4 = t4.now; t5 = t5.now; t6 = t6.now; t7 = t7.now; t8 = t8.now; t9 = t9.now; t10 = t10.now; t15 = t15.now; t16 = t16.now; t17 = t17.now }) (record { tokens = i1.now; rules = i7.now }) blocks.old) }
+    ensures fact { ◌≡◌ {A = StoreResult} (record { answer = result.answer; blocks = blocks.new }) (store_all src.now kind c p g (record { t1 = t1.now; t2 = t2.now; t3 = t3.now; t4 = t4.now; t5 = t5.now; t6 = t6.now; t7 = t7.now; t8 = t8.now; t9 = t9.now; t10 = t10.now; t15 = t15.now; t16 = t16.now; t17 = t17.now }) (record { tokens = i1.now; rules = i7.now }) blocks.old) }
     ensures spot_value { result.spot ≡ answer_spot src.now (storing_numbers result.answer) }
 {
     let answer = storing::store(
@@ -368,7 +367,7 @@ pub fn load_stored(
     t16: &mut [u32],
     t17: &mut [u32],
 ) -> RestoringAt
-    ensures fact { ◌≡◌ {A = Restored} (record { answer = result.answer; head = record { kind = result.kind; counts = result.counts; posix = result.posix; length = result.length; singles = result.singles }; source = src.new; tables = record { t1 = t1.exit.now; t2 = t2.new; t3 = t3.new; t4 = t4.new; t5 = t5.new; t6 = t6.new; t7 = t7.new; t8 = t8.new; t9 = t9.new; t10 = t10.new; t15 = t15.new; t16 = t16.new; t17 = t17.new }; indexes = record { tokens = i1.new; rules = i7.new } }) (restored blocks.now src.old (record { t1 = t1.entry.now; t2 = t2.old; t3 = t3.old; t4 = t4.old; t5 = t5.old; t6 = t6.old; t7 = t7.old; t8 = t8.old; t9 = t9.old; t10 = t10.old; t15 = t15.old; t16 = t16.old; t17 = t17.old }) (record { tokens = i1.old; rules = i7.old })) }
+    ensures fact { ◌≡◌ {A = Restored} (record { answer = result.answer; head = record { kind = result.kind; counts = result.counts; posix = result.posix; length = result.length; singles = result.singles }; source = src.new; tables = record { t1 = t1.new; t2 = t2.new; t3 = t3.new; t4 = t4.new; t5 = t5.new; t6 = t6.new; t7 = t7.new; t8 = t8.new; t9 = t9.new; t10 = t10.new; t15 = t15.new; t16 = t16.new; t17 = t17.new }; indexes = record { tokens = i1.new; rules = i7.new } }) (restored blocks.now src.old (record { t1 = t1.old; t2 = t2.old; t3 = t3.old; t4 = t4.old; t5 = t5.old; t6 = t6.old; t7 = t7.old; t8 = t8.old; t9 = t9.old; t10 = t10.old; t15 = t15.old; t16 = t16.old; t17 = t17.old }) (record { tokens = i1.old; rules = i7.old })) }
     ensures spot_value { result.spot ≡ answer_spot src.new (restoring_numbers result.answer) }
 {
     let r = restoring::load_stored(
@@ -407,7 +406,7 @@ pub fn ship(
     i7: &mut [u32],
     out: &mut [u8],
 ) -> ShippingAt
-    ensures fact { ◌≡◌ {A = ShipResult} (record { answer = result.answer; counts = result.counts; singles = result.singles; tables = record { t1 = t1.exit.now; t2 = t2.new; t3 = t3.new; t4 = t4.new; t5 = t5.new; t6 = t6.new; t7 = t7.new; t8 = t8.new; t9 = t9.new; t10 = t10.new }; indexes = record { tokens = i1.new; rules = i7.new }; out = out.new }) (shipping src.now kind (record { t1 = t1.entry.now; t2 = t2.old; t3 = t3.old; t4 = t4.old; t5 = t5.old; t6 = t6.old; t7 = t7.old; t8 = t8.old; t9 = t9.old; t10 = t10.old }) (record { tokens = i1.old; rules = i7.old }) out.old) }
+    ensures fact { ◌≡◌ {A = ShipResult} (record { answer = result.answer; counts = result.counts; singles = result.singles; tables = record { t1 = t1.new; t2 = t2.new; t3 = t3.new; t4 = t4.new; t5 = t5.new; t6 = t6.new; t7 = t7.new; t8 = t8.new; t9 = t9.new; t10 = t10.new }; indexes = record { tokens = i1.new; rules = i7.new }; out = out.new }) (shipping src.now kind (record { t1 = t1.old; t2 = t2.old; t3 = t3.old; t4 = t4.old; t5 = t5.old; t6 = t6.old; t7 = t7.old; t8 = t8.old; t9 = t9.old; t10 = t10.old }) (record { tokens = i1.old; rules = i7.old }) out.old) }
     ensures spot_value { result.spot ≡ answer_spot src.now (shipment_numbers result.answer) }
 {
     let r = shipping::ship(
@@ -444,7 +443,7 @@ pub fn name<'a>(
     table: u32,
     row: u32,
 ) -> &'a [u8]
-    ensures { result.now ≡ name_of src.now c g (record { t1 = t1.entry.now; t2 = t2.now; t3 = t3.now; t4 = t4.now; t5 = t5.now; t6 = t6.now; t7 = t7.now; t8 = t8.now; t9 = t9.now; t10 = t10.now }) (record { tokens = i1.now; rules = i7.now }) table row }
+    ensures { result.now ≡ name_of src.now c g (record { t1 = t1.now; t2 = t2.now; t3 = t3.now; t4 = t4.now; t5 = t5.now; t6 = t6.now; t7 = t7.now; t8 = t8.now; t9 = t9.now; t10 = t10.now }) (record { tokens = i1.now; rules = i7.now }) table row }
 {
     names::name(
         src, c, g, t1, t2, t3, t4, t5, t6, t7, t8, t9, t10, i1, i7, table, row,
@@ -471,7 +470,7 @@ pub fn epp_value(
     row: u32,
     out: &mut [u8],
 ) -> ValuationAt
-    ensures fact { ◌≡◌ {A = Valued} (record { answer = result.answer; out = out.new }) (epp_value src.now c g (record { t1 = t1.entry.now; t2 = t2.now; t3 = t3.now; t4 = t4.now; t5 = t5.now; t6 = t6.now; t7 = t7.now; t8 = t8.now; t9 = t9.now; t10 = t10.now }) (record { tokens = i1.now; rules = i7.now }) row out.old) }
+    ensures fact { ◌≡◌ {A = Valued} (record { answer = result.answer; out = out.new }) (epp_value src.now c g (record { t1 = t1.now; t2 = t2.now; t3 = t3.now; t4 = t4.now; t5 = t5.now; t6 = t6.now; t7 = t7.now; t8 = t8.now; t9 = t9.now; t10 = t10.now }) (record { tokens = i1.now; rules = i7.now }) row out.old) }
     ensures spot_value { result.spot ≡ answer_spot src.now (valuation_numbers result.answer) }
 {
     let answer = values::epp_value(
@@ -484,7 +483,13 @@ pub fn epp_value(
 }
 
 // What a load answers: number, place and table, the ten counts, the singles, the counts of kind 4's tables, line and column.
-fn loading_cells(j: Judgement, c: Counts, p: PosixCounts, g: Singles, s: Spot) -> [u32; 43]
+fn loading_cells(
+    j: Result<u32, LoadError>,
+    c: Counts,
+    p: PosixCounts,
+    g: Singles,
+    s: Spot,
+) -> [u32; 43]
     ensures { result ≡ loading_cells j c g ++ (posix_cells p ++ spot_cells s) }
 {
     let t = numbers::of_judgement(j);
@@ -527,9 +532,9 @@ fn next_cells(n: NextAt) -> [u32; 8]
     let answer = n.answer;
     let spot = n.spot;
     match answer {
-        Next::NextUnused(kind, row) => [0, 0, 0, 0, kind, row, spot.line, spot.column],
-        Next::NoneLeft => [0, 0, 0, 0, 0, 0, spot.line, spot.column],
-        Next::NotFitting => [44, 0, 0, 0, 0, 0, spot.line, spot.column],
+        Ok(Some((kind, row))) => [0, 0, 0, 0, kind, row, spot.line, spot.column],
+        Ok(None) => [0, 0, 0, 0, 0, 0, spot.line, spot.column],
+        Err(NextError::NotFitting) => [44, 0, 0, 0, 0, 0, spot.line, spot.column],
     }
 }
 
@@ -553,7 +558,7 @@ fn name_cells(
     table: u32,
     row: u32,
 ) -> [u32; 4]
-    ensures { result ≡ name_cells src.now (name_at src.now c g (record { t1 = t1.entry.now; t2 = t2.now; t3 = t3.now; t4 = t4.now; t5 = t5.now; t6 = t6.now; t7 = t7.now; t8 = t8.now; t9 = t9.now; t10 = t10.now }) (record { tokens = i1.now; rules = i7.now }) table row) }
+    ensures { result ≡ name_cells src.now (name_at src.now c g (record { t1 = t1.now; t2 = t2.now; t3 = t3.now; t4 = t4.now; t5 = t5.now; t6 = t6.now; t7 = t7.now; t8 = t8.now; t9 = t9.now; t10 = t10.now }) (record { tokens = i1.now; rules = i7.now }) table row) }
 {
     if !sound::sound(src, c, g, t1, t2, t3, t4, t5, t6, t7, t8, t9, t10, i1, i7) {
         return [0, 0, 1, 1];
@@ -585,7 +590,7 @@ pub fn quiltrudder_load(
     t17: &mut [u32],
     answer: &mut [u32; 43],
 )
-    ensures { ◌≡◌ {A = LoadFace} (record { answer = answer.exit.now; tables = record { t1 = t1.exit.now; t2 = t2.new; t3 = t3.new; t4 = t4.new; t5 = t5.new; t6 = t6.new; t7 = t7.new; t8 = t8.new; t9 = t9.new; t10 = t10.new; t15 = t15.new; t16 = t16.new; t17 = t17.new }; indexes = record { tokens = i1.new; rules = i7.new } }) (load_face src.now kind (record { t1 = t1.entry.now; t2 = t2.old; t3 = t3.old; t4 = t4.old; t5 = t5.old; t6 = t6.old; t7 = t7.old; t8 = t8.old; t9 = t9.old; t10 = t10.old; t15 = t15.old; t16 = t16.old; t17 = t17.old }) (record { tokens = i1.old; rules = i7.old })) }
+    ensures { ◌≡◌ {A = LoadFace} (record { answer = answer.new; tables = record { t1 = t1.new; t2 = t2.new; t3 = t3.new; t4 = t4.new; t5 = t5.new; t6 = t6.new; t7 = t7.new; t8 = t8.new; t9 = t9.new; t10 = t10.new; t15 = t15.new; t16 = t16.new; t17 = t17.new }; indexes = record { tokens = i1.new; rules = i7.new } }) (load_face src.now kind (record { t1 = t1.old; t2 = t2.old; t3 = t3.old; t4 = t4.old; t5 = t5.old; t6 = t6.old; t7 = t7.old; t8 = t8.old; t9 = t9.old; t10 = t10.old; t15 = t15.old; t16 = t16.old; t17 = t17.old }) (record { tokens = i1.old; rules = i7.old })) }
 {
     let r = load(
         src, kind, t1, t2, t3, t4, t5, t6, t7, t8, t9, t10, i1, i7, t15, t16, t17,
@@ -616,7 +621,7 @@ pub fn quiltrudder_validate(
     i7: &[u32],
     answer: &mut [u32; 6],
 )
-    ensures { answer.new ≡ validate_face src.now reading.now (record { t1 = t1.entry.now; t2 = t2.now; t3 = t3.now; t4 = t4.now; t5 = t5.now; t6 = t6.now; t7 = t7.now; t8 = t8.now; t9 = t9.now; t10 = t10.now }) (record { tokens = i1.now; rules = i7.now }) }
+    ensures { answer.new ≡ validate_face src.now reading.now (record { t1 = t1.now; t2 = t2.now; t3 = t3.now; t4 = t4.now; t5 = t5.now; t6 = t6.now; t7 = t7.now; t8 = t8.now; t9 = t9.now; t10 = t10.now }) (record { tokens = i1.now; rules = i7.now }) }
 {
     let c = singles::counts_of(reading);
     let g = singles::singles_of(reading);
@@ -646,7 +651,7 @@ pub fn quiltrudder_faults(
     t14: &mut [u32],
     answer: &mut [u32; 8],
 )
-    ensures { ◌≡◌ {A = FaultsFace} (record { answer = answer.exit.now; cells = t14.new }) (faults_face src.now reading.now (record { t1 = t1.entry.now; t2 = t2.now; t3 = t3.now; t4 = t4.now; t5 = t5.now; t6 = t6.now; t7 = t7.now; t8 = t8.now; t9 = t9.now; t10 = t10.now }) (record { tokens = i1.now; rules = i7.now }) t14.old) }
+    ensures { ◌≡◌ {A = FaultsFace} (record { answer = answer.new; cells = t14.new }) (faults_face src.now reading.now (record { t1 = t1.now; t2 = t2.now; t3 = t3.now; t4 = t4.now; t5 = t5.now; t6 = t6.now; t7 = t7.now; t8 = t8.now; t9 = t9.now; t10 = t10.now }) (record { tokens = i1.now; rules = i7.now }) t14.old) }
 {
     let c = singles::counts_of(reading);
     let g = singles::singles_of(reading);
@@ -678,7 +683,7 @@ pub fn quiltrudder_report(
     out: &mut [u32],
     answer: &mut [u32; 8],
 )
-    ensures { ReportFace src.now reading.now (record { t1 = t1.entry.now; t2 = t2.now; t3 = t3.now; t4 = t4.now; t5 = t5.now; t6 = t6.now; t7 = t7.now; t8 = t8.now; t9 = t9.now; t10 = t10.now }) (record { tokens = i1.now; rules = i7.now }) work.old work.new out.old out.new answer.new }
+    ensures { ReportFace src.now reading.now (record { t1 = t1.now; t2 = t2.now; t3 = t3.now; t4 = t4.now; t5 = t5.now; t6 = t6.now; t7 = t7.now; t8 = t8.now; t9 = t9.now; t10 = t10.now }) (record { tokens = i1.now; rules = i7.now }) work.old work.new out.old out.new answer.new }
 {
     let c = singles::counts_of(reading);
     let g = singles::singles_of(reading);
@@ -709,7 +714,7 @@ pub fn quiltrudder_mark(
     work: &mut [u32],
     answer: &mut [u32; 6],
 )
-    ensures { MarkFace src.now reading.now (record { t1 = t1.entry.now; t2 = t2.now; t3 = t3.now; t4 = t4.now; t5 = t5.now; t6 = t6.now; t7 = t7.now; t8 = t8.now; t9 = t9.now; t10 = t10.now }) (record { tokens = i1.now; rules = i7.now }) work.old work.new answer.new }
+    ensures { MarkFace src.now reading.now (record { t1 = t1.now; t2 = t2.now; t3 = t3.now; t4 = t4.now; t5 = t5.now; t6 = t6.now; t7 = t7.now; t8 = t8.now; t9 = t9.now; t10 = t10.now }) (record { tokens = i1.now; rules = i7.now }) work.old work.new answer.new }
 {
     let c = singles::counts_of(reading);
     let g = singles::singles_of(reading);
@@ -742,7 +747,7 @@ pub fn quiltrudder_next_unused(
     at: &mut [u32; 2],
     answer: &mut [u32; 8],
 )
-    ensures { NextFace src.now reading.now (record { t1 = t1.entry.now; t2 = t2.now; t3 = t3.now; t4 = t4.now; t5 = t5.now; t6 = t6.now; t7 = t7.now; t8 = t8.now; t9 = t9.now; t10 = t10.now }) (record { tokens = i1.now; rules = i7.now }) work.now at.old at.new answer.new }
+    ensures { NextFace src.now reading.now (record { t1 = t1.now; t2 = t2.now; t3 = t3.now; t4 = t4.now; t5 = t5.now; t6 = t6.now; t7 = t7.now; t8 = t8.now; t9 = t9.now; t10 = t10.now }) (record { tokens = i1.now; rules = i7.now }) work.now at.old at.new answer.new }
 {
     let c = singles::counts_of(reading);
     let g = singles::singles_of(reading);
@@ -760,12 +765,12 @@ pub fn quiltrudder_next_unused(
 }
 
 // The numbers of a reading behind a pruning: the counts are those that are left.
-fn reading_after(m: &[u32; 43], p: Pruning, d: Counts) -> [u32; 43]
+fn reading_after(m: &[u32; 43], p: Result<(), PruningError>, d: Counts) -> [u32; 43]
     ensures { result ≡ reading_after p d m.now }
 {
     let mut r = *m;
     match p {
-        Pruning::AllPruned => {
+        Ok(()) => {
             r[4] = d.n[0];
             r[5] = d.n[1];
             r[6] = d.n[2];
@@ -778,9 +783,7 @@ fn reading_after(m: &[u32; 43], p: Pruning, d: Counts) -> [u32; 43]
             r[13] = d.n[9];
             r
         }
-        Pruning::PruningUnsound => r,
-        Pruning::PruningInvalid(_) => r,
-        Pruning::PruningNoWords => r,
+        Err(_) => r,
     }
 }
 
@@ -803,7 +806,7 @@ pub fn quiltrudder_prune(
     work: &mut [u32],
     answer: &mut [u32; 6],
 )
-    ensures { PruneFace src.now reading.old reading.new (record { t1 = t1.entry.now; t2 = t2.now; t3 = t3.old; t4 = t4.now; t5 = t5.old; t6 = t6.now; t7 = t7.old; t8 = t8.old; t9 = t9.old; t10 = t10.now }) (record { t1 = t1.exit.now; t2 = t2.now; t3 = t3.new; t4 = t4.now; t5 = t5.new; t6 = t6.now; t7 = t7.new; t8 = t8.new; t9 = t9.new; t10 = t10.now }) (record { tokens = i1.old; rules = i7.old }) (record { tokens = i1.new; rules = i7.new }) work.old work.new answer.new }
+    ensures { PruneFace src.now reading.old reading.new (record { t1 = t1.old; t2 = t2.now; t3 = t3.old; t4 = t4.now; t5 = t5.old; t6 = t6.now; t7 = t7.old; t8 = t8.old; t9 = t9.old; t10 = t10.now }) (record { t1 = t1.new; t2 = t2.now; t3 = t3.new; t4 = t4.now; t5 = t5.new; t6 = t6.now; t7 = t7.new; t8 = t8.new; t9 = t9.new; t10 = t10.now }) (record { tokens = i1.old; rules = i7.old }) (record { tokens = i1.new; rules = i7.new }) work.old work.new answer.new }
 {
     let c = singles::counts_of(reading);
     let g = singles::singles_of(reading);
@@ -838,7 +841,7 @@ pub fn quiltrudder_name(
     row: u32,
     answer: &mut [u32; 4],
 )
-    ensures { answer.new ≡ name_face src.now reading.now (record { t1 = t1.entry.now; t2 = t2.now; t3 = t3.now; t4 = t4.now; t5 = t5.now; t6 = t6.now; t7 = t7.now; t8 = t8.now; t9 = t9.now; t10 = t10.now }) (record { tokens = i1.now; rules = i7.now }) table row }
+    ensures { answer.new ≡ name_face src.now reading.now (record { t1 = t1.now; t2 = t2.now; t3 = t3.now; t4 = t4.now; t5 = t5.now; t6 = t6.now; t7 = t7.now; t8 = t8.now; t9 = t9.now; t10 = t10.now }) (record { tokens = i1.now; rules = i7.now }) table row }
 {
     let c = singles::counts_of(reading);
     let g = singles::singles_of(reading);
@@ -867,7 +870,7 @@ pub fn quiltrudder_epp_value(
     out: &mut [u8],
     answer: &mut [u32; 8],
 )
-    ensures { ◌≡◌ {A = ValueFace} (record { answer = answer.exit.now; out = out.new }) (value_face src.now reading.now (record { t1 = t1.entry.now; t2 = t2.now; t3 = t3.now; t4 = t4.now; t5 = t5.now; t6 = t6.now; t7 = t7.now; t8 = t8.now; t9 = t9.now; t10 = t10.now }) (record { tokens = i1.now; rules = i7.now }) row out.old) }
+    ensures { ◌≡◌ {A = ValueFace} (record { answer = answer.new; out = out.new }) (value_face src.now reading.now (record { t1 = t1.now; t2 = t2.now; t3 = t3.now; t4 = t4.now; t5 = t5.now; t6 = t6.now; t7 = t7.now; t8 = t8.now; t9 = t9.now; t10 = t10.now }) (record { tokens = i1.now; rules = i7.now }) row out.old) }
 {
     let c = singles::counts_of(reading);
     let g = singles::singles_of(reading);
@@ -910,7 +913,7 @@ pub fn quiltrudder_store(
     blocks: &mut [u8],
     answer: &mut [u32; 8],
 )
-    ensures { ◌≡◌ {A = StoreFace} (record { answer = answer.exit.now; blocks = blocks.new }) (store_face src.now kind reading.now (record { t1 = t1.entry.now; t2 = t2.now; t3 = t3.now; t4 = t4.now; t5 = t5.now; t6 = t6.now; t7 = t7.now; t8 = t8.now; t9 = t9.now; t10 = t10.now; t15 = t15.now; t16 = t16.now; t17 = t17.now }) (record { tokens = i1.now; rules = i7.now }) blocks.old) }
+    ensures { ◌≡◌ {A = StoreFace} (record { answer = answer.new; blocks = blocks.new }) (store_face src.now kind reading.now (record { t1 = t1.now; t2 = t2.now; t3 = t3.now; t4 = t4.now; t5 = t5.now; t6 = t6.now; t7 = t7.now; t8 = t8.now; t9 = t9.now; t10 = t10.now; t15 = t15.now; t16 = t16.now; t17 = t17.now }) (record { tokens = i1.now; rules = i7.now }) blocks.old) }
 {
     let c = singles::counts_of(reading);
     let p = singles::posix_of(reading);
@@ -991,7 +994,7 @@ pub fn quiltrudder_load_stored(
     t17: &mut [u32],
     answer: &mut [u32; 45],
 )
-    ensures { ◌≡◌ {A = RestoreFace} (record { answer = answer.exit.now; source = src.new; tables = record { t1 = t1.exit.now; t2 = t2.new; t3 = t3.new; t4 = t4.new; t5 = t5.new; t6 = t6.new; t7 = t7.new; t8 = t8.new; t9 = t9.new; t10 = t10.new; t15 = t15.new; t16 = t16.new; t17 = t17.new }; indexes = record { tokens = i1.new; rules = i7.new } }) (restore_face blocks.now src.old (record { t1 = t1.entry.now; t2 = t2.old; t3 = t3.old; t4 = t4.old; t5 = t5.old; t6 = t6.old; t7 = t7.old; t8 = t8.old; t9 = t9.old; t10 = t10.old; t15 = t15.old; t16 = t16.old; t17 = t17.old }) (record { tokens = i1.old; rules = i7.old })) }
+    ensures { ◌≡◌ {A = RestoreFace} (record { answer = answer.new; source = src.new; tables = record { t1 = t1.new; t2 = t2.new; t3 = t3.new; t4 = t4.new; t5 = t5.new; t6 = t6.new; t7 = t7.new; t8 = t8.new; t9 = t9.new; t10 = t10.new; t15 = t15.new; t16 = t16.new; t17 = t17.new }; indexes = record { tokens = i1.new; rules = i7.new } }) (restore_face blocks.now src.old (record { t1 = t1.old; t2 = t2.old; t3 = t3.old; t4 = t4.old; t5 = t5.old; t6 = t6.old; t7 = t7.old; t8 = t8.old; t9 = t9.old; t10 = t10.old; t15 = t15.old; t16 = t16.old; t17 = t17.old }) (record { tokens = i1.old; rules = i7.old })) }
 {
     let r = restoring::load_stored(
         blocks, src, t1, t2, t3, t4, t5, t6, t7, t8, t9, t10, i1, i7, t15, t16, t17,
@@ -1018,7 +1021,7 @@ pub fn quiltrudder_ship(
     out: &mut [u8],
     answer: &mut [u32; 45],
 )
-    ensures { ◌≡◌ {A = ShipFace} (record { answer = answer.exit.now; tables = record { t1 = t1.exit.now; t2 = t2.new; t3 = t3.new; t4 = t4.new; t5 = t5.new; t6 = t6.new; t7 = t7.new; t8 = t8.new; t9 = t9.new; t10 = t10.new }; indexes = record { tokens = i1.new; rules = i7.new }; out = out.new }) (ship_face src.now kind (record { t1 = t1.entry.now; t2 = t2.old; t3 = t3.old; t4 = t4.old; t5 = t5.old; t6 = t6.old; t7 = t7.old; t8 = t8.old; t9 = t9.old; t10 = t10.old }) (record { tokens = i1.old; rules = i7.old }) out.old) }
+    ensures { ◌≡◌ {A = ShipFace} (record { answer = answer.new; tables = record { t1 = t1.new; t2 = t2.new; t3 = t3.new; t4 = t4.new; t5 = t5.new; t6 = t6.new; t7 = t7.new; t8 = t8.new; t9 = t9.new; t10 = t10.new }; indexes = record { tokens = i1.new; rules = i7.new }; out = out.new }) (ship_face src.now kind (record { t1 = t1.old; t2 = t2.old; t3 = t3.old; t4 = t4.old; t5 = t5.old; t6 = t6.old; t7 = t7.old; t8 = t8.old; t9 = t9.old; t10 = t10.old }) (record { tokens = i1.old; rules = i7.old }) out.old) }
 {
     let r = ship(
         src, kind, t1, t2, t3, t4, t5, t6, t7, t8, t9, t10, i1, i7, out,

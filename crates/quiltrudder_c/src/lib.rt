@@ -28,7 +28,7 @@ pub extern "C" fn quiltrudder_load(
     t17: &mut [u32],
     answer: &mut [u32; 43],
 )
-    ensures { ◌≡◌ {A = LoadFace} (record { answer = answer.exit.now; tables = record { t1 = t1.exit.now; t2 = t2.new; t3 = t3.new; t4 = t4.new; t5 = t5.new; t6 = t6.new; t7 = t7.new; t8 = t8.new; t9 = t9.new; t10 = t10.new; t15 = t15.new; t16 = t16.new; t17 = t17.new }; indexes = record { tokens = i1.new; rules = i7.new } }) (load_face src.now kind (record { t1 = t1.entry.now; t2 = t2.old; t3 = t3.old; t4 = t4.old; t5 = t5.old; t6 = t6.old; t7 = t7.old; t8 = t8.old; t9 = t9.old; t10 = t10.old; t15 = t15.old; t16 = t16.old; t17 = t17.old }) (record { tokens = i1.old; rules = i7.old })) }
+    ensures { ◌≡◌ {A = LoadFace} (record { answer = answer.new; tables = record { t1 = t1.new; t2 = t2.new; t3 = t3.new; t4 = t4.new; t5 = t5.new; t6 = t6.new; t7 = t7.new; t8 = t8.new; t9 = t9.new; t10 = t10.new; t15 = t15.new; t16 = t16.new; t17 = t17.new }; indexes = record { tokens = i1.new; rules = i7.new } }) (load_face src.now kind (record { t1 = t1.old; t2 = t2.old; t3 = t3.old; t4 = t4.old; t5 = t5.old; t6 = t6.old; t7 = t7.old; t8 = t8.old; t9 = t9.old; t10 = t10.old; t15 = t15.old; t16 = t16.old; t17 = t17.old }) (record { tokens = i1.old; rules = i7.old })) }
 {
     quiltrudder::quiltrudder_load(
         src, kind, t1, t2, t3, t4, t5, t6, t7, t8, t9, t10, i1, i7, t15, t16, t17, answer,
@@ -54,7 +54,7 @@ pub extern "C" fn quiltrudder_validate(
     i7: &[u32],
     answer: &mut [u32; 6],
 )
-    ensures { answer.new ≡ validate_face src.now reading.now (record { t1 = t1.entry.now; t2 = t2.now; t3 = t3.now; t4 = t4.now; t5 = t5.now; t6 = t6.now; t7 = t7.now; t8 = t8.now; t9 = t9.now; t10 = t10.now }) (record { tokens = i1.now; rules = i7.now }) }
+    ensures { answer.new ≡ validate_face src.now reading.now (record { t1 = t1.now; t2 = t2.now; t3 = t3.now; t4 = t4.now; t5 = t5.now; t6 = t6.now; t7 = t7.now; t8 = t8.now; t9 = t9.now; t10 = t10.now }) (record { tokens = i1.now; rules = i7.now }) }
 {
     quiltrudder::quiltrudder_validate(
         src, reading, t1, t2, t3, t4, t5, t6, t7, t8, t9, t10, i1, i7, answer,
@@ -81,7 +81,7 @@ pub extern "C" fn quiltrudder_faults(
     t14: &mut [u32],
     answer: &mut [u32; 8],
 )
-    ensures { ◌≡◌ {A = FaultsFace} (record { answer = answer.exit.now; cells = t14.new }) (faults_face src.now reading.now (record { t1 = t1.entry.now; t2 = t2.now; t3 = t3.now; t4 = t4.now; t5 = t5.now; t6 = t6.now; t7 = t7.now; t8 = t8.now; t9 = t9.now; t10 = t10.now }) (record { tokens = i1.now; rules = i7.now }) t14.old) }
+    ensures { ◌≡◌ {A = FaultsFace} (record { answer = answer.new; cells = t14.new }) (faults_face src.now reading.now (record { t1 = t1.now; t2 = t2.now; t3 = t3.now; t4 = t4.now; t5 = t5.now; t6 = t6.now; t7 = t7.now; t8 = t8.now; t9 = t9.now; t10 = t10.now }) (record { tokens = i1.now; rules = i7.now }) t14.old) }
 {
     quiltrudder::quiltrudder_faults(
         src, reading, t1, t2, t3, t4, t5, t6, t7, t8, t9, t10, i1, i7, t14, answer,
@@ -109,7 +109,7 @@ pub extern "C" fn quiltrudder_report(
     out: &mut [u32],
     answer: &mut [u32; 8],
 )
-    ensures { ReportFace src.now reading.now (record { t1 = t1.entry.now; t2 = t2.now; t3 = t3.now; t4 = t4.now; t5 = t5.now; t6 = t6.now; t7 = t7.now; t8 = t8.now; t9 = t9.now; t10 = t10.now }) (record { tokens = i1.now; rules = i7.now }) work.old work.new out.old out.new answer.new }
+    ensures { ReportFace src.now reading.now (record { t1 = t1.now; t2 = t2.now; t3 = t3.now; t4 = t4.now; t5 = t5.now; t6 = t6.now; t7 = t7.now; t8 = t8.now; t9 = t9.now; t10 = t10.now }) (record { tokens = i1.now; rules = i7.now }) work.old work.new out.old out.new answer.new }
 {
     quiltrudder::quiltrudder_report(
         src, reading, t1, t2, t3, t4, t5, t6, t7, t8, t9, t10, i1, i7, work, out, answer,
@@ -136,7 +136,7 @@ pub extern "C" fn quiltrudder_mark(
     work: &mut [u32],
     answer: &mut [u32; 6],
 )
-    ensures { MarkFace src.now reading.now (record { t1 = t1.entry.now; t2 = t2.now; t3 = t3.now; t4 = t4.now; t5 = t5.now; t6 = t6.now; t7 = t7.now; t8 = t8.now; t9 = t9.now; t10 = t10.now }) (record { tokens = i1.now; rules = i7.now }) work.old work.new answer.new }
+    ensures { MarkFace src.now reading.now (record { t1 = t1.now; t2 = t2.now; t3 = t3.now; t4 = t4.now; t5 = t5.now; t6 = t6.now; t7 = t7.now; t8 = t8.now; t9 = t9.now; t10 = t10.now }) (record { tokens = i1.now; rules = i7.now }) work.old work.new answer.new }
 {
     quiltrudder::quiltrudder_mark(
         src, reading, t1, t2, t3, t4, t5, t6, t7, t8, t9, t10, i1, i7, work, answer,
@@ -164,7 +164,7 @@ pub extern "C" fn quiltrudder_next_unused(
     at: &mut [u32; 2],
     answer: &mut [u32; 8],
 )
-    ensures { NextFace src.now reading.now (record { t1 = t1.entry.now; t2 = t2.now; t3 = t3.now; t4 = t4.now; t5 = t5.now; t6 = t6.now; t7 = t7.now; t8 = t8.now; t9 = t9.now; t10 = t10.now }) (record { tokens = i1.now; rules = i7.now }) work.now at.old at.new answer.new }
+    ensures { NextFace src.now reading.now (record { t1 = t1.now; t2 = t2.now; t3 = t3.now; t4 = t4.now; t5 = t5.now; t6 = t6.now; t7 = t7.now; t8 = t8.now; t9 = t9.now; t10 = t10.now }) (record { tokens = i1.now; rules = i7.now }) work.now at.old at.new answer.new }
 {
     quiltrudder::quiltrudder_next_unused(
         src, reading, t1, t2, t3, t4, t5, t6, t7, t8, t9, t10, i1, i7, work, at, answer,
@@ -191,7 +191,7 @@ pub extern "C" fn quiltrudder_prune(
     work: &mut [u32],
     answer: &mut [u32; 6],
 )
-    ensures { PruneFace src.now reading.old reading.new (record { t1 = t1.entry.now; t2 = t2.now; t3 = t3.old; t4 = t4.now; t5 = t5.old; t6 = t6.now; t7 = t7.old; t8 = t8.old; t9 = t9.old; t10 = t10.now }) (record { t1 = t1.exit.now; t2 = t2.now; t3 = t3.new; t4 = t4.now; t5 = t5.new; t6 = t6.now; t7 = t7.new; t8 = t8.new; t9 = t9.new; t10 = t10.now }) (record { tokens = i1.old; rules = i7.old }) (record { tokens = i1.new; rules = i7.new }) work.old work.new answer.new }
+    ensures { PruneFace src.now reading.old reading.new (record { t1 = t1.old; t2 = t2.now; t3 = t3.old; t4 = t4.now; t5 = t5.old; t6 = t6.now; t7 = t7.old; t8 = t8.old; t9 = t9.old; t10 = t10.now }) (record { t1 = t1.new; t2 = t2.now; t3 = t3.new; t4 = t4.now; t5 = t5.new; t6 = t6.now; t7 = t7.new; t8 = t8.new; t9 = t9.new; t10 = t10.now }) (record { tokens = i1.old; rules = i7.old }) (record { tokens = i1.new; rules = i7.new }) work.old work.new answer.new }
 {
     quiltrudder::quiltrudder_prune(
         src, reading, t1, t2, t3, t4, t5, t6, t7, t8, t9, t10, i1, i7, work, answer,
@@ -219,7 +219,7 @@ pub extern "C" fn quiltrudder_name(
     row: u32,
     answer: &mut [u32; 4],
 )
-    ensures { answer.new ≡ name_face src.now reading.now (record { t1 = t1.entry.now; t2 = t2.now; t3 = t3.now; t4 = t4.now; t5 = t5.now; t6 = t6.now; t7 = t7.now; t8 = t8.now; t9 = t9.now; t10 = t10.now }) (record { tokens = i1.now; rules = i7.now }) table row }
+    ensures { answer.new ≡ name_face src.now reading.now (record { t1 = t1.now; t2 = t2.now; t3 = t3.now; t4 = t4.now; t5 = t5.now; t6 = t6.now; t7 = t7.now; t8 = t8.now; t9 = t9.now; t10 = t10.now }) (record { tokens = i1.now; rules = i7.now }) table row }
 {
     quiltrudder::quiltrudder_name(
         src, reading, t1, t2, t3, t4, t5, t6, t7, t8, t9, t10, i1, i7, table, row, answer,
@@ -247,7 +247,7 @@ pub extern "C" fn quiltrudder_epp_value(
     out: &mut [u8],
     answer: &mut [u32; 8],
 )
-    ensures { ◌≡◌ {A = ValueFace} (record { answer = answer.exit.now; out = out.new }) (value_face src.now reading.now (record { t1 = t1.entry.now; t2 = t2.now; t3 = t3.now; t4 = t4.now; t5 = t5.now; t6 = t6.now; t7 = t7.now; t8 = t8.now; t9 = t9.now; t10 = t10.now }) (record { tokens = i1.now; rules = i7.now }) row out.old) }
+    ensures { ◌≡◌ {A = ValueFace} (record { answer = answer.new; out = out.new }) (value_face src.now reading.now (record { t1 = t1.now; t2 = t2.now; t3 = t3.now; t4 = t4.now; t5 = t5.now; t6 = t6.now; t7 = t7.now; t8 = t8.now; t9 = t9.now; t10 = t10.now }) (record { tokens = i1.now; rules = i7.now }) row out.old) }
 {
     quiltrudder::quiltrudder_epp_value(
         src, reading, t1, t2, t3, t4, t5, t6, t7, t8, t9, t10, i1, i7, row, out, answer,
@@ -286,7 +286,7 @@ pub extern "C" fn quiltrudder_store(
     blocks: &mut [u8],
     answer: &mut [u32; 8],
 )
-    ensures { ◌≡◌ {A = StoreFace} (record { answer = answer.exit.now; blocks = blocks.new }) (store_face src.now kind reading.now (record { t1 = t1.entry.now; t2 = t2.now; t3 = t3.now; t4 = t4.now; t5 = t5.now; t6 = t6.now; t7 = t7.now; t8 = t8.now; t9 = t9.now; t10 = t10.now; t15 = t15.now; t16 = t16.now; t17 = t17.now }) (record { tokens = i1.now; rules = i7.now }) blocks.old) }
+    ensures { ◌≡◌ {A = StoreFace} (record { answer = answer.new; blocks = blocks.new }) (store_face src.now kind reading.now (record { t1 = t1.now; t2 = t2.now; t3 = t3.now; t4 = t4.now; t5 = t5.now; t6 = t6.now; t7 = t7.now; t8 = t8.now; t9 = t9.now; t10 = t10.now; t15 = t15.now; t16 = t16.now; t17 = t17.now }) (record { tokens = i1.now; rules = i7.now }) blocks.old) }
 {
     quiltrudder::quiltrudder_store(
         src, kind, reading, t1, t2, t3, t4, t5, t6, t7, t8, t9, t10, i1, i7, t15, t16, t17, blocks,
@@ -316,7 +316,7 @@ pub extern "C" fn quiltrudder_load_stored(
     t17: &mut [u32],
     answer: &mut [u32; 45],
 )
-    ensures { ◌≡◌ {A = RestoreFace} (record { answer = answer.exit.now; source = src.new; tables = record { t1 = t1.exit.now; t2 = t2.new; t3 = t3.new; t4 = t4.new; t5 = t5.new; t6 = t6.new; t7 = t7.new; t8 = t8.new; t9 = t9.new; t10 = t10.new; t15 = t15.new; t16 = t16.new; t17 = t17.new }; indexes = record { tokens = i1.new; rules = i7.new } }) (restore_face blocks.now src.old (record { t1 = t1.entry.now; t2 = t2.old; t3 = t3.old; t4 = t4.old; t5 = t5.old; t6 = t6.old; t7 = t7.old; t8 = t8.old; t9 = t9.old; t10 = t10.old; t15 = t15.old; t16 = t16.old; t17 = t17.old }) (record { tokens = i1.old; rules = i7.old })) }
+    ensures { ◌≡◌ {A = RestoreFace} (record { answer = answer.new; source = src.new; tables = record { t1 = t1.new; t2 = t2.new; t3 = t3.new; t4 = t4.new; t5 = t5.new; t6 = t6.new; t7 = t7.new; t8 = t8.new; t9 = t9.new; t10 = t10.new; t15 = t15.new; t16 = t16.new; t17 = t17.new }; indexes = record { tokens = i1.new; rules = i7.new } }) (restore_face blocks.now src.old (record { t1 = t1.old; t2 = t2.old; t3 = t3.old; t4 = t4.old; t5 = t5.old; t6 = t6.old; t7 = t7.old; t8 = t8.old; t9 = t9.old; t10 = t10.old; t15 = t15.old; t16 = t16.old; t17 = t17.old }) (record { tokens = i1.old; rules = i7.old })) }
 {
     quiltrudder::quiltrudder_load_stored(
         blocks, src, t1, t2, t3, t4, t5, t6, t7, t8, t9, t10, i1, i7, t15, t16, t17, answer,
@@ -343,7 +343,7 @@ pub extern "C" fn quiltrudder_ship(
     out: &mut [u8],
     answer: &mut [u32; 45],
 )
-    ensures { ◌≡◌ {A = ShipFace} (record { answer = answer.exit.now; tables = record { t1 = t1.exit.now; t2 = t2.new; t3 = t3.new; t4 = t4.new; t5 = t5.new; t6 = t6.new; t7 = t7.new; t8 = t8.new; t9 = t9.new; t10 = t10.new }; indexes = record { tokens = i1.new; rules = i7.new }; out = out.new }) (ship_face src.now kind (record { t1 = t1.entry.now; t2 = t2.old; t3 = t3.old; t4 = t4.old; t5 = t5.old; t6 = t6.old; t7 = t7.old; t8 = t8.old; t9 = t9.old; t10 = t10.old }) (record { tokens = i1.old; rules = i7.old }) out.old) }
+    ensures { ◌≡◌ {A = ShipFace} (record { answer = answer.new; tables = record { t1 = t1.new; t2 = t2.new; t3 = t3.new; t4 = t4.new; t5 = t5.new; t6 = t6.new; t7 = t7.new; t8 = t8.new; t9 = t9.new; t10 = t10.new }; indexes = record { tokens = i1.new; rules = i7.new }; out = out.new }) (ship_face src.now kind (record { t1 = t1.old; t2 = t2.old; t3 = t3.old; t4 = t4.old; t5 = t5.old; t6 = t6.old; t7 = t7.old; t8 = t8.old; t9 = t9.old; t10 = t10.old }) (record { tokens = i1.old; rules = i7.old }) out.old) }
 {
     quiltrudder::quiltrudder_ship(
         src, kind, t1, t2, t3, t4, t5, t6, t7, t8, t9, t10, i1, i7, out, answer,

@@ -1,10 +1,9 @@
 -- Laws of chains. Assumes nothing.
+use Rattle.std.specs.Prelude.{Option, Some, None}
 use Prim.Native.Nat.{ℕ, ◌<◌}
 use mathlib.Core.Path.{◌≡◌}
 use mathlib.Core.List.{List}
 use Rattle.bits.specs.Bits.{bit}
-use Rattle.grammar.specs.declared.Part.{Part}
-use Rattle.grammar.specs.declared.Part.TheVariants.{Absent, At}
 use Rattle.reach.specs.Reach.{Net, Named, Grammar, Names, Chain, here, next, Begins, UsedRule, From, Closed}
 
 -- two chains make one
@@ -22,9 +21,9 @@ pub from_next : {g : Net} {d : Named} {ws : List ℕ} {b c : ℕ} → From g d w
 from_next f n = record { root = f.root; marked = f.marked; chain = next f.chain n }
 
 -- what is named lies below the count
-pub begins_in : (src : List ℕ) (d : Named) (s : Part) (r : ℕ) → Begins src d s r → r < d.sort.count
-begins_in src d Absent r x = absurd x
-begins_in src d (At a b) r x = x.inside
+pub begins_in : (src : List ℕ) (d : Named) (s : Option (ℕ × ℕ)) (r : ℕ) → Begins src d s r → r < d.sort.count
+begins_in src d None r x = absurd x
+begins_in src d (Some (a, b)) r x = x.inside
 
 pub chain_in : {g : Net} {d : Named} {a b : ℕ} → a < d.sort.count → Chain g d a b → b < d.sort.count
 chain_in h here = h

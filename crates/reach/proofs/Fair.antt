@@ -1,4 +1,5 @@
 -- Sound tables are fair: what use goes by holds of them, and each symbol's cell is the row that has its name. Assumes nothing.
+use Rattle.std.specs.Prelude.{Option}
 use Prim.Native.Nat.{ℕ, ◌+◌, ◌≤◌, ◌<◌}
 use mathlib.Core.Path.{◌≡◌, refl, sym, ◌∙◌}
 use mathlib.Core.List.{List}
@@ -9,7 +10,6 @@ use Rattle.scan.proofs.Bytes.{le_or_lt}
 use Rattle.tables.specs.Table.{cell, same_part, has_name, find_name}
 use Rattle.tables.specs.Layout.{tokens, rules, productions, symbols, rule_row, symbols_from, symbols_to, kind_name, known_row, no_row, width}
 use Rattle.tables.specs.Rows.{row_at}
-use Rattle.tables.specs.declared.Found.{Found}
 use Rattle.tables.proofs.Cases.{same_part_sym, same_part_trans, find_cases}
 use Rattle.tables.proofs.Ends.{chained_inside}
 use Rattle.tables.proofs.Rows.{row_cell}
@@ -40,7 +40,7 @@ module _ (src : List ℕ) (d : Named) (one : Apart src d) (low : d.sort.count �
   row_calls : (a b v : ℕ) → v ≡ row_number (find_name src d.sort.wide 0 d.sort.count d.cells a b) → (r : ℕ) → Calls src d a b r ↔ ((v ≡ r) × (r < d.sort.count))
   row_calls a b v e r =
       rw e
-      (find_cases (λ (o : Found). Calls src d a b r ↔ ((row_number o ≡ r) × (r < d.sort.count))) src d.sort.wide 0 d.sort.count d.cells a b
+      (find_cases (λ (o : Option ℕ). Calls src d a b r ↔ ((row_number o ≡ r) × (r < d.sort.count))) src d.sort.wide 0 d.sort.count d.cells a b
       (λ q h u before. let x : Calls src d a b q = record { inside = h; same = u } in (λ y. (one a b q r x y, y.inside), λ y. rw y.0 at x))
       (λ none. (λ y. absurd (false≢true (sym (none r y.inside) ∙ y.same)), λ y. absurd (omega (arith, y.0, y.1)))))
 

@@ -1,4 +1,5 @@
 -- What the marking steps cite: a bit set, the row of a name, symbols one by one, and steps one after the other. Assumes nothing.
+use Rattle.std.specs.Prelude.{Option, Some, None}
 use Prim.Native.Nat.{ℕ, ◌+◌, ◌*◌, ◌/◌, ◌%◌, ◌^◌, ◌<◌, ◌≤◌}
 use mathlib.Core.Path.{◌≡◌, refl, sym, ap, ◌∙◌}
 use mathlib.Core.List.{List}
@@ -14,12 +15,8 @@ use Rattle.bits.specs.Bits.{bit, set_bit, BitSet}
 use Rattle.bits.proofs.Bits.{bit_cases, set_there, ones_more, set_again, set_only}
 use Rattle.tables.specs.Table.{cell, has_name, find_name}
 use Rattle.tables.specs.Layout.{productions, symbols, rule_row, symbols_from, symbols_to, prec, known_row, width}
-use Rattle.tables.specs.declared.Found.{Found}
-use Rattle.tables.specs.declared.Found.TheVariants.{RowAt, NoRow}
 use Rattle.tables.proofs.Cases.{same_part_iff, find_iff, none_iff}
 use Rattle.finder.specs.Finder.{Led, Held as FinderOf, Apart as Different}
-use Rattle.grammar.specs.declared.Part.{Part}
-use Rattle.grammar.specs.declared.Part.TheVariants.{Absent, At}
 use Rattle.reach.specs.declared.Sort.{Sort}
 use Rattle.reach.specs.Reach.{Named, Net, Calls, Begins, Apart, Grew, Adds, Added, Fits, Called, Knowing, Informed, InRow, Among, Held, HeldPrec, Within, Visited}
 
@@ -90,23 +87,23 @@ mark_new ws vs k b h e f s = rw s (new (set_bit k ws) (set_there ws k h))
 
 -- ---- the row of a name
 
-module _ (src : List ℕ) (d : Named) (a b : ℕ) (f : Found) (e : f ≡ find_name src d.sort.wide 0 d.sort.count d.cells a b) where
-  pub name_calls : (r : ℕ) → f ≡ RowAt r → Calls src d a b r
+module _ (src : List ℕ) (d : Named) (a b : ℕ) (f : Option ℕ) (e : f ≡ find_name src d.sort.wide 0 d.sort.count d.cells a b) where
+  pub name_calls : (r : ℕ) → f ≡ Some r → Calls src d a b r
   name_calls r h =
       let x = (find_iff src d.sort.wide 0 d.sort.count d.cells a b r).0 (sym e ∙ h) in
       record { inside = x.inside; same = x.named }
 
-  pub name_none : f ≡ NoRow → (r : ℕ) → Calls src d a b r → ⊥
+  pub name_none : f ≡ None → (r : ℕ) → Calls src d a b r → ⊥
   name_none h r x = false≢true (sym ((none_iff src d.sort.wide 0 d.sort.count d.cells a b).0 (sym e ∙ h) r x.inside) ∙ x.same)
 
-  pub mark_found : (r : ℕ) (ws vs : List ℕ) (q : Bool) → Apart src d → f ≡ RowAt r → Added (λ (j : ℕ). j ≡ d.sort.base + r) ws vs q → Added (Called src d a b) ws vs q
+  pub mark_found : (r : ℕ) (ws vs : List ℕ) (q : Bool) → Apart src d → f ≡ Some r → Added (λ (j : ℕ). j ≡ d.sort.base + r) ws vs q → Added (Called src d a b) ws vs q
   mark_found r ws vs q one h x =
       added_same
       (λ k j. record { row = r; calls = name_calls r h; bit_is = j })
       (λ k y. y.bit_is ∙ ap (λ (n : ℕ). d.sort.base + n) (one a b y.row r y.calls (name_calls r h)))
       x
 
-  pub mark_unfound : (ws : List ℕ) → f ≡ NoRow → Added (Called src d a b) ws ws false
+  pub mark_unfound : (ws : List ℕ) → f ≡ None → Added (Called src d a b) ws ws false
   mark_unfound ws h = added_none ws (λ k y. absurd (name_none h y.row y.calls))
 
 -- names that are each of one row differ, and a finder that leads to all rows finds them
@@ -251,10 +248,10 @@ module _ (src ps : List ℕ) (d : Named) (p : ℕ) where
 
 -- ---- the start
 
-pub start_none : (src : List ℕ) (d : Named) (s : Part) (ws : List ℕ) → s ≡ Absent → Adds (Begins src d s) ws ws
+pub start_none : (src : List ℕ) (d : Named) (s : Option (ℕ × ℕ)) (ws : List ℕ) → s ≡ None → Adds (Begins src d s) ws ws
 start_none src d s ws h = rw h (added_none ws (λ k (q : ⊥). absurd q)).adds
 
-pub start_at : (src : List ℕ) (d : Named) (s : Part) (a b : ℕ) (ws vs : List ℕ) (r : Bool) → d.sort.base ≡ 0 → s ≡ At a b → Added (Called src d a b) ws vs r → Adds (Begins src d s) ws vs
+pub start_at : (src : List ℕ) (d : Named) (s : Option (ℕ × ℕ)) (a b : ℕ) (ws vs : List ℕ) (r : Bool) → d.sort.base ≡ 0 → s ≡ Some (a, b) → Added (Called src d a b) ws vs r → Adds (Begins src d s) ws vs
 start_at src d s a b ws vs r z h x =
     rw h
     (adds_same

@@ -1,10 +1,8 @@
 -- Document 01, "Validation, then use": which rows a chain of productions reaches. Nothing here speaks of a search.
-use Rattle.std.specs.Prelude.{ℕ, ◌+◌, ◌*◌, ◌/◌, ◌<◌, ◌≤◌, ◌^◌, ◌≡◌, Bool, true, false, List, ◌⊎◌, length, get_or}
+use Rattle.std.specs.Prelude.{ℕ, ◌+◌, ◌*◌, ◌/◌, ◌<◌, ◌≤◌, ◌^◌, ◌≡◌, Bool, true, false, List, ◌⊎◌, length, get_or, Option, Some, None}
 use Rattle.tables.specs.Table.{cell, has_name, zeroed}
 use Rattle.tables.specs.Layout.{tokens, rules, productions, symbols, rule_row, symbols_from, symbols_to, prec, kind_name, known_row, width}
 use Rattle.grammar.specs.declared.Counts.{Counts}
-use Rattle.grammar.specs.declared.Part.{Part}
-use Rattle.grammar.specs.declared.Part.TheVariants.{Absent, At}
 use Rattle.sound.specs.Test.{count_at}
 use Rattle.bits.specs.Bits.{bit, ones}
 use Rattle.reach.specs.declared.Sort.{Sort}
@@ -78,14 +76,14 @@ pub data Chain (g : Net) (d : Named) (a : ℕ) : ℕ → Type 0 where
 -- what use goes by
 pub record Grammar : Type 0 where
   pub net : Net
-  pub start : Part
+  pub start : Option (ℕ × ℕ)
   pub rules : Named
   pub tokens : Named
 
 -- "A chain begins at the start rule"
-abbrev pub Begins : List ℕ → Named → Part → ℕ → Type 0
-Begins src d Absent r = ⊥
-Begins src d (At a b) r = Calls src d a b r
+abbrev pub Begins : List ℕ → Named → Option (ℕ × ℕ) → ℕ → Type 0
+Begins src d None r = ⊥
+Begins src d (Some (a, b)) r = Calls src d a b r
 
 -- "Used: rules on a chain,
 pub record UsedRule (g : Grammar) (r : ℕ) : Type 0 where
@@ -122,7 +120,7 @@ pub record Work (g : Grammar) (ws : List ℕ) : Type 0 where
   pub all : (k : ℕ) → Marked g k → bit ws k ≡ 1
 
 -- the grammar of a reading
-abbrev pub grammar_of : List ℕ → Counts → Part → List ℕ → List ℕ → List ℕ → List ℕ → Grammar
+abbrev pub grammar_of : List ℕ → Counts → Option (ℕ × ℕ) → List ℕ → List ℕ → List ℕ → List ℕ → Grammar
 grammar_of src c start t1 t7 t8 t9 = record { net = net src c t8 t9; start = start; rules = named t7 (rule_sort c); tokens = named t1 (token_sort c) }
 
 -- what of soundness use goes by: each name is that of one row, productions are of rules, and symbols know their rows

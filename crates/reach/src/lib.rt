@@ -9,8 +9,16 @@ ghost use Rattle.index.specs.Index.{Indexed};
 ghost use Rattle.finder.specs.Finder.{Led};
 ghost use Rattle.reach.specs.Reach.{words_for, rule_sort, token_sort, named, net, grammar_of, Begins, Apart, Owned, Fair, Adds, Added, Fits, Called, InRow, Informed, Held, HeldPrec, Swept, Within, Done, Visited, Rushed, Spread, TokenOf, Marks};
 
-use grammar::{Counts, Part};
-use tables::Found;
+use grammar::Counts;
+
+// Rules and productions that the little room is for, and the large one, which is enough for every grammar that is read.
+const FEW_RULES: usize = 512;
+
+const FEW_PRODUCTIONS: usize = 1024;
+
+const MANY_RULES: usize = 16384;
+
+const MANY_PRODUCTIONS: usize = 65536;
 
 // One sort of rows: its code, the width of its rows, their count, and the bit of row 0.
 #[derive(Clone, Copy)]
@@ -83,8 +91,8 @@ pub fn mark_name(
     ensures { Added (Called src.now (named names.now z) a b) w.old w.new result }
 {
     match index::find(src, names, z.wide, tables::NAME, z.count, ix, a, b) {
-        Found::RowAt(row) => mark(w, z.base + row as usize),
-        Found::NoRow => false,
+        Some(row) => mark(w, z.base + row as usize),
+        None => false,
     }
 }
 
@@ -102,8 +110,8 @@ pub fn mark_named(
     ensures { Added (Called src.now (named names.now z) a b) w.old w.new result }
 {
     match finder::find(src, names, z.wide, tables::NAME, z.count, fx, a, b) {
-        Found::RowAt(row) => mark(w, z.base + row as usize),
-        Found::NoRow => false,
+        Some(row) => mark(w, z.base + row as usize),
+        None => false,
     }
 }
 
@@ -129,11 +137,9 @@ fn mark_symbols(w: &mut [u32], z: Sort, syms: &[u32], from: u32, to: u32) -> boo
     ensures { Added (InRow syms.now z from to) w.old w.new result }
 {
     let mut changed = false;
-    let mut s = from;
-    while s < to {
+    for s in from..to {
         let one = mark_symbol(w, z, syms, s);
         changed = either(one, changed);
-        s += 1;
     }
     changed
 }
@@ -198,10 +204,8 @@ fn word_of(w: &[u32], i: usize) -> u32
 fn copy_words(d: &mut [u32], w: &[u32])
     ensures { Within d.new w.now }
 {
-    let mut i = 0;
-    while i < d.len() {
-        d[i] = word_of(w, i);
-        i += 1;
+    for (i, x) in d.iter_mut().enumerate() {
+        *x = word_of(w, i);
     }
 }
 
@@ -243,11 +247,9 @@ fn sweep(
     let z = rule_sort(c);
     let n = sound::rows_of(c, tables::PRODUCTIONS);
     let mut news = false;
-    let mut p = 0;
-    while p < n {
+    for p in 0..n {
         let one = visit(w, done, src, rules, z, c, prods, syms, p);
         news = either(one, news);
-        p += 1;
     }
     news
 }
@@ -276,9 +278,7 @@ fn round(
 
 // For each rule the number plus one of its first production, and for each production that of the next one of its rule.
 fn link(first: &mut [u16], next: &mut [u16], prods: &[u32], n: u32) {
-    let mut p = n;
-    while 0 < p {
-        p -= 1;
+    for p in (0..n).rev() {
         let r = tables::cell(prods, tables::PRODUCTION_WIDTH, p, tables::RULE_ROW) as usize;
         let q = p as usize;
         if r < first.len() && q < next.len() && q < 65535 {
@@ -298,9 +298,7 @@ fn link_at(x: &[u16], i: usize) -> u16
 // The rules that are marked, as far as there is room.
 fn list_marked(todo: &mut [u16], w: &[u32], n: u32) -> usize {
     let mut top = 0;
-    let mut r = n;
-    while 0 < r {
-        r -= 1;
+    for r in (0..n).rev() {
         if top < todo.len() && r < 65536 && bits::test_bit(w, r as usize) {
             todo[top] = r as u16;
             top += 1;
@@ -346,12 +344,11 @@ fn visit_production(
     if !bits::test_bit(w, head as usize) {
         return top;
     }
+    let from = tables::cell(prods, wide, p, tables::FIRST);
     let to = tables::cell(prods, wide, p, tables::LAST);
-    let mut s = tables::cell(prods, wide, p, tables::FIRST);
     let mut end = top;
-    while s < to {
+    for s in from..to {
         end = visit_symbol(w, z, syms, s, todo, end);
-        s += 1;
     }
     end
 }
@@ -376,9 +373,8 @@ fn rush(
     link(first, next, prods, n);
     let mut top = list_marked(todo, w, z.count);
     let mut p = 0u16;
-    let mut left = n as usize + z.count as usize + 1;
-    while 0 < left {
-        left -= 1;
+    let turns = n as usize + z.count as usize + 1;
+    for _ in 0..turns {
         if p == 0 {
             if top == 0 {
                 return;
@@ -397,27 +393,21 @@ fn rush(
     }
 }
 
-// With little room, which is soon cleared.
-fn rush_small(w: &mut [u32], src: &[u8], c: Counts, rules: &[u32], prods: &[u32], syms: &[u32])
-    requires { Fits (rule_sort c) w.old × Informed (net src.now c prods.now syms.now) (named rules.now (rule_sort c)) }
+// With room for `R` rules and `P` productions: little is soon cleared, much does for every grammar that is read.
+fn rush_in<const R: usize, const P: usize>(
+    w: &mut [u32],
+    src: &[u8],
+    c: Counts,
+    rules: &[u32],
+    prods: &[u32],
+    syms: &[u32],
+)
+    requires { Fits (rule_sort c) w.old × Informed (net src.now c prods.now syms.now) (named rules.now (rule_sort c)) × (R < 2 ^ 40) × (P < 2 ^ 40) }
     ensures { Rushed (net src.now c prods.now syms.now) (named rules.now (rule_sort c)) w.old w.new }
 {
-    let mut first = [0u16; 512];
-    let mut next = [0u16; 1024];
-    let mut todo = [0u16; 512];
-    rush(
-        w, src, c, rules, prods, syms, &mut first, &mut next, &mut todo,
-    );
-}
-
-// With room for every grammar that is read.
-fn rush_large(w: &mut [u32], src: &[u8], c: Counts, rules: &[u32], prods: &[u32], syms: &[u32])
-    requires { Fits (rule_sort c) w.old × Informed (net src.now c prods.now syms.now) (named rules.now (rule_sort c)) }
-    ensures { Rushed (net src.now c prods.now syms.now) (named rules.now (rule_sort c)) w.old w.new }
-{
-    let mut first = [0u16; 16384];
-    let mut next = [0u16; 65536];
-    let mut todo = [0u16; 16384];
+    let mut first = [0u16; R];
+    let mut next = [0u16; P];
+    let mut todo = [0u16; R];
     rush(
         w, src, c, rules, prods, syms, &mut first, &mut next, &mut todo,
     );
@@ -428,12 +418,12 @@ pub fn spread(w: &mut [u32], src: &[u8], c: Counts, rules: &[u32], prods: &[u32]
     requires { Fits (rule_sort c) w.old × Informed (net src.now c prods.now syms.now) (named rules.now (rule_sort c)) }
     ensures { Spread (net src.now c prods.now syms.now) (named rules.now (rule_sort c)) w.old w.new }
 {
-    if (sound::rows_of(c, tables::RULES) <= 512)
-        & (sound::rows_of(c, tables::PRODUCTIONS) <= 1024)
+    if (sound::rows_of(c, tables::RULES) as usize <= FEW_RULES)
+        & (sound::rows_of(c, tables::PRODUCTIONS) as usize <= FEW_PRODUCTIONS)
     {
-        rush_small(w, src, c, rules, prods, syms);
+        rush_in::<FEW_RULES, FEW_PRODUCTIONS>(w, src, c, rules, prods, syms);
     } else {
-        rush_large(w, src, c, rules, prods, syms);
+        rush_in::<MANY_RULES, MANY_PRODUCTIONS>(w, src, c, rules, prods, syms);
     }
     let mut done = [0u32; 512];
     while round(w, &mut done, src, c, rules, prods, syms) {}
@@ -454,11 +444,9 @@ fn mark_tokens_led(
 {
     let z = token_sort(c);
     let n = sound::rows_of(c, tables::PRODUCTIONS);
-    let mut p = 0;
-    while p < n {
+    for p in 0..n {
         mark_production(w, src, tokens, z, c, prods, syms, p);
         mark_prec(w, src, tokens, fx, z, prods, p);
-        p += 1;
     }
 }
 
@@ -496,8 +484,8 @@ fn mark_tokens_none(
     mark_tokens_led(w, src, c, tokens, &fx, prods, syms);
 }
 
-// With few slots, which are soon cleared.
-fn mark_tokens_few(
+// With `N` slots: few are soon cleared, many do for every grammar that is read.
+fn mark_tokens_in<const N: usize>(
     w: &mut [u32],
     src: &[u8],
     c: Counts,
@@ -505,26 +493,10 @@ fn mark_tokens_few(
     prods: &[u32],
     syms: &[u32],
 )
-    requires { Fits (token_sort c) w.old × Apart src.now (named tokens.now (token_sort c)) × Informed (net src.now c prods.now syms.now) (named tokens.now (token_sort c)) × Owned (net src.now c prods.now syms.now) (rule_sort c).count }
+    requires { Fits (token_sort c) w.old × Apart src.now (named tokens.now (token_sort c)) × Informed (net src.now c prods.now syms.now) (named tokens.now (token_sort c)) × Owned (net src.now c prods.now syms.now) (rule_sort c).count × (N < 2 ^ 40) }
     ensures { Adds (TokenOf (net src.now c prods.now syms.now) (named tokens.now (token_sort c)) w.old) w.old w.new }
 {
-    let mut fx = [0u16; finder::FEW_SLOTS];
-    mark_tokens_by(w, src, c, tokens, &mut fx, prods, syms);
-}
-
-// With slots for every grammar that is read.
-fn mark_tokens_many(
-    w: &mut [u32],
-    src: &[u8],
-    c: Counts,
-    tokens: &[u32],
-    prods: &[u32],
-    syms: &[u32],
-)
-    requires { Fits (token_sort c) w.old × Apart src.now (named tokens.now (token_sort c)) × Informed (net src.now c prods.now syms.now) (named tokens.now (token_sort c)) × Owned (net src.now c prods.now syms.now) (rule_sort c).count }
-    ensures { Adds (TokenOf (net src.now c prods.now syms.now) (named tokens.now (token_sort c)) w.old) w.old w.new }
-{
-    let mut fx = [0u16; finder::MANY_SLOTS];
+    let mut fx = [0u16; N];
     mark_tokens_by(w, src, c, tokens, &mut fx, prods, syms);
 }
 
@@ -545,21 +517,28 @@ pub fn mark_tokens(
         return;
     }
     if sound::rows_of(c, tables::TOKENS) <= finder::FEW_ROWS {
-        mark_tokens_few(w, src, c, tokens, prods, syms);
+        mark_tokens_in::<{ finder::FEW_SLOTS }>(w, src, c, tokens, prods, syms);
         return;
     }
-    mark_tokens_many(w, src, c, tokens, prods, syms);
+    mark_tokens_in::<{ finder::MANY_SLOTS }>(w, src, c, tokens, prods, syms);
 }
 
 // The start rule's bit.
-pub fn mark_start(w: &mut [u32], src: &[u8], c: Counts, start: Part, rules: &[u32], ix: &[u32])
+pub fn mark_start(
+    w: &mut [u32],
+    src: &[u8],
+    c: Counts,
+    start: Option<(u32, u32)>,
+    rules: &[u32],
+    ix: &[u32],
+)
     requires { Fits (rule_sort c) w.old × Apart src.now (named rules.now (rule_sort c)) × Indexed src.now (rule_sort c).wide 0 (rule_sort c).count rules.now ix.now }
     ensures { Adds (Begins src.now (named rules.now (rule_sort c)) start) w.old w.new }
 {
     let z = rule_sort(c);
     match start {
-        Part::Absent => {}
-        Part::At(a, b) => {
+        None => {}
+        Some((a, b)) => {
             mark_name(w, src, rules, ix, z, a, b);
         }
     }
@@ -570,7 +549,7 @@ pub fn mark_used(
     w: &mut [u32],
     src: &[u8],
     c: Counts,
-    start: Part,
+    start: Option<(u32, u32)>,
     t1: &[u32],
     t7: &[u32],
     t8: &[u32],

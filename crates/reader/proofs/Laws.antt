@@ -1,4 +1,5 @@
 -- The whole read: what it came to, one law for each answer. Assumes nothing.
+use Rattle.std.specs.Prelude.{Ok, Err}
 use Prim.Native.Nat.{ℕ, ◌+◌}
 use mathlib.Core.Path.{◌≡◌, refl, ap, ◌∙◌}
 use mathlib.Core.List.{List}
@@ -22,23 +23,22 @@ use Rattle.grammar.specs.declared.Answer.{Answer}
 use Rattle.grammar.specs.declared.Answer.TheVariants.{Going, Done, Refused}
 use Rattle.grammar.specs.State.{Tracked, count, no_posix, no_singles}
 use Rattle.grammar.specs.Sound.{AllTables, ten_of, Indexes, lexicon_of, zero_all}
-use Rattle.reader.specs.declared.Verdict.TheVariants.{Accepted, Rejected}
 use Rattle.reader.specs.declared.Reading.{Reading}
 use Rattle.sections.specs.Sections.{Run, sizes_fit, sized, attempted}
 use Rattle.reader.specs.Read.{Outcome, only_repeats, stopped_at, ended_at, result, finished, finished_run, indexed, read_names, with_symbols, read_all, filled_out}
 
 -- after a fatal refusal
-pub stopped_at_lem : (s : State) (f : Refusal) (n : ℕ) (g : Singles) → n ≡ count s repeats → g ≡ no_singles → record { answer = Rejected f; counts = only_repeats n; posix = no_posix; singles = g } ≡ stopped_at s f
+pub stopped_at_lem : (s : State) (f : Refusal) (n : ℕ) (g : Singles) → n ≡ count s repeats → g ≡ no_singles → record { answer = Err f; counts = only_repeats n; posix = no_posix; singles = g } ≡ stopped_at s f
 stopped_at_lem s f n g c e = rw (c, e)
 
 -- the end of a read that ended
 module _ (s : State) (t10 : List ℕ) (n : ℕ) (c : n ≡ count s repeats) where
-  pub accepted : n ≡ 0 → record { answer = Accepted s.at; counts = s.counts; posix = s.posix; singles = s.singles } ≡ ended_at s t10
+  pub accepted : n ≡ 0 → record { answer = Ok s.at; counts = s.counts; posix = s.posix; singles = s.singles } ≡ ended_at s t10
   unfolding ended_at
   accepted e = rw (ended_at, ← c, eq-eqb _ _ e)
 
   pub repeated : (what : Repeat) (x y z : ℕ) → (n ≡ 0 → ⊥) → x ≡ cell (width repeats) t10 0 0 → what ≡ repeat_of x → y ≡ cell (width repeats) t10 0 first_place → z ≡ cell (width repeats) t10 0 (first_place + 1)
-      → record { answer = Rejected (Repeated what y z); counts = s.counts; posix = s.posix; singles = s.singles } ≡ ended_at s t10
+      → record { answer = Err (Repeated what y z); counts = s.counts; posix = s.posix; singles = s.singles } ≡ ended_at s t10
   unfolding ended_at
   repeated what x y z e g w h k = rw (ended_at, ← c, ne_eqb _ _ e, w, g, h, k)
 

@@ -1,5 +1,6 @@
 -- A read that was accepted, or refused for repeats only, is sound, and its end lies in the source; any other is cleared; in kinds 1 to 3 tables 15 to 17 are; and
 -- the contract allows one outcome. Assumes nothing.
+use Rattle.std.specs.Prelude.{Ok, Err, Result}
 use Prim.Native.Nat.{ℕ, zero, suc, ◌+◌, ◌≤◌, ◌<◌}
 use mathlib.Core.Path.{◌≡◌, refl, sym, ap, ◌∙◌}
 use mathlib.Core.List.{List}
@@ -8,7 +9,6 @@ use native.Mathlib.Omega.{arith}
 use lib.Dec.{eqb}
 use lib.ListN.{length, get_or, replicate, length-replicate}
 use Rattle.scan.proofs.Bytes.{on_test, told}
-use Rattle.words.specs.declared.Quote.TheVariants.{Closed}
 use Rattle.words.specs.Strings.{string_at}
 use Rattle.tables.specs.Table.{cell, zeroed}
 use Rattle.tables.specs.Layout.{tokens, rules, epps, value, symbols, repeats, posix_from, width}
@@ -32,35 +32,31 @@ use Rattle.grammar.specs.Sound.{AllTables, ten_of, cells_of, zero_all, Indexes, 
 use Rattle.grammar.proofs.Far.{far_table, fresh_far, far_sound, far_posix}
 use Rattle.items.proofs.Far.{Taken, going_taken, done_taken}
 use Rattle.rules.proofs.Far.{Whole}
-use Rattle.sections.specs.declared.Admission.{Admission}
-use Rattle.sections.specs.declared.Admission.TheVariants.{Fit, Unfit}
 use Rattle.sections.specs.Sections.{sizes_fit, sized, admitted, sections_all, attempt_of, attempted}
 use Rattle.sections.proofs.Lengths.{lengths, zero_lengths, sections_lengths}
 use Rattle.sections.proofs.Far.{admit_cases, sections_far, Alone, sections_alone}
-use Rattle.reader.specs.declared.Verdict.{Verdict}
-use Rattle.reader.specs.declared.Verdict.TheVariants.{Accepted, Rejected}
 use Rattle.reader.specs.declared.Reading.{Reading}
-use Rattle.reader.specs.Read.{Outcome, Result, only_repeats, ended_at, clear_twelve, finished, finished_run, indexed, read_all, read_names, with_symbols, filled_in}
+use Rattle.reader.specs.Read.{Outcome, ReadResult, only_repeats, ended_at, clear_twelve, finished, finished_run, indexed, read_all, read_names, with_symbols, filled_in}
 use Rattle.reader.specs.Allowed.{Allowed, RepeatsOnly, Full, Cleared, PosixCleared}
 
 -- A source that can be read is not too long, and one that can't has no repeats.
-abbrev Admits : List ℕ → Admission → Type 0
-Admits src Fit = length src ≤ 65536
-Admits src (Unfit f) = RepeatsOnly f → ⊥
+abbrev Admits : List ℕ → Result (Unit {0}) Refusal → Type 0
+Admits src (Ok _) = length src ≤ 65536
+Admits src (Err f) = RepeatsOnly f → ⊥
 
 admits : (src : List ℕ) (kind : ℕ) (fit : Bool) → Admits src (admitted src kind fit)
 admits src kind fit = admit_cases (Admits src) src kind fit (λ short e. short) (λ i x. x) (λ x. x) (λ x. x) (λ x. x)
 
 -- The indexes that a source is read with have right sizes,
-abbrev FitSizes : AllTables → Indexes → Admission → Type 0
-FitSizes T X Fit = Sized (length X.tokens) (length T.t1) (width tokens) × Sized (length X.rules) (length T.t7) (width rules)
-FitSizes T X (Unfit f) = Unit {0}
+abbrev FitSizes : AllTables → Indexes → Result (Unit {0}) Refusal → Type 0
+FitSizes T X (Ok _) = Sized (length X.tokens) (length T.t1) (width tokens) × Sized (length X.rules) (length T.t7) (width rules)
+FitSizes T X (Err f) = Unit {0}
 
 fit_sizes : (src : List ℕ) (kind : ℕ) (T : AllTables) (X : Indexes) → FitSizes T X (admitted src kind (sized T X))
 unfolding sizes_fit
 fit_sizes src kind T X = admit_cases (FitSizes T X) src kind (sized T X) (λ short e. told_sizes e) (λ i. tt) tt tt tt
   where
-    told_sizes : sized T X ≡ true → FitSizes T X Fit
+    told_sizes : sized T X ≡ true → FitSizes T X (Ok tt)
     told_sizes h =
         (both_iff (size_iff (length X.tokens) (length T.t1) (width tokens)) (size_iff (length X.rules) (length T.t7) (width rules))).0 h
 
@@ -68,7 +64,7 @@ fit_sizes src kind T X = admit_cases (FitSizes T X) src kind (sized T X) (λ sho
 abbrev Lengthy : AllTables → AllTables → Type 0
 Lengthy U T = (length U.t1 ≡ length T.t1) × (length U.t7 ≡ length T.t7)
 
-indexed_sound : (src : List ℕ) (T : AllTables) (X : Indexes) (o : Outcome) → Lengthy o.tables T → FitSizes T X Fit → SoundIndexes src o.counts (ten_of o.tables) (indexed src X o).indexes
+indexed_sound : (src : List ℕ) (T : AllTables) (X : Indexes) (o : Outcome) → Lengthy o.tables T → FitSizes T X (Ok tt) → SoundIndexes src o.counts (ten_of o.tables) (indexed src X o).indexes
 indexed_sound src T X o l z =
     let a = entries_length src (width tokens) 0 o.tables.t1 (length X.tokens) (get_or o.counts.n tokens 0) in
     let b = entries_length src (width rules) 0 o.tables.t7 (length X.rules) (get_or o.counts.n rules 0) in
@@ -93,12 +89,12 @@ read_indexed src kind T X f = go (admitted src kind (sized T X)) (admits src kin
     ends Done s U e = (ap (λ (l : List ℕ). get_or l 0 0) e, ap (λ (l : List ℕ). get_or l 6 0) e)
     ends (Refused g) s U e = (length-replicate {A = ℕ} (length U.t1) 0 ∙ ap (λ (l : List ℕ). get_or l 0 0) e, length-replicate {A = ℕ} (length U.t7) 0 ∙ ap (λ (l : List ℕ). get_or l 6 0) e)
 
-    go : (m : Admission) → Admits src m → FitSizes T X m → let o = finished_run (attempt_of m src kind (zero_all T)) in Full o.answer → SoundIndexes src o.counts (ten_of (filled_in src (indexed src X o)).tables) (indexed src X o).indexes
-    go Fit h z x =
+    go : (m : Result (Unit {0}) Refusal) → Admits src m → FitSizes T X m → let o = finished_run (attempt_of m src kind (zero_all T)) in Full o.answer → SoundIndexes src o.counts (ten_of (filled_in src (indexed src X o)).tables) (indexed src X o).indexes
+    go (Ok _) h z x =
         let r = sections_all src (fresh kind) (zero_all T) in
         indexes_filled (finished_run r).tables
         (indexed_sound src T X (finished_run r) (ends r.answer r.state r.tables (sections_lengths src (fresh kind) (zero_all T) ∙ zero_lengths T)) z)
-    go (Unfit g) h z x = absurd (h x)
+    go (Err g) h z x = absurd (h x)
 
 -- tables with their symbols filled in
 abbrev filled_tables : List ℕ → Counts → AllTables → AllTables
@@ -137,9 +133,9 @@ module _ (src : List ℕ) (C : Counts → PosixCounts → Singles → AllTables 
   unfolding read_all read_names attempted
   read_cases kind T X f = go (admitted src kind (sized T X)) (admits src kind (sized T X)) f
     where
-      go : (m : Admission) → Admits src m → let o = finished_run (attempt_of m src kind (zero_all T)) in Full o.answer → C o.counts o.posix o.singles o.tables
-      go Fit l x = let r = sections_all src (fresh kind) (zero_all T) in finished_cases r.answer r.state r.tables (sections_far src kind T l)
-      go (Unfit g) l x = absurd (l x)
+      go : (m : Result (Unit {0}) Refusal) → Admits src m → let o = finished_run (attempt_of m src kind (zero_all T)) in Full o.answer → C o.counts o.posix o.singles o.tables
+      go (Ok _) l x = let r = sections_all src (fresh kind) (zero_all T) in finished_cases r.answer r.state r.tables (sections_far src kind T l)
+      go (Err g) l x = absurd (l x)
 
 -- "An accepted read is sound", and so is one that was refused for repeats only.
 pub read_sound : (src : List ℕ) (kind : ℕ) (T : AllTables) (X : Indexes) → let o = read_all src kind T X in Full o.answer → Sound src o.counts o.singles (ten_of o.tables) o.indexes
@@ -157,9 +153,9 @@ read_posix_sound src kind T X f = read_cases src (λ c p g U. PosixSound src c p
 
 -- The `%epp` values that a read leaves are strings with their quotes, whatever its answer.
 abbrev Values : List ℕ → Counts → List ℕ → Type 0
-Values src c t5 = (r : ℕ) → r < get_or c.n epps 0 → string_at src (cell (width epps) t5 r value) ≡ Closed (cell (width epps) t5 r (value + 1))
+Values src c t5 = (r : ℕ) → r < get_or c.n epps 0 → string_at src (cell (width epps) t5 r value) ≡ Ok (cell (width epps) t5 r (value + 1))
 
-far_values : {src : List ℕ} {done : ℕ} {s : State} {T : AllTables} → Far src done s T → (r : ℕ) → r < count s epps → string_at src (cell (width epps) T.t5 r value) ≡ Closed (cell (width epps) T.t5 r (value + 1))
+far_values : {src : List ℕ} {done : ℕ} {s : State} {T : AllTables} → Far src done s T → (r : ℕ) → r < count s epps → string_at src (cell (width epps) T.t5 r value) ≡ Ok (cell (width epps) T.t5 r (value + 1))
 far_values {T = T} f r l = rw (← row_cell (width epps) T.t5 r value (omega arith), ← row_cell (width epps) T.t5 r (value + 1) (omega arith)) ((f.tables epps).each r l).closed
 
 finished_values : {src : List ℕ} {done : ℕ} (a : Answer) (s : State) (T : AllTables) → Far src done s T → Values src (finished a s T).counts (finished a s T).tables.t5
@@ -178,14 +174,14 @@ pub read_values : (src : List ℕ) (kind : ℕ) (T : AllTables) (X : Indexes) �
 unfolding read_all read_names attempted
 read_values src kind T X = go (admitted src kind (sized T X)) (admits src kind (sized T X))
   where
-    go : (m : Admission) → Admits src m → let o = finished_run (attempt_of m src kind (zero_all T)) in Values src o.counts o.tables.t5
-    go Fit h = let r = sections_all src (fresh kind) (zero_all T) in finished_values r.answer r.state r.tables (sections_far src kind T h).far
-    go (Unfit f) h = λ r l. absurd (omega arith)
+    go : (m : Result (Unit {0}) Refusal) → Admits src m → let o = finished_run (attempt_of m src kind (zero_all T)) in Values src o.counts o.tables.t5
+    go (Ok _) h = let r = sections_all src (fresh kind) (zero_all T) in finished_values r.answer r.state r.tables (sections_far src kind T h).far
+    go (Err f) h = λ r l. absurd (omega arith)
 
 -- "0 accepted: read: end reached, twice"
-abbrev Within : List ℕ → Verdict → Type 0
-Within src (Accepted i) = i ≤ length src
-Within src (Rejected f) = Unit {0}
+abbrev Within : List ℕ → Result ℕ Refusal → Type 0
+Within src (Ok i) = i ≤ length src
+Within src (Err f) = Unit {0}
 
 read_within : (src : List ℕ) (kind : ℕ) (T : AllTables) (X : Indexes) → Within src (read_all src kind T X).answer
 unfolding read_all read_names attempted ended_at
@@ -199,11 +195,11 @@ read_within src kind T X = go (admitted src kind (sized T X)) (admits src kind (
     end Done s U h = ended s U.t10 h
     end (Refused f) s U h = tt
 
-    go : (m : Admission) → Admits src m → Within src (finished_run (attempt_of m src kind (zero_all T))).answer
-    go Fit h = let r = sections_all src (fresh kind) (zero_all T) in end r.answer r.state r.tables (sections_far src kind T h).far.here
-    go (Unfit f) h = tt
+    go : (m : Result (Unit {0}) Refusal) → Admits src m → Within src (finished_run (attempt_of m src kind (zero_all T))).answer
+    go (Ok _) h = let r = sections_all src (fresh kind) (zero_all T) in end r.answer r.state r.tables (sections_far src kind T h).far.here
+    go (Err f) h = tt
 
-pub accepted_end : (src : List ℕ) (kind : ℕ) (T : AllTables) (X : Indexes) (i : ℕ) → (read_all src kind T X).answer ≡ Accepted i → i ≤ length src
+pub accepted_end : (src : List ℕ) (kind : ℕ) (T : AllTables) (X : Indexes) (i : ℕ) → (read_all src kind T X).answer ≡ Ok i → i ≤ length src
 accepted_end src kind T X i e = rw e at (read_within src kind T X)
 
 -- "the ten counts of tables 1 to 10": a read gives ten, whatever its answer.
@@ -219,9 +215,9 @@ read_ten src kind T X = go (admitted src kind (sized T X)) (admits src kind (siz
     end Done s U h = ended s U.t10 h
     end (Refused f) s U h = refl
 
-    go : (m : Admission) → Admits src m → length (finished_run (attempt_of m src kind (zero_all T))).counts.n ≡ 10
-    go Fit h = let r = sections_all src (fresh kind) (zero_all T) in end r.answer r.state r.tables (sections_far src kind T h).far.ten
-    go (Unfit f) h = refl
+    go : (m : Result (Unit {0}) Refusal) → Admits src m → length (finished_run (attempt_of m src kind (zero_all T))).counts.n ≡ 10
+    go (Ok _) h = let r = sections_all src (fresh kind) (zero_all T) in end r.answer r.state r.tables (sections_far src kind T h).far.ten
+    go (Err f) h = refl
 
 -- And the three of tables 15 to 17.
 pub read_three : (src : List ℕ) (kind : ℕ) (T : AllTables) (X : Indexes) → length (read_all src kind T X).posix.n ≡ 3
@@ -236,9 +232,9 @@ read_three src kind T X = go (admitted src kind (sized T X)) (admits src kind (s
     end Done s U h = ended s U.t10 h
     end (Refused f) s U h = refl
 
-    go : (m : Admission) → Admits src m → length (finished_run (attempt_of m src kind (zero_all T))).posix.n ≡ 3
-    go Fit h = let r = sections_all src (fresh kind) (zero_all T) in end r.answer r.state r.tables (sections_far src kind T h).far.three
-    go (Unfit f) h = refl
+    go : (m : Result (Unit {0}) Refusal) → Admits src m → length (finished_run (attempt_of m src kind (zero_all T))).posix.n ≡ 3
+    go (Ok _) h = let r = sections_all src (fresh kind) (zero_all T) in end r.answer r.state r.tables (sections_far src kind T h).far.three
+    go (Err f) h = refl
 
 -- What is left of a read that stopped: tables as long as those it was given.
 cleared : (src : List ℕ) (T U : AllTables) (X : Indexes) (s : State) (f : Refusal) → lengths U ≡ lengths T → Cleared T X (filled_in src (indexed src X (finished (Refused f) s U)))
@@ -280,19 +276,19 @@ cleared src T U X s f e = record { tables = zeros; counts = none; posix_tables =
     none (suc (suc (suc (suc (suc (suc (suc (suc (suc k))))))))) h = absurd (omega arith)
 
 -- After 1 to 19, 40 to 43 and 45 "tables 1 to 9 and their counts are zero, the singles absent", and so are tables 15 to 17, their counts and both indexes.
-pub stopped_clean : (src : List ℕ) (kind : ℕ) (T : AllTables) (X : Indexes) (f : Refusal) → (read_all src kind T X).answer ≡ Rejected f → (RepeatsOnly f → ⊥) → Cleared T X (read_all src kind T X)
+pub stopped_clean : (src : List ℕ) (kind : ℕ) (T : AllTables) (X : Indexes) (f : Refusal) → (read_all src kind T X).answer ≡ Err f → (RepeatsOnly f → ⊥) → Cleared T X (read_all src kind T X)
 unfolding read_all read_names attempted ended_at
 stopped_clean src kind T X f = let r = attempted src kind (sized T X) (zero_all T) in go r.answer r.state r.tables (run (admitted src kind (sized T X)) ∙ zero_lengths T)
   where
-    run : (m : Admission) → lengths (attempt_of m src kind (zero_all T)).tables ≡ lengths (zero_all T)
-    run Fit = sections_lengths src (fresh kind) (zero_all T)
-    run (Unfit g) = refl
+    run : (m : Result (Unit {0}) Refusal) → lengths (attempt_of m src kind (zero_all T)).tables ≡ lengths (zero_all T)
+    run (Ok _) = sections_lengths src (fresh kind) (zero_all T)
+    run (Err g) = refl
 
     -- one that ended was refused for repeats only
     ended : (s : State) (t : List ℕ) → Full (ended_at s t).answer
     ended s t = on_test (λ (r : Reading). Full r.answer) (eqb (count s repeats) 0) _ _ (λ e. tt) (λ e. tt)
 
-    go : (a : Answer) (s : State) (U : AllTables) → lengths U ≡ lengths T → (finished a s U).answer ≡ Rejected f → (RepeatsOnly f → ⊥) → Cleared T X (filled_in src (indexed src X (finished a s U)))
+    go : (a : Answer) (s : State) (U : AllTables) → lengths U ≡ lengths T → (finished a s U).answer ≡ Err f → (RepeatsOnly f → ⊥) → Cleared T X (filled_in src (indexed src X (finished a s U)))
     go Going s U e h n = absurd (n (told Full h (ended s U.t10)))
     go Done s U e h n = absurd (n (told Full h (ended s U.t10)))
     go (Refused g) s U e h n = cleared src T U X s g e
@@ -305,9 +301,9 @@ posix_alone src kind T X d =
     let r = attempt_of m src kind (zero_all T) in
     end r.answer r.state r.tables (run m (admits src kind (sized T X)))
   where
-    run : (m : Admission) → Admits src m → Alone T (attempt_of m src kind (zero_all T))
-    run Fit h = sections_alone src kind T h d
-    run (Unfit f) h = record { counts = refl; tags = refl; numbers = refl; bodies = refl }
+    run : (m : Result (Unit {0}) Refusal) → Admits src m → Alone T (attempt_of m src kind (zero_all T))
+    run (Ok _) h = sections_alone src kind T h d
+    run (Err f) h = record { counts = refl; tags = refl; numbers = refl; bodies = refl }
 
     ended : (s : State) (t : List ℕ) → s.posix ≡ no_posix → (ended_at s t).posix ≡ no_posix
     ended s t e = on_test (λ (r : Reading). r.posix ≡ no_posix) (eqb (count s repeats) 0) _ _ (λ h. e) (λ h. e)
@@ -331,5 +327,5 @@ posix_alone src kind T X d =
         }
 
 -- "Any two outcomes allowed by it are proved equal": the contract of `read` allows one.
-pub one_reading : (src : List ℕ) (kind : ℕ) (T : AllTables) (X : Indexes) (o p : Result) → Allowed src kind T X o → Allowed src kind T X p → o ≡ p
+pub one_reading : (src : List ℕ) (kind : ℕ) (T : AllTables) (X : Indexes) (o p : ReadResult) → Allowed src kind T X o → Allowed src kind T X p → o ≡ p
 one_reading src kind T X o p e h = e ∙ sym h

@@ -1,5 +1,5 @@
 -- Document 01, "Numbers given back": what a read comes to, and what it leaves of the tables.
-use Rattle.std.specs.Prelude.{ℕ, ◌+◌, List, [], ◌∷◌, true, false, eqb, length, get_or}
+use Rattle.std.specs.Prelude.{ℕ, ◌+◌, List, [], ◌∷◌, true, false, eqb, length, get_or, Result, Ok, Err}
 use Rattle.tables.specs.Table.{zeroed, cell}
 use Rattle.tables.specs.Layout.{tokens, rules, symbols, repeats, first_place, width}
 use Rattle.index.specs.Index.{entries}
@@ -17,21 +17,19 @@ use Rattle.grammar.specs.State.{count, no_posix, no_singles}
 use Rattle.symbols.specs.Symbols.{filled_rows}
 use Rattle.grammar.specs.Sound.{AllTables, ten_of, Indexes, lexicon_of, zero_all}
 use Rattle.sections.specs.Sections.{Run, sized, attempted}
-use Rattle.reader.specs.declared.Verdict.{Verdict}
-use Rattle.reader.specs.declared.Verdict.TheVariants.{Accepted, Rejected}
 use Rattle.reader.specs.declared.Reading.{Reading}
 
 -- "A read's answer holds number, place, table number [..], and the ten counts [..] besides" the singles; and the tables it left
 pub record Outcome : Type 0 where
-  pub answer : Verdict
+  pub answer : Result ℕ Refusal
   pub counts : Counts
   pub posix : PosixCounts
   pub singles : Singles
   pub tables : AllTables
 
 -- and the indexes
-pub record Result : Type 0 where
-  pub answer : Verdict
+pub record ReadResult : Type 0 where
+  pub answer : Result ℕ Refusal
   pub counts : Counts
   pub posix : PosixCounts
   pub singles : Singles
@@ -39,9 +37,9 @@ pub record Result : Type 0 where
   pub indexes : Indexes
 
 -- document 01's number, place and table of each answer: "0 accepted: end reached, twice"
-abbrev pub verdict_numbers : Verdict → List ℕ
-verdict_numbers (Accepted i) = 0 ∷ i ∷ i ∷ 0 ∷ []
-verdict_numbers (Rejected f) = refusal_numbers f
+abbrev pub verdict_numbers : Result ℕ Refusal → List ℕ
+verdict_numbers (Ok i) = 0 ∷ i ∷ i ∷ 0 ∷ []
+verdict_numbers (Err f) = refusal_numbers f
 
 -- "After 1 to 15, 40 to 43, tables 1 to 9 and their counts are zero, the singles absent", and with document 02, request Four, after 16 to 19; "repeats met before
 -- it stay listed"
@@ -49,14 +47,14 @@ abbrev pub only_repeats : ℕ → Counts
 only_repeats n = record { n = 0 ∷ 0 ∷ 0 ∷ 0 ∷ 0 ∷ 0 ∷ 0 ∷ 0 ∷ 0 ∷ n ∷ [] }
 
 abbrev pub stopped_at : State → Refusal → Reading
-stopped_at s f = record { answer = Rejected f; counts = only_repeats (count s repeats); posix = no_posix; singles = no_singles }
+stopped_at s f = record { answer = Err f; counts = only_repeats (count s repeats); posix = no_posix; singles = no_singles }
 
 -- "With repeats only, the number is the first repeat's, and all tables hold the full reading": its first place
 unfoldable pub ended_at : State → List ℕ → Reading
 ended_at s t10 =
     elim (eqb (count s repeats) 0) [
-      | true ↦ record { answer = Accepted s.at; counts = s.counts; posix = s.posix; singles = s.singles }
-      | false ↦ record { answer = Rejected (Repeated (repeat_of (cell (width repeats) t10 0 0)) (cell (width repeats) t10 0 first_place) (cell (width repeats) t10 0 (first_place + 1))); counts = s.counts; posix = s.posix; singles = s.singles }
+      | true ↦ record { answer = Ok s.at; counts = s.counts; posix = s.posix; singles = s.singles }
+      | false ↦ record { answer = Err (Repeated (repeat_of (cell (width repeats) t10 0 0)) (cell (width repeats) t10 0 first_place) (cell (width repeats) t10 0 (first_place + 1))); counts = s.counts; posix = s.posix; singles = s.singles }
     ]
 
 -- all but table 10, those of kind 4 too: "they are zero where 1 to 9 are"
@@ -75,7 +73,7 @@ abbrev pub finished_run : Run → Outcome
 finished_run r = finished r.answer r.state r.tables
 
 -- an index is "exactly what entering its table's rows in order gives", whatever the answer: after a refusal that left no row, all zero
-abbrev pub indexed : List ℕ → Indexes → Outcome → Result
+abbrev pub indexed : List ℕ → Indexes → Outcome → ReadResult
 indexed src X o =
     record {
       answer = o.answer;
@@ -91,7 +89,7 @@ indexed src X o =
     }
 
 -- The read but for the symbols' rows: on tables of zeros, and on indexes of which the sizes alone matter.
-unfoldable pub read_names : List ℕ → ℕ → AllTables → Indexes → Result
+unfoldable pub read_names : List ℕ → ℕ → AllTables → Indexes → ReadResult
 read_names src kind T X = indexed src X (finished_run (attempted src kind (sized T X) (zero_all T)))
 
 -- Document 02, request Five: "An accepted reading has it filled, also for rules defined further down, and a reading with only repeats too."; a refusal leaves no symbol to fill.
@@ -108,7 +106,7 @@ filled_out src o =
       tables = with_symbols o.tables (filled_rows (lexicon_of src o.counts (ten_of o.tables)) o.tables.t9 (get_or o.counts.n symbols 0));
     }
 
-abbrev pub filled_in : List ℕ → Result → Result
+abbrev pub filled_in : List ℕ → ReadResult → ReadResult
 filled_in src o =
     record {
       answer = o.answer;
@@ -120,5 +118,5 @@ filled_in src o =
     }
 
 -- the read
-unfoldable pub read_all : List ℕ → ℕ → AllTables → Indexes → Result
+unfoldable pub read_all : List ℕ → ℕ → AllTables → Indexes → ReadResult
 read_all src kind T X = filled_in src (read_names src kind T X)

@@ -11,17 +11,9 @@ ghost use Rattle.reader.specs.Read.{Outcome, stopped_at, ended_at, finished};
 
 use grammar::{Answer, Counts, PosixCounts, Refusal, Singles, State, Step};
 
-// What a read came to.
-#[derive(Clone, Copy)]
-pub enum Verdict {
-    // The end reached.
-    Accepted(u32),
-    Rejected(Refusal),
-}
-
 #[derive(Clone, Copy)]
 pub struct Reading {
-    pub answer: Verdict,
+    pub answer: Result<u32, Refusal>,
     pub counts: Counts,
     pub posix: PosixCounts,
     pub singles: Singles,
@@ -67,7 +59,7 @@ pub fn stopped(s: State, f: Refusal) -> Reading
 {
     let n = grammar::count_of(s, tables::REPEATS);
     Reading {
-        answer: Verdict::Rejected(f),
+        answer: Err(f),
         counts: Counts {
             n: [0, 0, 0, 0, 0, 0, 0, 0, 0, n],
         },
@@ -87,7 +79,7 @@ pub fn ended(s: State, t10: &[u32]) -> Reading
     if grammar::count_of(s, tables::REPEATS) == 0 {
         let end = s.at as u32;
         return Reading {
-            answer: Verdict::Accepted(end),
+            answer: Ok(end),
             counts,
             posix,
             singles,
@@ -97,7 +89,7 @@ pub fn ended(s: State, t10: &[u32]) -> Reading
     let from = tables::cell(t10, tables::REPEAT_WIDTH, 0, tables::FIRST_PLACE);
     let to = tables::cell(t10, tables::REPEAT_WIDTH, 0, tables::FIRST_PLACE + 1);
     Reading {
-        answer: Verdict::Rejected(Refusal::Repeated(what, from, to)),
+        answer: Err(Refusal::Repeated(what, from, to)),
         counts,
         posix,
         singles,
@@ -124,7 +116,7 @@ pub fn finish(
     f7: &[u16],
 ) -> Reading
     requires { (r.state.at ≤ 65536) × Tokens src.now r.state.counts t1.old f1.now × Rules src.now r.state.counts t7.old f7.now }
-    ensures is { ◌≡◌ {A = Outcome} (record { answer = result.answer; counts = result.counts; posix = result.posix; singles = result.singles; tables = record { t1 = t1.exit.now; t2 = t2.new; t3 = t3.new; t4 = t4.new; t5 = t5.new; t6 = t6.new; t7 = t7.new; t8 = t8.new; t9 = t9.new; t10 = t10.now; t15 = t15.new; t16 = t16.new; t17 = t17.new } }) (finished r.answer r.state (record { t1 = t1.entry.now; t2 = t2.old; t3 = t3.old; t4 = t4.old; t5 = t5.old; t6 = t6.old; t7 = t7.old; t8 = t8.old; t9 = t9.old; t10 = t10.now; t15 = t15.old; t16 = t16.old; t17 = t17.old })) }
+    ensures is { ◌≡◌ {A = Outcome} (record { answer = result.answer; counts = result.counts; posix = result.posix; singles = result.singles; tables = record { t1 = t1.new; t2 = t2.new; t3 = t3.new; t4 = t4.new; t5 = t5.new; t6 = t6.new; t7 = t7.new; t8 = t8.new; t9 = t9.new; t10 = t10.now; t15 = t15.new; t16 = t16.new; t17 = t17.new } }) (finished r.answer r.state (record { t1 = t1.old; t2 = t2.old; t3 = t3.old; t4 = t4.old; t5 = t5.old; t6 = t6.old; t7 = t7.old; t8 = t8.old; t9 = t9.old; t10 = t10.now; t15 = t15.old; t16 = t16.old; t17 = t17.old })) }
     ensures indexed { Tokens src.now result.counts t1.new f1.now × Rules src.now result.counts t7.new f7.now }
 {
     let a = r.answer;

@@ -1,4 +1,5 @@
 -- Bodies of kind 4 stand in the source, and their refusals are fatal ones of the source. Assumes nothing.
+use Rattle.std.specs.Prelude.{Option, Some, None, Result, Ok, Err}
 use Prim.Native.Nat.{ℕ, ◌+◌, ◌≤◌}
 use mathlib.Core.Path.{◌≡◌, refl}
 use mathlib.Core.List.{List}
@@ -8,15 +9,12 @@ use native.Mathlib.Omega.{arith}
 use lib.ListN.{length}
 use Rattle.scan.specs.Scan.{is_at}
 use Rattle.scan.proofs.Bytes.{at_below}
-use Rattle.texts.specs.declared.Brace.{Brace}
-use Rattle.texts.specs.declared.Brace.TheVariants.{Closes, NeverCloses}
 use Rattle.texts.specs.Action.{braced_at, Braced}
 use Rattle.texts.specs.Mark.{marked_at, Marked}
 use Rattle.texts.proofs.Laws.{mark_placed, braces}
 use Rattle.tables.specs.Layout.{bodies}
 use Rattle.grammar.specs.declared.State.{State}
-use Rattle.grammar.specs.declared.Gap.{Gap}
-use Rattle.grammar.specs.declared.Gap.TheVariants.{GapTo, GapRefused}
+use Rattle.grammar.specs.declared.Refusal.{Refusal}
 use Rattle.grammar.specs.Cells.{body_cells}
 use Rattle.grammar.specs.State.{Passed, gap_at}
 use Rattle.bodies.specs.Bodies.{body_row, prologue_closed, prologue_decl, union_closed, union_opened, union_body, union_from, union_decl}
@@ -36,31 +34,31 @@ module _ (src : List ℕ) (P : Type 0) (s : State) (h : s.at ≤ length src) (q 
   unfolding prologue_decl
   prologue_in = go (marked_at src s.at) (mark_placed src s.at (marked_at src s.at) refl).1
     where
-      go : (b : Brace) → Marked src s.at b → Sited1 src P (prologue_closed b src s at t)
-      go (Closes to n) x =
-          let y = mark_inside src s.at (Closes to n) to n x refl in
+      go : (b : Option (ℕ × ℕ)) → Marked src s.at b → Sited1 src P (prologue_closed b src s at t)
+      go (Some (to, n)) x =
+          let y = mark_inside src s.at (Some (to, n)) to n x refl in
           let a = y.0 in
           let b = y.1 in
           row_in 1 s.at to (to + 2) (record { onward = a; inside = omega arith }) b
-      go NeverCloses x = record { here = h; stops = (q, w) }
+      go None x = record { here = h; stops = (q, w) }
 
   -- `%union`: 52 is at it
   pub union_in : Sited1 src P (union_decl src s at t)
   unfolding union_decl union_body
   union_in = gap (gap_at s.kind false src s.at) (gap_in s.kind false src P s.at h)
     where
-      brace : (i : ℕ) → (b : Brace) → Braced src (i + 1) b → Sited1 src P (union_closed b src s at i t)
-      brace i (Closes to n) x =
-          let y = brace_inside src (i + 1) (Closes to n) to n x refl in
+      brace : (i : ℕ) → (b : Option (ℕ × ℕ)) → Braced src (i + 1) b → Sited1 src P (union_closed b src s at i t)
+      brace i (Some (to, n)) x =
+          let y = brace_inside src (i + 1) (Some (to, n)) to n x refl in
           let a = y.0 in
           let b = y.1 in
           row_in 2 (i + 1) to (to + 1) (record { onward = a; inside = omega arith }) (omega arith)
-      brace i NeverCloses x = record { here = h; stops = (q, w) }
+      brace i None x = record { here = h; stops = (q, w) }
 
       opened : (i : ℕ) (b : Bool) → is_at 123 src i ≡ b → Sited1 src P (union_opened b src s at i t)
       opened i true e = let l = at_below src i 123 e in brace i (braced_at src (i + 1)) (braces src (i + 1) (omega arith))
       opened i false e = record { here = h; stops = (q, w) }
 
-      gap : (g : Gap) → GapIn src P s.at g → Sited1 src P (union_from g src s at t)
-      gap (GapTo i n) x = opened i (is_at 123 src i) refl
-      gap (GapRefused e) x = record { here = h; stops = x }
+      gap : (g : Result (ℕ × ℕ) Refusal) → GapIn src P s.at g → Sited1 src P (union_from g src s at t)
+      gap (Ok (i, n)) x = opened i (is_at 123 src i) refl
+      gap (Err e) x = record { here = h; stops = x }

@@ -1,4 +1,5 @@
 -- The declarations section stands in the source, and its refusals are fatal ones of the source. Assumes nothing.
+use Rattle.std.specs.Prelude.{Result, Ok, Err}
 use Prim.Native.Nat.{ℕ, suc, ◌≤◌}
 use mathlib.Core.Path.{◌≡◌, refl, sym, ◌∙◌}
 use mathlib.Core.List.{List, [], ◌∷◌}
@@ -16,8 +17,7 @@ use Rattle.keywords.specs.Keywords.{Entry, keywords, knows, first_of, seen_at}
 use Rattle.keywords.proofs.Laws.{sees}
 use Rattle.grammar.specs.declared.State.{State}
 use Rattle.grammar.specs.declared.Repeat.TheVariants.{RepeatedAvoidInsert, RepeatedImplicitTokens}
-use Rattle.grammar.specs.declared.Gap.{Gap}
-use Rattle.grammar.specs.declared.Gap.TheVariants.{GapTo, GapRefused}
+use Rattle.grammar.specs.declared.Refusal.{Refusal}
 use Rattle.grammar.specs.State.{with_at, gap_at}
 use Rattle.grammar.proofs.Kept.{onward_keep}
 use Rattle.lists.specs.declared.WordList.TheVariants.{TokenList, UnusedList, TypeList}
@@ -123,6 +123,6 @@ pub declarations_in : (src : List ℕ) (P : Type 0) (s : State) (D : Declared) �
 unfolding decl_all decl_run
 declarations_in src P s D h f = go (gap_at s.kind true src s.at) (gap_in s.kind true src P s.at h)
   where
-    go : (g : Gap) → GapIn src P s.at g → SitedOut src P (all_from g src s D)
-    go (GapTo i n) x = (turns_keep (Declaring src P s.kind) (decl_turn src) (turn_in src P s.kind f) (suc (length src)) _ (record { here = x.inside; stops = tt }, refl)).0
-    go (GapRefused e) x = record { here = h; stops = x }
+    go : (g : Result (ℕ × ℕ) Refusal) → GapIn src P s.at g → SitedOut src P (all_from g src s D)
+    go (Ok (i, n)) x = (turns_keep (Declaring src P s.kind) (decl_turn src) (turn_in src P s.kind f) (suc (length src)) _ (record { here = x.inside; stops = tt }, refl)).0
+    go (Err e) x = record { here = h; stops = x }

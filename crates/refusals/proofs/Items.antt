@@ -1,4 +1,5 @@
 -- The items of a rule stand in the source, and their refusals are fatal ones of the source. Assumes nothing.
+use Rattle.std.specs.Prelude.{Option, Some, None, Result, Ok, Err}
 use Prim.Native.Nat.{ℕ, suc, ◌≤◌, ◌<◌}
 use mathlib.Core.Path.{◌≡◌, refl, ◌∙◌}
 use mathlib.Core.List.{List}
@@ -8,24 +9,17 @@ use lib.Dec.{leb, eqb}
 use lib.ListN.{length}
 use Rattle.scan.proofs.Bytes.{on_test}
 use Rattle.scan.proofs.Loop.{Either, turns_keep}
-use Rattle.words.specs.declared.Token.{Token}
-use Rattle.words.specs.declared.Token.TheVariants.{Found, NoToken}
+use Rattle.scan.specs.declared.Place.{Place}
 use Rattle.words.specs.Words.{token_at, Tokened}
 use Rattle.words.proofs.Words.{token_placed}
-use Rattle.texts.specs.declared.Action.{Action}
-use Rattle.texts.specs.declared.Action.TheVariants.{Body, OpenAction}
 use Rattle.texts.specs.Action.{action_at, Acted}
 use Rattle.texts.proofs.Laws.{action_placed}
-use Rattle.tables.specs.declared.Entered.{Entered}
-use Rattle.tables.specs.declared.Entered.TheVariants.{Rows, Full}
 use Rattle.tables.specs.Table.{add_row, flag, enter_token}
 use Rattle.tables.specs.Layout.{tokens, productions, symbols}
 use Rattle.grammar.specs.declared.State.{State}
 use Rattle.grammar.specs.declared.Refusal.{Refusal}
 use Rattle.grammar.specs.declared.Answer.{Answer}
 use Rattle.grammar.specs.declared.Answer.TheVariants.{Going, Done, Refused}
-use Rattle.grammar.specs.declared.Gap.{Gap}
-use Rattle.grammar.specs.declared.Gap.TheVariants.{GapTo, GapRefused}
 use Rattle.grammar.specs.Cells.{symbol_cells, token_cells}
 use Rattle.grammar.specs.State.{Out1, Passed, count, with_at, gap_at, pushed, push_row, entered, enter_step, pass_on}
 use Rattle.productions.specs.declared.Production.{Production}
@@ -51,9 +45,9 @@ enter_stays : (src : List ℕ) (s : State) (a b : ℕ) (d : Bool) (t : List ℕ)
 unfolding enter_step
 enter_stays src s a b d t = go (enter_token src (count s tokens) a b d t).entered
   where
-    go : (q : Entered) → (entered q s (token_cells a b (flag d)) (enter_token src (count s tokens) a b d t).cells).state.at ≡ s.at
-    go (Rows m) = refl
-    go Full = refl
+    go : (q : Option ℕ) → (entered q s (token_cells a b (flag d)) (enter_token src (count s tokens) a b d t).cells).state.at ≡ s.at
+    go (Some m) = refl
+    go None = refl
 
 abbrev Item0 : List ℕ → Type 0 → Made0 → Type 0
 Item0 src P o = SitedItem src P o.answer o.state o.draft
@@ -109,78 +103,78 @@ module _ (src : List ℕ) (P : Type 0) (s : State) (d : Production) (x : Open sr
   unfolding quoted_rows
   quoted_rows_in from to end t1 t9 p h k = go (gap_at s.kind true src end) (gap_in s.kind true src P end k)
     where
-      go : (g : Gap) → GapIn src P end g → Item2 src P (quoted_gap g src s d from to end t1 t9)
-      go (GapTo i n) y =
+      go : (g : Result (ℕ × ℕ) Refusal) → GapIn src P end g → Item2 src P (quoted_gap g src s d from to end t1 t9)
+      go (Ok (i, n)) y =
           let l = y.onward in
           let b = x.begins in
           let z = token_symbol_in src P (with_at s i) y.inside from to t1 t9 p in
           let e = z.1 in
           record { read = z.0; begins = omega arith; span = open_to src P s d x end h k }
-      go (GapRefused f) y = shut src P s d x f y
+      go (Err f) y = shut src P s d x f y
 
   quoted_in : (t1 t9 : List ℕ) → Item2 src P (quoted_item src s d t1 t9)
   unfolding quoted_item
   quoted_in t1 t9 = go (token_at src s.at) (token_placed src s.at (token_at src s.at) refl).1
     where
-      go : (r : Token) → Tokened src s.at r → Item2 src P (quoted_found r src s d t1 t9)
-      go (Found p end q) y =
+      go : (r : Result (Place × ℕ × Bool) ℕ) → Tokened src s.at r → Item2 src P (quoted_found r src s d t1 t9)
+      go (Ok (p, end, q)) y =
           let a = y.0 in
           let b = y.1 in
           let c = y.2 in
           let e = y.3 in
           quoted_rows_in p.from p.to end t1 t9 (record { onward = omega arith; inside = omega arith }) (omega arith) e
-      go (NoToken k) y = let h = x.here in shut src P s d x _ (omega arith)
+      go (Err k) y = let h = x.here in shut src P s d x _ (omega arith)
 
   -- the name of a `%prec`,
   prec_name_in : (t1 : List ℕ) → Item1 src P (prec_name src s d t1)
   unfolding prec_name
   prec_name_in t1 = go (token_at src s.at) (token_placed src s.at (token_at src s.at) refl).1
     where
-      go : (r : Token) → Tokened src s.at r → Item1 src P (prec_found r src s d t1)
-      go (Found p end q) y =
+      go : (r : Result (Place × ℕ × Bool) ℕ) → Tokened src s.at r → Item1 src P (prec_found r src s d t1)
+      go (Ok (p, end, q)) y =
           let a = y.0 in
           let b = y.1 in
           let c = y.2 in
           let e = y.3 in
           let o = enter_step src s p.from p.to false t1 in
           behind_in src P s d x (with_to (with_prec d p.from p.to) end) end o.answer o.state refl refl (enter_stays src s p.from p.to false t1) (omega arith) e (enter_in src P s x.here p.from p.to false t1 (record { onward = omega arith; inside = omega arith }))
-      go (NoToken k) y = let h = x.here in shut src P s d x _ (omega arith)
+      go (Err k) y = let h = x.here in shut src P s d x _ (omega arith)
 
   -- what stands behind an action,
   after_action_in : (end : ℕ) → s.at ≤ end → end ≤ length src → Item0 src P (after_action src s d end)
   unfolding after_action
   after_action_in end h k = go (gap_at s.kind true src end) (gap_in s.kind true src P end k)
     where
-      go : (g : Gap) → GapIn src P end g → Item0 src P (action_gap g src s d)
-      go (GapTo i n) y =
+      go : (g : Result (ℕ × ℕ) Refusal) → GapIn src P end g → Item0 src P (action_gap g src s d)
+      go (Ok (i, n)) y =
           let l = y.onward in
           let z = open_at src P s d x i (omega arith) y.inside in
           on_test (Item0 src P) (may_end src i) _ _
           (λ e. record { read = record { here = y.inside; stops = tt }; begins = z.begins; span = x.span })
           (λ e. shut src P (with_at s i) d z _ y.inside)
-      go (GapRefused f) y = shut src P s d x f y
+      go (Err f) y = shut src P s d x f y
 
   -- `%empty`, which begins at `first`,
   empty_in : (first : ℕ) → first ≤ length src → Item0 src P (empty_item src s d first)
   unfolding empty_item
   empty_in first h = go (gap_at s.kind true src s.at) (gap_in s.kind true src P s.at x.here)
     where
-      go : (g : Gap) → GapIn src P s.at g → Item0 src P (empty_gap g src s d first)
-      go (GapTo k n) y =
+      go : (g : Result (ℕ × ℕ) Refusal) → GapIn src P s.at g → Item0 src P (empty_gap g src s d first)
+      go (Ok (k, n)) y =
           let l = y.onward in
           let b = x.begins in
           on_test (Item0 src P) (eqb (count s symbols) d.first && may_follow src k) _ _
           (λ e. record { read = record { here = y.inside; stops = tt }; begins = omega arith; span = open_to src P s d x s.at (omega arith) x.here })
           (λ e. shut src P s d x _ h)
-      go (GapRefused f) y = shut src P s d x f y
+      go (Err f) y = shut src P s d x f y
 
   -- a bare symbol,
   bare_in : (t1 t9 : List ℕ) → Item1 src P (bare_item src s d t1 t9)
   unfolding bare_item
   bare_in t1 t9 = go (token_at src s.at) (token_placed src s.at (token_at src s.at) refl).1
     where
-      go : (r : Token) → Tokened src s.at r → Item1 src P (bare_found r src s d t1 t9)
-      go (Found p end q) y =
+      go : (r : Result (Place × ℕ × Bool) ℕ) → Tokened src s.at r → Item1 src P (bare_found r src s d t1 t9)
+      go (Ok (p, end, q)) y =
           let a = y.0 in
           let b = y.1 in
           let c = y.2 in
@@ -188,7 +182,7 @@ module _ (src : List ℕ) (P : Type 0) (s : State) (d : Production) (x : Open sr
           let row = symbol_cells (symbol_kind src (count s tokens) t1 p.from p.to) p.from p.to in
           let o = push_row s symbols row t9 in
           behind_in src P s d x (with_to d end) end o.answer o.state refl refl (push_stays s symbols row t9) (omega arith) e (push_in src P s x.here symbols row t9 (omega arith) (record { onward = omega arith; inside = omega arith }))
-      go (NoToken k) y = let h = x.here in shut src P s d x _ (omega arith)
+      go (Err k) y = let h = x.here in shut src P s d x _ (omega arith)
 
   -- and the end of a production: 42 of table 8 gives its place.
   production_in : (t8 : List ℕ) → Sited1 src P (end_production s d t8)
@@ -221,20 +215,20 @@ module _ (src : List ℕ) (P : Type 0) (s : State) (d : Production) (x : Open sr
   unfolding prec_item
   prec_in t1 = go (gap_at s.kind true src s.at) (gap_in s.kind true src P s.at x.here)
     where
-      go : (g : Gap) → GapIn src P s.at g → Item1 src P (prec_gap g src s d t1)
-      go (GapTo i n) y = prec_name_in src P (with_at s i) d (open_at src P s d x i y.onward y.inside) t1
-      go (GapRefused f) y = shut src P s d x f y
+      go : (g : Result (ℕ × ℕ) Refusal) → GapIn src P s.at g → Item1 src P (prec_gap g src s d t1)
+      go (Ok (i, n)) y = prec_name_in src P (with_at s i) d (open_at src P s d x i y.onward y.inside) t1
+      go (Err f) y = shut src P s d x f y
 
   -- an action
   action_in : s.at < length src → Item0 src P (action_item src s d)
   unfolding action_item
   action_in h = go (action_at src s.at) (action_placed src s.at h (action_at src s.at) refl).1
     where
-      go : (r : Action) → Acted src s.at r → Item0 src P (action_found r src s d)
-      go (Body end n p q) y =
+      go : (r : Result (ℕ × ℕ × Place × Place) ℕ) → Acted src s.at r → Item0 src P (action_found r src s d)
+      go (Ok (end, n, p, q)) y =
           let a = y.0 in
           after_action_in src P s _ (record { here = x.here; begins = x.begins; span = open_to src P s d x s.at (omega arith) x.here }) end (omega arith) y.1
-      go (OpenAction i) y = shut src P s d x _ (omega arith)
+      go (Err i) y = shut src P s d x _ (omega arith)
 
 module _ (src : List ℕ) (P : Type 0) (s : State) (d : Production) (x : Open src P s d) (t1 t8 t9 : List ℕ) where
   by_sort_lem : (k : Sort) (j : ℕ) → s.at ≤ j → j ≤ length src → ((k ≡ BareSort → ⊥) → s.at < j) → Item3 src P (by_sort k src s (with_at s j) d t1 t8 t9)

@@ -1,4 +1,5 @@
 -- Declarations keep the kind, whatever their answer. Assumes nothing.
+use Rattle.std.specs.Prelude.{Option, Some, None, Result, Ok, Err}
 use Prim.Native.Nat.{ℕ, suc, ◌+◌}
 use mathlib.Core.Path.{◌≡◌, ◌∙◌}
 use mathlib.Core.List.{List}
@@ -8,42 +9,30 @@ use lib.ListN.{length}
 use Rattle.scan.specs.Scan.{is_at}
 use Rattle.scan.proofs.Bytes.{on_test}
 use Rattle.scan.proofs.Loop.{Either, turns_keep}
-use Rattle.words.specs.declared.Name.{Name}
-use Rattle.words.specs.declared.Name.TheVariants.{NameTo, NoName}
-use Rattle.words.specs.declared.Token.{Token}
-use Rattle.words.specs.declared.Token.TheVariants.{Found, NoToken}
-use Rattle.words.specs.declared.Int.{Int}
-use Rattle.words.specs.declared.Int.TheVariants.{Value, NoDigits, TooLarge}
-use Rattle.words.specs.declared.Tag.{Tag}
-use Rattle.words.specs.declared.Tag.TheVariants.{TagTo, OpenTag, NoTag}
-use Rattle.words.specs.declared.Quote.{Quote}
-use Rattle.words.specs.declared.Quote.TheVariants.{Closed, NotOpened, LineInside, BadEscape, NotClosed}
+use Rattle.scan.specs.declared.Place.{Place}
+use Rattle.words.specs.declared.IntError.{IntError}
+use Rattle.words.specs.declared.IntError.TheVariants.{NoDigits, TooLarge}
+use Rattle.words.specs.declared.TagError.{TagError}
+use Rattle.words.specs.declared.TagError.TheVariants.{OpenTag, NoTag}
+use Rattle.words.specs.declared.QuoteError.{QuoteError}
+use Rattle.words.specs.declared.QuoteError.TheVariants.{NotOpened, LineInside, BadEscape, NotClosed}
 use Rattle.words.specs.Words.{name_at, token_at}
 use Rattle.words.specs.Numbers.{int_at}
 use Rattle.words.specs.Strings.{string_at}
 use Rattle.words.specs.Tags.{tag_at}
-use Rattle.texts.specs.declared.ColonText.{ColonText}
-use Rattle.texts.specs.declared.ColonText.TheVariants.{Upto, NoColon}
 use Rattle.texts.specs.Colon.{colon_text_at}
 use Rattle.texts.specs.Line.{line_end_at}
-use Rattle.texts.specs.declared.Brace.{Brace}
-use Rattle.texts.specs.declared.Brace.TheVariants.{Closes, NeverCloses}
 use Rattle.texts.specs.Action.{braced_at}
 use Rattle.texts.specs.Mark.{marked_at}
 use Rattle.keywords.specs.declared.Keyword.{Keyword}
 use Rattle.keywords.specs.declared.Keyword.TheVariants.{Percents, TokenWord, ActiontypeWord, StartWord, EppWord, ExpectRrWord, ExpectUnusedWord, ExpectWord, AvoidInsertWord, ParseParamWord, ParseGenericsWord, ImplicitTokensWord, LeftWord, RightWord, NonassocWord, PrologueWord, UnionWord, TypeWord, NoKeyword}
 use Rattle.tables.specs.Layout.{precedences, avoided, implicit, epps, unused, tags, token_numbers, bodies, key_name, width}
-use Rattle.grammar.specs.declared.Part.{Part}
-use Rattle.grammar.specs.declared.Part.TheVariants.{Absent, At}
-use Rattle.grammar.specs.declared.Expect.{Expect}
-use Rattle.grammar.specs.declared.Expect.TheVariants.{NotExpected, Expected}
 use Rattle.grammar.specs.declared.Repeat.{Repeat}
 use Rattle.grammar.specs.declared.Repeat.TheVariants.{RepeatedPrecedence, RepeatedAvoidInsert, RepeatedImplicitTokens, RepeatedStart, RepeatedActiontype, RepeatedEpp}
 use Rattle.grammar.specs.declared.State.{State}
 use Rattle.grammar.specs.declared.Answer.{Answer}
 use Rattle.grammar.specs.declared.Answer.TheVariants.{Going, Done, Refused}
-use Rattle.grammar.specs.declared.Gap.{Gap}
-use Rattle.grammar.specs.declared.Gap.TheVariants.{GapTo, GapRefused}
+use Rattle.grammar.specs.declared.Refusal.{Refusal}
 use Rattle.grammar.specs.Cells.{kind_cells, precedence_cells, name_cells, epp_cells, tag_cells, number_cells, body_cells}
 use Rattle.grammar.specs.State.{Out0, Out1, Out3, Out4, with_at, with_level, next_level, with_singles, gap_at, push_row, list_repeat, enter_step, once_step, pass_on}
 use Rattle.grammar.proofs.Kept.{onward_keep}
@@ -51,8 +40,6 @@ use Rattle.grammar.proofs.SameKind.{push_kind, repeat_kind, enter_kind, once_kin
 use Rattle.settings.specs.Singles.{with_expected, expected_of}
 use Rattle.settings.specs.Settings.{start_given, start_named, start_name, start_from, start_decl, repeated_expect, expect_seen, expect_given, expect_int, expect_from, expect_decl, actiontype_given, actiontype_named, actiontype_from, actiontype_decl, param_given, param_typed, param_text, param_from, param_decl, generics_from, generics_decl}
 use Rattle.marks.specs.Marks.{Leading, no_tag, tag_found, lead_tag, tag_given, tag_row, number_given, number_behind, number_after, behind_word}
-use Rattle.lists.specs.declared.Spelling.{Spelling}
-use Rattle.lists.specs.declared.Spelling.TheVariants.{Spelled, Unspelled}
 use Rattle.lists.specs.declared.WordList.{WordList}
 use Rattle.lists.specs.declared.WordList.TheVariants.{TokenList, UnusedList, TypeList}
 use Rattle.lists.specs.Lists.{token_found, token_item, spelled_at, unused_row, unused_spelled, unused_item, type_row, type_spelled, type_item, list_item, ends, after_item, list_turn, percent_list, lead_list, list_led, list_body, list_from, list_decl}
@@ -87,61 +74,61 @@ module _ (src : List ℕ) (kind : ℕ) where
     unfolding start_decl start_named
     start_kept t = go (gap_at s.kind false src s.at)
       where
-        given : (q : Part) (i j : ℕ) → I (start_given q s i j t).state
-        given Absent i j = x
-        given (At a b) i j = repeat_kept s x RepeatedStart a b i j t
+        given : (q : Option (ℕ × ℕ)) (i j : ℕ) → I (start_given q s i j t).state
+        given None i j = x
+        given (Some (a, b)) i j = repeat_kept s x RepeatedStart a b i j t
 
-        name : (i : ℕ) (n : Name) → I (start_name n i src s t).state
-        name i (NameTo j) = let o = start_named s i j t in pass_kept o.state (given s.singles.start i j) false j o.answer
-        name i (NoName k) = x
+        name : (i : ℕ) (n : Result ℕ ℕ) → I (start_name n i src s t).state
+        name i (Ok j) = let o = start_named s i j t in pass_kept o.state (given s.singles.start i j) false j o.answer
+        name i (Err k) = x
 
-        go : (g : Gap) → I (start_from g src s t).state
-        go (GapTo i n) = name i (name_at src i)
-        go (GapRefused f) = x
+        go : (g : Result (ℕ × ℕ) Refusal) → I (start_from g src s t).state
+        go (Ok (i, n)) = name i (name_at src i)
+        go (Err f) = x
 
     -- `%expect` and `%expect_rr`,
     expect_kept : (rr : Bool) (t : List ℕ) → I (expect_decl src s rr t).state
     unfolding expect_decl expect_given
     expect_kept rr t = go (gap_at s.kind false src s.at)
       where
-        one : (r : Bool) (e : Expect) → I (with_singles s (with_expected s.singles r e))
+        one : (r : Bool) (e : Option (ℕ × ℕ × ℕ)) → I (with_singles s (with_expected s.singles r e))
         one true e = x
         one false e = x
 
-        given : (e : Expect) (v i j : ℕ) → I (expect_seen e s rr v i j t).state
-        given NotExpected v i j = one rr (Expected v i j)
-        given (Expected w a b) v i j = repeat_kept s x (repeated_expect rr) a b i j t
+        given : (e : Option (ℕ × ℕ × ℕ)) (v i j : ℕ) → I (expect_seen e s rr v i j t).state
+        given None v i j = one rr (Some (v, i, j))
+        given (Some (w, a, b)) v i j = repeat_kept s x (repeated_expect rr) a b i j t
 
-        int : (i : ℕ) (n : Int) → I (expect_int n i src s rr t).state
-        int i (Value v j) = let o = expect_given s rr v i j t in pass_kept o.state (given (expected_of rr s.singles) v i j) false j o.answer
-        int i (NoDigits k) = x
-        int i (TooLarge k) = x
+        int : (i : ℕ) (n : Result (ℕ × ℕ) IntError) → I (expect_int n i src s rr t).state
+        int i (Ok (v, j)) = let o = expect_given s rr v i j t in pass_kept o.state (given (expected_of rr s.singles) v i j) false j o.answer
+        int i (Err (NoDigits k)) = x
+        int i (Err (TooLarge k)) = x
 
-        go : (g : Gap) → I (expect_from g src s rr t).state
-        go (GapTo i n) = int i (int_at src i)
-        go (GapRefused f) = x
+        go : (g : Result (ℕ × ℕ) Refusal) → I (expect_from g src s rr t).state
+        go (Ok (i, n)) = int i (int_at src i)
+        go (Err f) = x
 
     -- `%actiontype`,
     actiontype_kept : (t : List ℕ) → I (actiontype_decl src s t).state
     unfolding actiontype_decl actiontype_named
     actiontype_kept t = go (gap_at s.kind false src s.at)
       where
-        given : (q : Part) (i j : ℕ) → I (actiontype_given q s i j t).state
-        given Absent i j = x
-        given (At a b) i j = repeat_kept s x RepeatedActiontype a b i j t
+        given : (q : Option (ℕ × ℕ)) (i j : ℕ) → I (actiontype_given q s i j t).state
+        given None i j = x
+        given (Some (a, b)) i j = repeat_kept s x RepeatedActiontype a b i j t
 
-        go : (g : Gap) → I (actiontype_from g src s t).state
-        go (GapTo i n) = let j = line_end_at src i in let o = actiontype_named s i j t in pass_kept o.state (given s.actiontype i j) false j o.answer
-        go (GapRefused f) = x
+        go : (g : Result (ℕ × ℕ) Refusal) → I (actiontype_from g src s t).state
+        go (Ok (i, n)) = let j = line_end_at src i in let o = actiontype_named s i j t in pass_kept o.state (given s.actiontype i j) false j o.answer
+        go (Err f) = x
 
     -- `%parse-generics`,
     generics_kept : I (generics_decl src s).state
     unfolding generics_decl
     generics_kept = go (gap_at s.kind false src s.at)
       where
-        go : (g : Gap) → I (generics_from g src s).state
-        go (GapTo i n) = pass_kept _ x false (line_end_at src i) Going
-        go (GapRefused f) = x
+        go : (g : Result (ℕ × ℕ) Refusal) → I (generics_from g src s).state
+        go (Ok (i, n)) = pass_kept _ x false (line_end_at src i) Going
+        go (Err f) = x
 
     -- a tag in front of a list's words, and a row of table 15 for each,
     lead_kept : (wanted line : Bool) → I (lead_tag src s wanted line).state
@@ -152,16 +139,16 @@ module _ (src : List ℕ) (kind : ℕ) where
         none true i = x
         none false i = x
 
-        tag : (t : Tag) → I (tag_found t src s wanted line).state
-        tag (TagTo p end) = pass_kept s x line end Going
-        tag (OpenTag i) = x
-        tag (NoTag i) = none wanted i
+        tag : (t : Result (Place × ℕ) TagError) → I (tag_found t src s wanted line).state
+        tag (Ok (p, end)) = pass_kept s x line end Going
+        tag (Err (OpenTag i)) = x
+        tag (Err (NoTag i)) = none wanted i
 
-    given_kept : (g : Part) (from to : ℕ) (t : List ℕ) → I (tag_given g s from to t).state
-    given_kept Absent from to t = x
-    given_kept (At i j) from to t = push_kept s x tags (tag_cells from to i j) t
+    given_kept : (g : Option (ℕ × ℕ)) (from to : ℕ) (t : List ℕ) → I (tag_given g s from to t).state
+    given_kept None from to t = x
+    given_kept (Some (i, j)) from to t = push_kept s x tags (tag_cells from to i j) t
 
-    tag_kept : (a : Answer) (g : Part) (from to : ℕ) (t : List ℕ) → I (tag_row a s g from to t).state
+    tag_kept : (a : Answer) (g : Option (ℕ × ℕ)) (from to : ℕ) (t : List ℕ) → I (tag_row a s g from to t).state
     unfolding tag_row
     tag_kept Going g from to t = given_kept g from to t
     tag_kept Done g from to t = x
@@ -172,14 +159,14 @@ module _ (src : List ℕ) (kind : ℕ) where
     unfolding number_behind
     number_kept line from to t = on_test (λ (o : Out1). I o.state) (eqb s.kind 4) _ _ (λ e. int (int_at src s.at)) (λ e. x)
       where
-        int : (i : Int) → I (number_given i src line from to s t).state
-        int (Value v end) =
+        int : (i : Result (ℕ × ℕ) IntError) → I (number_given i src line from to s t).state
+        int (Ok (v, end)) =
             let row = number_cells from to v in
             let o = push_row s token_numbers row t in
             on_test (λ (o : Out1). I o.state) (ltb 4294967295 v) _ _ (λ e. x)
             (λ e. pass_kept o.state (push_kept s x token_numbers row t) line end o.answer)
-        int (NoDigits k) = x
-        int (TooLarge k) = x
+        int (Err (NoDigits k)) = x
+        int (Err (TooLarge k)) = x
 
     -- a body,
     body_kept : (sort from to end : ℕ) (t : List ℕ) → I (body_row src s sort from to end t).state
@@ -193,25 +180,25 @@ module _ (src : List ℕ) (kind : ℕ) where
     unfolding prologue_decl
     prologue_kept at t = go (marked_at src s.at)
       where
-        go : (b : Brace) → I (prologue_closed b src s at t).state
-        go (Closes to n) = body_kept 1 s.at to (to + 2) t
-        go NeverCloses = x
+        go : (b : Option (ℕ × ℕ)) → I (prologue_closed b src s at t).state
+        go (Some (to, n)) = body_kept 1 s.at to (to + 2) t
+        go None = x
 
     union_kept : (at : ℕ) (t : List ℕ) → I (union_decl src s at t).state
     unfolding union_decl union_body
     union_kept at t = gap (gap_at s.kind false src s.at)
       where
-        brace : (i : ℕ) (b : Brace) → I (union_closed b src s at i t).state
-        brace i (Closes to n) = body_kept 2 (i + 1) to (to + 1) t
-        brace i NeverCloses = x
+        brace : (i : ℕ) (b : Option (ℕ × ℕ)) → I (union_closed b src s at i t).state
+        brace i (Some (to, n)) = body_kept 2 (i + 1) to (to + 1) t
+        brace i None = x
 
         opened : (i : ℕ) (b : Bool) → I (union_opened b src s at i t).state
         opened i true = brace i (braced_at src (i + 1))
         opened i false = x
 
-        gap : (g : Gap) → I (union_from g src s at t).state
-        gap (GapTo i n) = opened i (is_at 123 src i)
-        gap (GapRefused f) = x
+        gap : (g : Result (ℕ × ℕ) Refusal) → I (union_from g src s at t).state
+        gap (Ok (i, n)) = opened i (is_at 123 src i)
+        gap (Err f) = x
 
     -- one of an avoid or implicit list,
     avoid_item_kept : (k : ℕ) (what : Repeat) (t1 t t10 : List ℕ) → I (avoid_item src s k what t1 t t10).state
@@ -225,9 +212,9 @@ module _ (src : List ℕ) (kind : ℕ) where
         entry Done e from to end y = y
         entry (Refused f) e from to end y = y
 
-        go : (r : Token) → I (avoid_found r src s k what t1 t t10).state
-        go (Found p end q) = let e = enter_step src s p.from p.to false t1 in entry e.answer e p.from p.to end (enter_kept s x p.from p.to false t1)
-        go (NoToken i) = x
+        go : (r : Result (Place × ℕ × Bool) ℕ) → I (avoid_found r src s k what t1 t t10).state
+        go (Ok (p, end, q)) = let e = enter_step src s p.from p.to false t1 in entry e.answer e p.from p.to end (enter_kept s x p.from p.to false t1)
+        go (Err i) = x
 
     -- `%epp`.
     epp_kept : (t5 t10 : List ℕ) → I (epp_decl src s t5 t10).state
@@ -240,41 +227,41 @@ module _ (src : List ℕ) (kind : ℕ) where
             let o = once_step src s epps (width epps) key_name RepeatedEpp row t5 t10 in
             pass_kept o.state (once_kept s x epps (width epps) key_name RepeatedEpp row t5 t10) false e o.answer
 
-        string : (i j from to v : ℕ) (q : Quote) → I (epp_string q src s i j from to v t5 t10).state
-        string i j from to v (Closed e) = given i j from to v e
-        string i j from to v (NotOpened k) = x
-        string i j from to v (LineInside k) = x
-        string i j from to v (BadEscape k) = x
-        string i j from to v (NotClosed k) = x
+        string : (i j from to v : ℕ) (q : Result ℕ QuoteError) → I (epp_string q src s i j from to v t5 t10).state
+        string i j from to v (Ok e) = given i j from to v e
+        string i j from to v (Err (NotOpened k)) = x
+        string i j from to v (Err (LineInside k)) = x
+        string i j from to v (Err (BadEscape k)) = x
+        string i j from to v (Err (NotClosed k)) = x
 
-        text : (i j from to : ℕ) (g : Gap) → I (epp_gap g src s i j from to t5 t10).state
-        text i j from to (GapTo v n) = string i j from to v (string_at src v)
-        text i j from to (GapRefused f) = x
+        text : (i j from to : ℕ) (g : Result (ℕ × ℕ) Refusal) → I (epp_gap g src s i j from to t5 t10).state
+        text i j from to (Ok (v, n)) = string i j from to v (string_at src v)
+        text i j from to (Err f) = x
 
-        key : (i : ℕ) (r : Token) → I (epp_key r i src s t5 t10).state
-        key i (Found p end q) = text i end p.from p.to (gap_at s.kind false src end)
-        key i (NoToken k) = x
+        key : (i : ℕ) (r : Result (Place × ℕ × Bool) ℕ) → I (epp_key r i src s t5 t10).state
+        key i (Ok (p, end, q)) = text i end p.from p.to (gap_at s.kind false src end)
+        key i (Err k) = x
 
-        go : (g : Gap) → I (epp_from g src s t5 t10).state
-        go (GapTo i n) = key i (token_at src i)
-        go (GapRefused f) = x
+        go : (g : Result (ℕ × ℕ) Refusal) → I (epp_from g src s t5 t10).state
+        go (Ok (i, n)) = key i (token_at src i)
+        go (Err f) = x
 
     -- The parse parameter.
     param_kept : I (param_decl src s).state
     unfolding param_decl param_typed
     param_kept = go (gap_at s.kind false src s.at)
       where
-        given : (a c : ℕ) (g : Gap) → I (param_given g src s a c).state
-        given a c (GapTo i n) = pass_kept _ x false (line_end_at src i) Going
-        given a c (GapRefused f) = x
+        given : (a c : ℕ) (g : Result (ℕ × ℕ) Refusal) → I (param_given g src s a c).state
+        given a c (Ok (i, n)) = pass_kept _ x false (line_end_at src i) Going
+        given a c (Err f) = x
 
-        text : (r : ColonText) → I (param_text r src s).state
-        text (Upto j l p) = given p.from p.to (gap_at s.kind false src (j + 1))
-        text (NoColon l) = x
+        text : (r : Result (ℕ × ℕ × Place) ℕ) → I (param_text r src s).state
+        text (Ok (j, l, p)) = given p.from p.to (gap_at s.kind false src (j + 1))
+        text (Err l) = x
 
-        go : (g : Gap) → I (param_from g src s).state
-        go (GapTo i n) = text (colon_text_at src i)
-        go (GapRefused f) = x
+        go : (g : Result (ℕ × ℕ) Refusal) → I (param_from g src s).state
+        go (Ok (i, n)) = text (colon_text_at src i)
+        go (Err f) = x
 
   -- the spacing behind a word, and what number follows it
   behind_kept : (line : Bool) (from to end : ℕ) (a : Answer) (s : State) (t : List ℕ) → I s → I (behind_word src line from to end a s t).state
@@ -287,44 +274,44 @@ module _ (src : List ℕ) (kind : ℕ) where
       go o (Refused f) y = y
 
   -- behind a step, the row of a word's tag, the spacing and a number
-  word_kept : (line : Bool) (tag : Part) (from to end : ℕ) (a : Answer) (s : State) (t15 t16 : List ℕ) → I s → let r = tag_row a s tag from to t15 in I (behind_word src line from to end r.answer r.state t16).state
+  word_kept : (line : Bool) (tag : Option (ℕ × ℕ)) (from to end : ℕ) (a : Answer) (s : State) (t15 t16 : List ℕ) → I s → let r = tag_row a s tag from to t15 in I (behind_word src line from to end r.answer r.state t16).state
   word_kept line tag from to end a s t15 t16 x = let r = tag_row a s tag from to t15 in behind_kept line from to end r.answer r.state t16 (tag_kept s x a tag from to t15)
 
   module _ (s : State) (x : I s) where
     -- a declared token, what is expected unused, and what has a type,
-    pub list_item_kept : (what : WordList) (tag : Part) (t t15 t16 : List ℕ) → I (list_item src s what tag t t15 t16).state
+    pub list_item_kept : (what : WordList) (tag : Option (ℕ × ℕ)) (t t15 t16 : List ℕ) → I (list_item src s what tag t t15 t16).state
     unfolding token_item unused_item unused_row type_item type_row
     list_item_kept TokenList tag t t15 t16 = go (token_at src s.at)
       where
-        go : (r : Token) → I (token_found r src s tag t t15 t16).state
-        go (Found p end q) =
+        go : (r : Result (Place × ℕ × Bool) ℕ) → I (token_found r src s tag t t15 t16).state
+        go (Ok (p, end, q)) =
             let o = enter_step src s p.from p.to true t in
             word_kept false tag p.from p.to end o.answer o.state t15 t16 (enter_kept s x p.from p.to true t)
-        go (NoToken k) = x
+        go (Err k) = x
     list_item_kept UnusedList tag t t15 t16 = go (spelled_at src s.at)
       where
-        go : (r : Spelling) → I (unused_spelled r src s t).state
-        go (Spelled sort from to end) =
+        go : (r : Result (ℕ × ℕ × ℕ × ℕ) ℕ) → I (unused_spelled r src s t).state
+        go (Ok (sort, from, to, end)) =
             let o = push_row s unused (kind_cells sort from to) t in
             pass_kept o.state (push_kept s x unused (kind_cells sort from to) t) false end o.answer
-        go (Unspelled k) = x
+        go (Err k) = x
     list_item_kept TypeList tag t t15 t16 = go (spelled_at src s.at)
       where
-        go : (r : Spelling) → I (type_spelled r src s tag t15).state
-        go (Spelled sort from to end) = let o = tag_given tag s from to t15 in pass_kept o.state (given_kept s x tag from to t15) false end o.answer
-        go (Unspelled k) = x
+        go : (r : Result (ℕ × ℕ × ℕ × ℕ) ℕ) → I (type_spelled r src s tag t15).state
+        go (Ok (sort, from, to, end)) = let o = tag_given tag s from to t15 in pass_kept o.state (given_kept s x tag from to t15) false end o.answer
+        go (Err k) = x
 
     -- and a word of a precedence line.
-    pub prec_item_kept : (level assoc : ℕ) (tag : Part) (t2 t10 t15 t16 : List ℕ) → I (prec_item src s level assoc tag t2 t10 t15 t16).state
+    pub prec_item_kept : (level assoc : ℕ) (tag : Option (ℕ × ℕ)) (t2 t10 t15 t16 : List ℕ) → I (prec_item src s level assoc tag t2 t10 t15 t16).state
     unfolding prec_item
     prec_item_kept level assoc tag t2 t10 t15 t16 = go (token_at src s.at)
       where
-        go : (r : Token) → I (prec_found r src s level assoc tag t2 t10 t15 t16).state
-        go (Found p end q) =
+        go : (r : Result (Place × ℕ × Bool) ℕ) → I (prec_found r src s level assoc tag t2 t10 t15 t16).state
+        go (Ok (p, end, q)) =
             let row = precedence_cells p.from p.to level assoc in
             let o = once_step src s precedences (width precedences) 0 RepeatedPrecedence row t2 t10 in
             word_kept true tag p.from p.to end o.answer o.state t15 t16 (once_kept s x precedences (width precedences) 0 RepeatedPrecedence row t2 t10)
-        go (NoToken k) = x
+        go (Err k) = x
 
   -- lists
   list_kept : (s : State) → I s → (what : WordList) (t t15 t16 : List ℕ) → I (list_decl src s what t t15 t16).state
@@ -334,7 +321,7 @@ module _ (src : List ℕ) (kind : ℕ) where
       J : Out3 → Type 0
       J o = I o.state
 
-      turn : (tag : Part) (o : Out3) → J o → Either J J (list_turn src what tag o)
+      turn : (tag : Option (ℕ × ℕ)) (o : Out3) → J o → Either J J (list_turn src what tag o)
       turn tag o y = by (ends src o.state.at)
         where
           by : (b : Bool) → Either J J (after_item b o (list_item src o.state what tag o.a o.b o.c))
@@ -351,9 +338,9 @@ module _ (src : List ℕ) (kind : ℕ) where
       led Done l y = y
       led (Refused f) l y = y
 
-      go : (g : Gap) → J (list_from g src s what t t15 t16)
-      go (GapTo i n) = let u = with_at s i in led (lead_list what src u).answer (lead_list what src u) (lead what u x)
-      go (GapRefused f) = x
+      go : (g : Result (ℕ × ℕ) Refusal) → J (list_from g src s what t t15 t16)
+      go (Ok (i, n)) = let u = with_at s i in led (lead_list what src u).answer (lead_list what src u) (lead what u x)
+      go (Err f) = x
 
   prec_kept : (s : State) → I s → (assoc : ℕ) (t2 t10 t15 t16 : List ℕ) → I (prec_decl src s assoc t2 t10 t15 t16).state
   unfolding prec_decl prec_body prec_list prec_turn
@@ -367,7 +354,7 @@ module _ (src : List ℕ) (kind : ℕ) where
       next Done p y = y
       next (Refused f) p y = y
 
-      turn : (tag : Part) (o : Out4) → J o → Either J J (prec_turn src s.level assoc tag o)
+      turn : (tag : Option (ℕ × ℕ)) (o : Out4) → J o → Either J J (prec_turn src s.level assoc tag o)
       turn tag o y = by (leb (length src) o.state.at)
         where
           by : (b : Bool) → Either J J (after_end b o (prec_item src o.state s.level assoc tag o.a o.b o.c o.d))
@@ -379,9 +366,9 @@ module _ (src : List ℕ) (kind : ℕ) where
       led Done l y = y
       led (Refused f) l y = y
 
-      go : (g : Gap) → J (prec_from g src s assoc t2 t10 t15 t16)
-      go (GapTo i n) = let u = with_level (with_at s i) (next_level s.level) in led (lead_tag src u false true).answer (lead_tag src u false true) (lead_kept u x false true)
-      go (GapRefused f) = x
+      go : (g : Result (ℕ × ℕ) Refusal) → J (prec_from g src s assoc t2 t10 t15 t16)
+      go (Ok (i, n)) = let u = with_level (with_at s i) (next_level s.level) in led (lead_tag src u false true).answer (lead_tag src u false true) (lead_kept u x false true)
+      go (Err f) = x
 
   avoid_kept : (s : State) → I s → (k : ℕ) (what : Repeat) (t1 t t10 : List ℕ) → I (avoid_decl src s k what t1 t t10).state
   unfolding avoid_decl avoid_list avoid_turn
@@ -398,9 +385,9 @@ module _ (src : List ℕ) (kind : ℕ) where
       turn : (o : Out3) → J o → Either J J (avoid_turn src k what o)
       turn o y = let p = avoid_item src o.state k what o.a o.b o.c in next p.answer p (avoid_item_kept o.state y k what o.a o.b o.c)
 
-      go : (g : Gap) → J (avoid_from g src s k what t1 t t10)
-      go (GapTo i n) = turns_keep J (avoid_turn src k what) turn (suc (length src)) _ x
-      go (GapRefused f) = x
+      go : (g : Result (ℕ × ℕ) Refusal) → J (avoid_from g src s k what t1 t t10)
+      go (Ok (i, n)) = turns_keep J (avoid_turn src k what) turn (suc (length src)) _ x
+      go (Err f) = x
 
   pub by_kind : (s : State) → I s → (D : Declared) (w : Keyword) (j : ℕ) → I (by_keyword w src s (with_at s j) D).state
   by_kind s x D Percents j = x

@@ -1,4 +1,5 @@
 -- Lists that run to their line's end stand in the source, and their refusals are fatal ones of the source. Assumes nothing.
+use Rattle.std.specs.Prelude.{Option, Result, Ok, Err}
 use Prim.Native.Nat.{ℕ, suc, ◌≤◌}
 use mathlib.Core.Path.{◌≡◌, refl, sym, ◌∙◌}
 use mathlib.Core.List.{List}
@@ -8,19 +9,16 @@ use lib.Dec.{leb}
 use lib.ListN.{length}
 use Rattle.scan.proofs.Bytes.{on_test}
 use Rattle.scan.proofs.Loop.{Either, turns_keep}
-use Rattle.words.specs.declared.Token.{Token}
-use Rattle.words.specs.declared.Token.TheVariants.{Found, NoToken}
+use Rattle.scan.specs.declared.Place.{Place}
 use Rattle.words.specs.Words.{token_at, Tokened}
 use Rattle.words.proofs.Words.{token_placed}
 use Rattle.tables.specs.Layout.{precedences, avoided, width}
 use Rattle.grammar.specs.declared.State.{State}
-use Rattle.grammar.specs.declared.Part.{Part}
 use Rattle.grammar.specs.declared.Answer.{Answer}
 use Rattle.grammar.specs.declared.Answer.TheVariants.{Going, Done, Refused}
 use Rattle.grammar.specs.declared.Repeat.{Repeat}
 use Rattle.grammar.specs.declared.Repeat.TheVariants.{RepeatedPrecedence}
-use Rattle.grammar.specs.declared.Gap.{Gap}
-use Rattle.grammar.specs.declared.Gap.TheVariants.{GapTo, GapRefused}
+use Rattle.grammar.specs.declared.Refusal.{Refusal}
 use Rattle.grammar.specs.Cells.{precedence_cells, name_cells}
 use Rattle.grammar.specs.State.{Out1, Out3, Out4, Passed, with_at, with_level, next_level, gap_at, enter_step, once_step}
 use Rattle.grammar.proofs.SameKind.{once_kind}
@@ -35,12 +33,12 @@ use Rattle.refusals.proofs.Marks.{Tags, lead_in, tag_in, behind_in}
 use Rattle.refusals.proofs.KindKept.{prec_item_kept}
 
 -- a precedence line: its item, its turn
-prec_item_in : (src : List ℕ) (P : Type 0) (s : State) → s.at ≤ length src → (s.kind ≡ 4 → P) → (level assoc : ℕ) (tag : Part) → Tags P tag → (t2 t10 t15 t16 : List ℕ) → Sited4 src P (prec_item src s level assoc tag t2 t10 t15 t16)
+prec_item_in : (src : List ℕ) (P : Type 0) (s : State) → s.at ≤ length src → (s.kind ≡ 4 → P) → (level assoc : ℕ) (tag : Option (ℕ × ℕ)) → Tags P tag → (t2 t10 t15 t16 : List ℕ) → Sited4 src P (prec_item src s level assoc tag t2 t10 t15 t16)
 unfolding prec_item
 prec_item_in src P s h k level assoc tag g t2 t10 t15 t16 = go (token_at src s.at) (token_placed src s.at (token_at src s.at) refl).1
   where
-    go : (r : Token) → Tokened src s.at r → Sited4 src P (prec_found r src s level assoc tag t2 t10 t15 t16)
-    go (Found p end q) x =
+    go : (r : Result (Place × ℕ × Bool) ℕ) → Tokened src s.at r → Sited4 src P (prec_found r src s level assoc tag t2 t10 t15 t16)
+    go (Ok (p, end, q)) x =
         let b = x.1 in
         let c = x.2 in
         let d = x.3 in
@@ -51,13 +49,13 @@ prec_item_in src P s h k level assoc tag g t2 t10 t15 t16 = go (token_at src s.a
         let y = once_in src P s h precedences (width precedences) 0 RepeatedPrecedence row t2 t10 (omega arith) z in
         let same : r.state.kind ≡ s.kind = tag_kind o.answer o.state tag p.from p.to t15 ∙ once_kind s src precedences (width precedences) 0 RepeatedPrecedence row t2 t10 in
         behind_in src P true p.from p.to end r.answer r.state t16 (λ e. k (sym same ∙ e)) (tag_in src P o.answer o.state y tag g p.from p.to t15 z) z d
-    go (NoToken k) x = record { here = h; stops = omega arith }
+    go (Err k) x = record { here = h; stops = omega arith }
 
 -- a line under way, of a kind
 abbrev Lining : List ℕ → Type 0 → ℕ → Out4 → Type 0
 Lining src P kind o = Sited4 src P o × (o.state.kind ≡ kind)
 
-prec_turn_in : (src : List ℕ) (P : Type 0) (kind : ℕ) → (kind ≡ 4 → P) → (level assoc : ℕ) (tag : Part) → Tags P tag → (o : Out4) → Lining src P kind o → Either (Lining src P kind) (Lining src P kind) (prec_turn src level assoc tag o)
+prec_turn_in : (src : List ℕ) (P : Type 0) (kind : ℕ) → (kind ≡ 4 → P) → (level assoc : ℕ) (tag : Option (ℕ × ℕ)) → Tags P tag → (o : Out4) → Lining src P kind o → Either (Lining src P kind) (Lining src P kind) (prec_turn src level assoc tag o)
 unfolding prec_turn
 prec_turn_in src P kind k level assoc tag g o x = go (leb (length src) o.state.at)
   where
@@ -83,9 +81,9 @@ prec_in src P s h k assoc t2 t10 t15 t16 = go (gap_at s.kind false src s.at) (ga
     led Done l x g e = record { here = x.here; stops = tt }
     led (Refused f) l x g e = x
 
-    go : (g : Gap) → GapIn src P s.at g → Sited4 src P (prec_from g src s assoc t2 t10 t15 t16)
-    go (GapTo i n) x = let u = with_level (with_at s i) (next_level s.level) in let y = lead_in src P u x.inside k false true in led (lead_tag src u false true).answer (lead_tag src u false true) y.read y.tag (lead_kind src u false true)
-    go (GapRefused e) x = record { here = h; stops = x }
+    go : (g : Result (ℕ × ℕ) Refusal) → GapIn src P s.at g → Sited4 src P (prec_from g src s assoc t2 t10 t15 t16)
+    go (Ok (i, n)) x = let u = with_level (with_at s i) (next_level s.level) in let y = lead_in src P u x.inside k false true in led (lead_tag src u false true).answer (lead_tag src u false true) y.read y.tag (lead_kind src u false true)
+    go (Err e) x = record { here = h; stops = x }
 
 -- what is given once to table 3 or 4
 given_in : (src : List ℕ) (P : Type 0) (s : State) → s.at ≤ length src → (k : ℕ) → NameTable k → (what : Repeat) (from to : ℕ) (t t10 : List ℕ) → Passed src from to → Sited2 src P (once_step src s k (width avoided) 0 what (name_cells from to) t t10)
@@ -104,15 +102,15 @@ module _ (src : List ℕ) (P : Type 0) (k : ℕ) (n : NameTable k) (what : Repea
       entered from to end p l Done o x = x
       entered from to end p l (Refused f) o x = x
 
-      go : (r : Token) → Tokened src s.at r → Sited3 src P (avoid_found r src s k what t1 t t10)
-      go (Found p end q) x =
+      go : (r : Result (Place × ℕ × Bool) ℕ) → Tokened src s.at r → Sited3 src P (avoid_found r src s k what t1 t t10)
+      go (Ok (p, end, q)) x =
           let b = x.1 in
           let c = x.2 in
           let d = x.3 in
           let z : Passed src p.from p.to = record { onward = omega arith; inside = omega arith } in
           let e = enter_step src s p.from p.to false t1 in
           entered p.from p.to end z d e.answer e (enter_in src P s h p.from p.to false t1 z)
-      go (NoToken i) x = record { here = h; stops = omega arith }
+      go (Err i) x = record { here = h; stops = omega arith }
 
   avoid_turn_in : (o : Out3) → Sited3 src P o → Either (Sited3 src P) (Sited3 src P) (avoid_turn src k what o)
   unfolding avoid_turn
@@ -130,6 +128,6 @@ module _ (src : List ℕ) (P : Type 0) (k : ℕ) (n : NameTable k) (what : Repea
       on_test (Sited3 src P) (leb (length src) s.at) _ _ (λ e. record { here = h; stops = tt })
       (λ e. go (gap_at s.kind false src s.at) (gap_in s.kind false src P s.at h))
     where
-      go : (g : Gap) → GapIn src P s.at g → Sited3 src P (avoid_from g src s k what t1 t t10)
-      go (GapTo i m) x = turns_keep (Sited3 src P) (avoid_turn src k what) avoid_turn_in (suc (length src)) _ (record { here = x.inside; stops = tt })
-      go (GapRefused e) x = record { here = h; stops = x }
+      go : (g : Result (ℕ × ℕ) Refusal) → GapIn src P s.at g → Sited3 src P (avoid_from g src s k what t1 t t10)
+      go (Ok (i, m)) x = turns_keep (Sited3 src P) (avoid_turn src k what) avoid_turn_in (suc (length src)) _ (record { here = x.inside; stops = tt })
+      go (Err e) x = record { here = h; stops = x }

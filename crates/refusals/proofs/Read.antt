@@ -1,4 +1,5 @@
 -- What a refused read tells, whatever the source, the kind and the lent tables. Assumes nothing.
+use Rattle.std.specs.Prelude.{Ok, Err, Result}
 use Prim.Native.Nat.{ℕ, ◌+◌, ◌≤◌, ◌<◌}
 use mathlib.Core.Path.{◌≡◌, refl, sym}
 use mathlib.Core.List.{List}
@@ -9,8 +10,6 @@ use lib.Dec.{ltb, eqb}
 use lib.ListN.{length}
 use borrow.Author.Tests.{ltb-false, lt-ltb, le-ltb, eqb-false}
 use Rattle.scan.proofs.Bytes.{on_test, told}
-use Rattle.whole.specs.declared.Checked.{Checked}
-use Rattle.whole.specs.declared.Checked.TheVariants.{Good, BadAt}
 use Rattle.whole.specs.Whole.{check_at, Below}
 use Rattle.whole.proofs.Theorems.{check_inside}
 use Rattle.tables.specs.Table.{cell}
@@ -30,13 +29,9 @@ use Rattle.grammar.specs.Sound.{AllTables, Indexes, zero_all, Far}
 use Rattle.grammar.proofs.Repeats.{repeat_least, repeat_most, number_back}
 use Rattle.declarations.specs.Declarations.{Out, decl_all}
 use Rattle.rules.specs.Rules.{Ruled, rules_all}
-use Rattle.sections.specs.declared.Admission.{Admission}
-use Rattle.sections.specs.declared.Admission.TheVariants.{Fit, Unfit}
 use Rattle.sections.specs.Sections.{as_text, sized, sized_text, admitted, rest_from, rest_all, declared, sections_from, sections_all, attempt_of, attempted}
-use Rattle.reader.specs.declared.Verdict.{Verdict}
-use Rattle.reader.specs.declared.Verdict.TheVariants.{Accepted, Rejected}
 use Rattle.reader.specs.declared.Reading.{Reading}
-use Rattle.reader.specs.Read.{Result, ended_at, result, finished, finished_run, indexed, filled_in, read_names, read_all}
+use Rattle.reader.specs.Read.{ReadResult, ended_at, result, finished, finished_run, indexed, filled_in, read_names, read_all}
 use Rattle.sections.proofs.Far.{sections_far}
 use Rattle.refusals.specs.Refusal.{CauseNumber, Documented, RepeatsListed, FirstRepeat}
 use Rattle.refusals.specs.Steps.{CausedIn, Fatal, Stops, Sited}
@@ -44,17 +39,17 @@ use Rattle.refusals.proofs.Declarations.{declarations_in}
 use Rattle.refusals.proofs.Rules.{rules_in, programs_in}
 
 -- a source that can be read is not too long, and one that can't is refused at a place of it
-abbrev Admits : List ℕ → ℕ → Admission → Type 0
-Admits src kind Fit = length src ≤ 65536
-Admits src kind (Unfit f) = Fatal src (kind ≡ 4) f
+abbrev Admits : List ℕ → ℕ → Result (Unit {0}) Refusal → Type 0
+Admits src kind (Ok _) = length src ≤ 65536
+Admits src kind (Err f) = Fatal src (kind ≡ 4) f
 
 admits : (src : List ℕ) (kind : ℕ) (fit : Bool) → Admits src kind (admitted src kind fit)
 unfolding admitted
 admits src kind fit = on_test (Admits src kind) (ltb kind 1 || ltb 4 kind) _ _ (λ e. tt) (λ e. by fit)
   where
-    go : (c : Checked) → length src ≤ 65536 → Below (length src) c → Admits src kind (as_text c)
-    go Good h b = h
-    go (BadAt i) h b = omega arith
+    go : (c : Result (Unit {0}) ℕ) → length src ≤ 65536 → Below (length src) c → Admits src kind (as_text c)
+    go (Ok _) h b = h
+    go (Err i) h b = omega arith
 
     by : (b : Bool) → Admits src kind (sized_text b src)
     by true = on_test (Admits src kind) (ltb 65536 (length src)) _ _ (λ h. tt) (λ h. go (check_at src 0) (ltb-false _ _ h) (check_inside src))
@@ -92,21 +87,21 @@ pub read_repeats : (src : List ℕ) (kind : ℕ) (T : AllTables) (X : Indexes) �
 unfolding read_all read_names attempted
 read_repeats src kind T X = go (admitted src kind (sized T X)) (admits src kind (sized T X))
   where
-    go : (m : Admission) → Admits src kind m → RepeatsListed src (filled_in src (indexed src X (finished_run (attempt_of m src kind (zero_all T)))))
-    go Fit h = let r = sections_all src (fresh kind) (zero_all T) in finished_listed X r.answer r.state r.tables (sections_far src kind T h).far
-    go (Unfit f) h = rows_zeroed _ T.t10
+    go : (m : Result (Unit {0}) Refusal) → Admits src kind m → RepeatsListed src (filled_in src (indexed src X (finished_run (attempt_of m src kind (zero_all T)))))
+    go (Ok _) h = let r = sections_all src (fresh kind) (zero_all T) in finished_listed X r.answer r.state r.tables (sections_far src kind T h).far
+    go (Err f) h = rows_zeroed _ T.t10
 
 -- What a verdict tells: a refusal is a fatal one of the source, or it is the first repeat.
-abbrev Verdicts : List ℕ → ℕ → Result → Verdict → Type 0
-Verdicts src kind o (Accepted i) = Unit {0}
-Verdicts src kind o (Rejected (Fault c i)) = Fatal src (kind ≡ 4) (Fault c i)
-Verdicts src kind o (Rejected (Repeated what a b)) = FirstRepeat what a b o
-Verdicts src kind o (Rejected (NoRoom t a b)) = Fatal src (kind ≡ 4) (NoRoom t a b)
-Verdicts src kind o (Rejected TooLong) = Unit {0}
-Verdicts src kind o (Rejected BadKind) = Unit {0}
-Verdicts src kind o (Rejected BadIndex) = Unit {0}
+abbrev Verdicts : List ℕ → ℕ → ReadResult → Result ℕ Refusal → Type 0
+Verdicts src kind o (Ok i) = Unit {0}
+Verdicts src kind o (Err (Fault c i)) = Fatal src (kind ≡ 4) (Fault c i)
+Verdicts src kind o (Err (Repeated what a b)) = FirstRepeat what a b o
+Verdicts src kind o (Err (NoRoom t a b)) = Fatal src (kind ≡ 4) (NoRoom t a b)
+Verdicts src kind o (Err TooLong) = Unit {0}
+Verdicts src kind o (Err BadKind) = Unit {0}
+Verdicts src kind o (Err BadIndex) = Unit {0}
 
-stopped_verdict : (src : List ℕ) (kind : ℕ) (o : Result) (f : Refusal) → Fatal src (kind ≡ 4) f → Verdicts src kind o (Rejected f)
+stopped_verdict : (src : List ℕ) (kind : ℕ) (o : ReadResult) (f : Refusal) → Fatal src (kind ≡ 4) f → Verdicts src kind o (Err f)
 stopped_verdict src kind o (Fault c i) x = x
 stopped_verdict src kind o (Repeated what a b) x = absurd x
 stopped_verdict src kind o (NoRoom t a b) x = x
@@ -140,16 +135,16 @@ read_verdict : (src : List ℕ) (kind : ℕ) (T : AllTables) (X : Indexes) → V
 unfolding read_all read_names attempted
 read_verdict src kind T X = go (admitted src kind (sized T X)) (admits src kind (sized T X))
   where
-    go : (m : Admission) → Admits src kind m → let o = filled_in src (indexed src X (finished_run (attempt_of m src kind (zero_all T)))) in Verdicts src kind o o.answer
-    go Fit h = let r = sections_all src (fresh kind) (zero_all T) in finished_verdict kind X r.answer r.state r.tables (sections_far src kind T h).far (sections_stop src kind (zero_all T))
-    go (Unfit f) h = stopped_verdict src kind _ f h
+    go : (m : Result (Unit {0}) Refusal) → Admits src kind m → let o = filled_in src (indexed src X (finished_run (attempt_of m src kind (zero_all T)))) in Verdicts src kind o o.answer
+    go (Ok _) h = let r = sections_all src (fresh kind) (zero_all T) in finished_verdict kind X r.answer r.state r.tables (sections_far src kind T h).far (sections_stop src kind (zero_all T))
+    go (Err f) h = stopped_verdict src kind _ f h
 
 -- "With repeats only, the number is the first repeat's": number and place of such an answer are those of the first row of table 10.
-pub repeated_first : (src : List ℕ) (kind : ℕ) (T : AllTables) (X : Indexes) (what : Repeat) (a b : ℕ) → (read_all src kind T X).answer ≡ Rejected (Repeated what a b) → FirstRepeat what a b (read_all src kind T X)
+pub repeated_first : (src : List ℕ) (kind : ℕ) (T : AllTables) (X : Indexes) (what : Repeat) (a b : ℕ) → (read_all src kind T X).answer ≡ Err (Repeated what a b) → FirstRepeat what a b (read_all src kind T X)
 repeated_first src kind T X what a b e = told (Verdicts src kind (read_all src kind T X)) e (read_verdict src kind T X)
 
 -- the first repeat's place lies in the source
-first_place_lem : {src : List ℕ} {what : Repeat} {a b : ℕ} (o : Result) → RepeatsListed src o → FirstRepeat what a b o → Passed src a b
+first_place_lem : {src : List ℕ} {what : Repeat} {a b : ℕ} (o : ReadResult) → RepeatsListed src o → FirstRepeat what a b o → Passed src a b
 first_place_lem o x y =
     rw (← y.from, ← y.to, ← row_cell (width repeats) o.tables.t10 0 first_place (omega arith), ← row_cell (width repeats) o.tables.t10 0 (first_place + 1) (omega arith))
     (x.each 0 y.some).first
@@ -193,10 +188,10 @@ caused_kind P X true e x = absurd (false≢true (sym e))
 caused_kind P X false e x = x.0
 
 -- What each refusal of a read tells: one of read's numbers, a place in the source, and 42's table.
-pub refusal_documented : (src : List ℕ) (kind : ℕ) (T : AllTables) (X : Indexes) (f : Refusal) → (read_all src kind T X).answer ≡ Rejected f → Documented src kind f
+pub refusal_documented : (src : List ℕ) (kind : ℕ) (T : AllTables) (X : Indexes) (f : Refusal) → (read_all src kind T X).answer ≡ Err f → Documented src kind f
 refusal_documented src kind T X f e = go f (told (Verdicts src kind (read_all src kind T X)) e (read_verdict src kind T X))
   where
-    go : (f : Refusal) → Verdicts src kind (read_all src kind T X) (Rejected f) → Documented src kind f
+    go : (f : Refusal) → Verdicts src kind (read_all src kind T X) (Err f) → Documented src kind f
     go (Fault c i) x = fault (cause_number c)
       where
         inside : i ≤ length src
@@ -222,18 +217,18 @@ refusal_documented src kind T X f e = go f (told (Verdicts src kind (read_all sr
     go BadIndex x = record { number = inr (inr (inr (inl refl))); place = record { onward = omega arith; inside = omega arith }; other = λ d. refl; full = λ n. absurd (omega arith) }
 
 -- A source that is too long is refused without a place.
-pub long_nowhere : (src : List ℕ) (kind : ℕ) (T : AllTables) (X : Indexes) → 65536 < length src → (f : Refusal) × ((read_all src kind T X).answer ≡ Rejected f) × (from_of f ≡ 0)
+pub long_nowhere : (src : List ℕ) (kind : ℕ) (T : AllTables) (X : Indexes) → 65536 < length src → (f : Refusal) × ((read_all src kind T X).answer ≡ Err f) × (from_of f ≡ 0)
 unfolding read_all read_names attempted admitted
 long_nowhere src kind T X h = go (ltb kind 1 || ltb 4 kind) (sized T X)
   where
-    Nowhere : Admission → Type 0
-    Nowhere m = (f : Refusal) × ((filled_in src (indexed src X (finished_run (attempt_of m src kind (zero_all T))))).answer ≡ Rejected f) × (from_of f ≡ 0)
+    Nowhere : Result (Unit {0}) Refusal → Type 0
+    Nowhere m = (f : Refusal) × ((filled_in src (indexed src X (finished_run (attempt_of m src kind (zero_all T))))).answer ≡ Err f) × (from_of f ≡ 0)
 
-    long : (q : Bool) → q ≡ true → Nowhere (elim q [ true ↦ Unfit TooLong | false ↦ as_text (check_at src 0) ])
+    long : (q : Bool) → q ≡ true → Nowhere (elim q [ true ↦ Err TooLong | false ↦ as_text (check_at src 0) ])
     long true e = (TooLong, refl, refl)
     long false e = absurd (false≢true e)
 
-    go : (b fit : Bool) → Nowhere (elim b [ true ↦ Unfit BadKind | false ↦ sized_text fit src ])
+    go : (b fit : Bool) → Nowhere (elim b [ true ↦ Err BadKind | false ↦ sized_text fit src ])
     go true fit = (BadKind, refl, refl)
     go false false = (BadIndex, refl, refl)
     go false true = long (ltb 65536 (length src)) (lt-ltb _ _ h)

@@ -1,4 +1,5 @@
 -- The rules section and the programs stand in the source, and their refusals are fatal ones of the source. Assumes nothing.
+use Rattle.std.specs.Prelude.{Option, Some, None, Result, Ok, Err}
 use Prim.Native.Nat.{ℕ, suc, ◌+◌, ◌≤◌}
 use mathlib.Core.Path.{refl}
 use mathlib.Core.List.{List, [], ◌∷◌}
@@ -9,27 +10,20 @@ use lib.ListN.{length}
 use Rattle.scan.specs.Scan.{starts_at}
 use Rattle.scan.proofs.Bytes.{on_test}
 use Rattle.scan.proofs.Loop.{Either, turns_keep}
-use Rattle.words.specs.declared.Name.{Name}
-use Rattle.words.specs.declared.Name.TheVariants.{NameTo, NoName}
 use Rattle.words.specs.Words.{name_at, Named}
 use Rattle.words.proofs.Words.{name_placed}
-use Rattle.texts.specs.declared.ColonText.{ColonText}
-use Rattle.texts.specs.declared.ColonText.TheVariants.{Upto, NoColon}
+use Rattle.scan.specs.declared.Place.{Place}
 use Rattle.texts.specs.Colon.{colon_text_at, ColonTexts}
 use Rattle.texts.proofs.Laws.{colon_placed}
-use Rattle.tables.specs.declared.Found.{Found}
-use Rattle.tables.specs.declared.Found.TheVariants.{RowAt, NoRow}
 use Rattle.tables.specs.Table.{find_name}
 use Rattle.tables.specs.Layout.{rules, symbols, width}
-use Rattle.grammar.specs.declared.Part.{Part}
 use Rattle.grammar.specs.declared.State.{State}
 use Rattle.grammar.specs.declared.Cause.{Cause}
 use Rattle.grammar.specs.declared.Cause.TheVariants.{MissingColon, MissingRightArrow, UnknownDeclaration}
 use Rattle.grammar.specs.declared.Refusal.TheVariants.{Fault}
 use Rattle.grammar.specs.declared.Answer.{Answer}
 use Rattle.grammar.specs.declared.Answer.TheVariants.{Going, Done, Refused}
-use Rattle.grammar.specs.declared.Gap.{Gap}
-use Rattle.grammar.specs.declared.Gap.TheVariants.{GapTo, GapRefused}
+use Rattle.grammar.specs.declared.Refusal.{Refusal}
 use Rattle.grammar.specs.Cells.{rule_cells}
 use Rattle.grammar.specs.State.{Passed, count, with_at, gap_at}
 use Rattle.grammar.proofs.Kept.{onward_keep}
@@ -51,30 +45,30 @@ module _ (src : List ℕ) (P : Type 0) (s : State) (h : s.at ≤ length src) whe
   unfolding pass_mark
   mark_in_lem word cause f = go (gap_at s.kind true src s.at) (gap_in s.kind true src P s.at h)
     where
-      go : (g : Gap) → GapIn src P s.at g → Sited0 src P (mark_gap g src s word cause)
-      go (GapTo i n) x =
+      go : (g : Result (ℕ × ℕ) Refusal) → GapIn src P s.at g → Sited0 src P (mark_gap g src s word cause)
+      go (Ok (i, n)) x =
           on_test (Sited0 src P) (starts_at word src i) _ _
           (λ e. past_in src P false (i + length word) s h (mark_fits word src i x.inside e))
           (λ e. record { here = h; stops = f i x.inside })
-      go (GapRefused e) x = record { here = h; stops = x }
+      go (Err e) x = record { here = h; stops = x }
 
   -- a type up to a colon
   colon_in : SitedType src P (colon_type src s)
   unfolding colon_type
   colon_in = go (colon_text_at src s.at) (colon_placed src s.at h (colon_text_at src s.at) refl).1
     where
-      go : (t : ColonText) → ColonTexts src s.at t → SitedType src P (colon_given t s)
-      go (Upto to n p) x = let b = x.1 in record { here = omega arith; stops = tt }
-      go (NoColon i) x = record { here = h; stops = omega arith }
+      go : (t : Result (ℕ × ℕ × Place) ℕ) → ColonTexts src s.at t → SitedType src P (colon_given t s)
+      go (Ok (to, n, p)) x = let b = x.1 in record { here = omega arith; stops = tt }
+      go (Err i) x = record { here = h; stops = omega arith }
 
   -- a rule's row
-  rule_in : (from to : ℕ) (given : Part) (t7 : List ℕ) → Passed src from to → SitedHead src P (enter_rule src s from to given t7)
+  rule_in : (from to : ℕ) (given : Option (ℕ × ℕ)) (t7 : List ℕ) → Passed src from to → SitedHead src P (enter_rule src s from to given t7)
   unfolding enter_rule
   rule_in from to given t7 p = go (find_name src (width rules) 0 (count s rules) t7 from to)
     where
-      go : (r : Found) → SitedHead src P (rule_found r s from to given t7)
-      go (RowAt r) = record { here = h; stops = tt }
-      go NoRow = push_in src P s h rules (rule_cells from to given) t7 (omega arith) p
+      go : (r : Option ℕ) → SitedHead src P (rule_found r s from to given t7)
+      go (Some r) = record { here = h; stops = tt }
+      go None = push_in src P s h rules (rule_cells from to given) t7 (omega arith) p
 
   -- the programs
   pub programs_in : Sited0 src P (programs_from src s)
@@ -84,9 +78,9 @@ module _ (src : List ℕ) (P : Type 0) (s : State) (h : s.at ≤ length src) whe
       (λ e. go (gap_at s.kind true src (s.at + 2)) (gap_in s.kind true src P (s.at + 2) (mark_fits percents src s.at h e)))
       (λ e. record { here = h; stops = tt })
     where
-      go : (g : Gap) → GapIn src P (s.at + 2) g → Sited0 src P (programs_gap g src s)
-      go (GapTo i n) x = record { here = omega arith; stops = tt }
-      go (GapRefused f) x = record { here = h; stops = x }
+      go : (g : Result (ℕ × ℕ) Refusal) → GapIn src P (s.at + 2) g → Sited0 src P (programs_gap g src s)
+      go (Ok (i, n)) x = record { here = omega arith; stops = tt }
+      go (Err f) x = record { here = h; stops = x }
 
 -- the type of a rule, by the kind
 type_in : (src : List ℕ) (P : Type 0) (s : State) → s.at ≤ length src → SitedType src P (rule_type src s)
@@ -112,13 +106,13 @@ module _ (src : List ℕ) (P : Type 0) (s : State) (h : s.at ≤ length src) whe
       typed j p Done o x = x
       typed j p (Refused f) o x = x
 
-      go : (n : Name) → Named src s.at n → SitedHead src P (head_found n src s t7)
-      go (NameTo j) x =
+      go : (n : Result ℕ ℕ) → Named src s.at n → SitedHead src P (head_found n src s t7)
+      go (Ok j) x =
           let a = x.0 in
           let b = x.1 in
           let o = rule_type src (with_at (first_start s s.at j) j) in
           typed j (record { onward = omega arith; inside = b }) o.answer o (type_in src P (with_at (first_start s s.at j) j) b)
-      go (NoName k) x = record { here = h; stops = omega arith }
+      go (Err k) x = record { here = h; stops = omega arith }
 
   -- its body
   body_in : (row : ℕ) (t1 t8 t9 : List ℕ) → SitedItems src P (rule_body src s row t1 t8 t9)

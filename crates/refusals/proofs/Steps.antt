@@ -1,4 +1,5 @@
 -- Spacing, and the steps that add a row: each stands in the source, and its refusals are fatal ones of the source. Assumes nothing.
+use Rattle.std.specs.Prelude.{Option, Some, None, Result, Ok, Err}
 use Prim.Native.Nat.{ℕ, ◌+◌, ◌≤◌, ◌<◌}
 use mathlib.Core.List.{List}
 use mathlib.Core.Logic.{inl}
@@ -8,22 +9,17 @@ use lib.Dec.{eqb, ltb}
 use lib.ListN.{length, get_or}
 use borrow.Author.Tests.{ltb-false}
 use Rattle.scan.proofs.Bytes.{on_test}
-use Rattle.spacing.specs.declared.Spaced.{Spaced}
-use Rattle.spacing.specs.declared.Spaced.TheVariants.{To, LineEnd, OpenComment}
+use Rattle.spacing.specs.declared.SpacingError.{SpacingError}
+use Rattle.spacing.specs.declared.SpacingError.TheVariants.{LineEnd, OpenComment}
 use Rattle.spacing.specs.Spacing.{spaces_at, Spaces}
 use Rattle.spacing.proofs.Places.{spaces}
-use Rattle.tables.specs.declared.Entered.{Entered}
-use Rattle.tables.specs.declared.Entered.TheVariants.{Rows, Full}
-use Rattle.tables.specs.declared.Found.{Found}
-use Rattle.tables.specs.declared.Found.TheVariants.{RowAt, NoRow}
 use Rattle.tables.specs.Table.{add_row, flag, enter_token, find_name}
 use Rattle.tables.specs.Layout.{tokens, repeats, posix_from, table_number, row_place}
 use Rattle.grammar.specs.declared.State.{State}
 use Rattle.grammar.specs.declared.Answer.{Answer}
 use Rattle.grammar.specs.declared.Answer.TheVariants.{Going, Done, Refused}
 use Rattle.grammar.specs.declared.Repeat.{Repeat}
-use Rattle.grammar.specs.declared.Gap.{Gap}
-use Rattle.grammar.specs.declared.Gap.TheVariants.{GapTo, GapRefused}
+use Rattle.grammar.specs.declared.Refusal.{Refusal}
 use Rattle.grammar.specs.Refusals.{number_of_repeat}
 use Rattle.grammar.specs.Cells.{token_cells, repeat_cells}
 use Rattle.grammar.specs.State.{Passed, count, gap_of, gap_at, pushed, push_row, list_repeat, entered, enter_step, once_found, once_step, past, past_gap, pass_on}
@@ -40,10 +36,10 @@ pub gap_in : (kind : ℕ) (ok : Bool) (src : List ℕ) (P : Type 0) (at : ℕ) �
 unfolding gap_at gap_of
 gap_in kind ok src P at h = go (spaces_at kind ok src at) (spaces kind ok src at h)
   where
-    go : (r : Spaced) → Spaces src at r → GapIn src P at (gap_of r)
-    go (To i n) x = let a = x.0 in record { onward = omega arith; inside = x.1 }
-    go (LineEnd i) x = let a = x.1 in omega arith
-    go (OpenComment i) x = let a = x.1 in omega arith
+    go : (r : Result (ℕ × ℕ) SpacingError) → Spaces src at r → GapIn src P at (gap_of r)
+    go (Ok (i, n)) x = let a = x.0 in record { onward = omega arith; inside = x.1 }
+    go (Err (LineEnd i)) x = let a = x.1 in omega arith
+    go (Err (OpenComment i)) x = let a = x.1 in omega arith
 
 module _ (src : List ℕ) (P : Type 0) where
   -- spacing behind a step
@@ -51,9 +47,9 @@ module _ (src : List ℕ) (P : Type 0) where
   unfolding past_gap
   past_in line j s h k = go (gap_at s.kind true src j) (gap_in s.kind true src P j k)
     where
-      go : (g : Gap) → GapIn src P j g → Sited0 src P (past line g s)
-      go (GapTo i n) x = record { here = x.inside; stops = on_test (Stops src P) (line && not (eqb n 0)) Done Going (λ e. tt) (λ e. tt) }
-      go (GapRefused f) x = record { here = h; stops = x }
+      go : (g : Result (ℕ × ℕ) Refusal) → GapIn src P j g → Sited0 src P (past line g s)
+      go (Ok (i, n)) x = record { here = x.inside; stops = on_test (Stops src P) (line && not (eqb n 0)) Done Going (λ e. tt) (λ e. tt) }
+      go (Err f) x = record { here = h; stops = x }
 
   pub pass_in : (line : Bool) (j : ℕ) {a : Answer} {s : State} → j ≤ length src → Sited src P a s → Sited0 src P (pass_on src line j a s)
   pass_in line j {a = Going} {s} k x = past_in line j s x.here k
@@ -84,15 +80,15 @@ module _ (src : List ℕ) (P : Type 0) where
     unfolding enter_step
     enter_in a b d t p = go (enter_token src (count s tokens) a b d t).entered (enter_token src (count s tokens) a b d t).cells
       where
-        go : (q : Entered) (x : List ℕ) → Sited1 src P (entered q s (token_cells a b (flag d)) x)
-        go (Rows m) x = record { here = h; stops = tt }
-        go Full x = record { here = h; stops = (numbered P tokens (omega arith), p) }
+        go : (q : Option ℕ) (x : List ℕ) → Sited1 src P (entered q s (token_cells a b (flag d)) x)
+        go (Some m) x = record { here = h; stops = tt }
+        go None x = record { here = h; stops = (numbered P tokens (omega arith), p) }
 
     -- what may be given once to a name
     pub once_in : (k w name : ℕ) (what : Repeat) (row t t10 : List ℕ) → k < 10 → Passed src (get_or row (row_place k) 0) (get_or row (row_place k + 1) 0) → Sited2 src P (once_step src s k w name what row t t10)
     unfolding once_step
     once_in k w name what row t t10 b p = go (find_name src w name (count s k) t (get_or row name 0) (get_or row (name + 1) 0))
       where
-        go : (r : Found) → Sited2 src P (once_found r s k w what row t t10)
-        go (RowAt r) = repeat_in what _ _ _ _ t10 p
-        go NoRow = push_in k row t b p
+        go : (r : Option ℕ) → Sited2 src P (once_found r s k w what row t t10)
+        go (Some r) = repeat_in what _ _ _ _ t10 p
+        go None = push_in k row t b p

@@ -1,12 +1,10 @@
 -- What holds behind each step of a reading, whatever its answer: it stands in the source, and a refusal ends the reading, at a place of the source.
-use Rattle.std.specs.Prelude.{ℕ, ◌≤◌, List, ◌⊎◌, Bool, true, false, ltb, length}
+use Rattle.std.specs.Prelude.{ℕ, ◌≤◌, List, ◌⊎◌, Bool, true, false, ltb, length, Result, Ok, Err}
 use Rattle.grammar.specs.declared.State.{State}
 use Rattle.grammar.specs.declared.Refusal.{Refusal}
 use Rattle.grammar.specs.declared.Refusal.TheVariants.{Fault, Repeated, NoRoom, TooLong, BadKind, BadIndex}
 use Rattle.grammar.specs.declared.Answer.{Answer}
 use Rattle.grammar.specs.declared.Answer.TheVariants.{Going, Done, Refused}
-use Rattle.grammar.specs.declared.Gap.{Gap}
-use Rattle.grammar.specs.declared.Gap.TheVariants.{GapTo, GapRefused}
 use Rattle.grammar.specs.Refusals.{number_of_cause}
 use Rattle.grammar.specs.State.{Out0, Out1, Out2, Out3, Out4, Passed}
 use Rattle.productions.specs.declared.Production.{Production}
@@ -37,9 +35,9 @@ Stops src P Going = Unit {0}
 Stops src P Done = Unit {0}
 Stops src P (Refused f) = Fatal src P f
 
-abbrev pub GapIn : List ℕ → Type 0 → ℕ → Gap → Type 0
-GapIn src P from (GapTo i n) = Passed src from i
-GapIn src P from (GapRefused f) = Fatal src P f
+abbrev pub GapIn : List ℕ → Type 0 → ℕ → Result (ℕ × ℕ) Refusal → Type 0
+GapIn src P from (Ok (i, n)) = Passed src from i
+GapIn src P from (Err f) = Fatal src P f
 
 pub record Sited (src : List ℕ) (P : Type 0) (a : Answer) (s : State) : Type 0 where
   pub here : s.at ≤ length src

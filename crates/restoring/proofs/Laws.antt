@@ -1,4 +1,5 @@
 -- What the functions' proofs cite: where a table's rows lie in the content, what it tells that blocks hold a reading, and what filling and reading back leave. Assumes nothing.
+use Rattle.std.specs.Prelude.{Result, Ok, Err}
 use Prim.Native.Nat.{ℕ, zero, suc, ◌+◌, ◌*◌, ◌/◌, ◌%◌, ◌≤◌, ◌<◌}
 use mathlib.Core.Path.{◌≡◌, refl, sym, ap, ◌∙◌}
 use mathlib.Core.List.{List, ◌++◌}
@@ -11,7 +12,7 @@ use lib.ListN.{length, get_or, take, drop, length-replicate}
 use lib.Seq.{slice}
 use Rattle.tables.specs.Table.{zeroed}
 use Rattle.blocks.specs.declared.BlockFault.{BlockFault}
-use Rattle.blocks.specs.declared.BlockFault.TheVariants.{NoFault, WrongNumber, WrongCheck}
+use Rattle.blocks.specs.declared.BlockFault.TheVariants.{WrongNumber, WrongCheck}
 use Rattle.blocks.specs.Blocks.{words_in, capacity, content_of, first_fault}
 use Rattle.blocks.proofs.Laws.{of_length}
 use Rattle.grammar.specs.declared.Counts.{Counts}
@@ -20,13 +21,13 @@ use Rattle.grammar.specs.declared.Singles.{Singles}
 use Rattle.grammar.specs.Sound.{AllTables, Indexes, cells_of, zero_all}
 use Rattle.sections.specs.Sections.{sized}
 use Rattle.catalogue.specs.declared.Head.{Head}
-use Rattle.catalogue.specs.declared.Finding.{Finding}
-use Rattle.catalogue.specs.declared.Finding.TheVariants.{Holds, NoWholeBlocks, FaultyNumber, FaultyCheck, Unfilled, WrongSize, NoRoom}
+use Rattle.catalogue.specs.declared.FindingError.{FindingError}
+use Rattle.catalogue.specs.declared.FindingError.TheVariants.{NoWholeBlocks, FaultyNumber, FaultyCheck, Unfilled, WrongSize, NoRoom}
 use Rattle.catalogue.specs.Catalogue.{cells_at, cells_before, rows_from, content_size, head_of, head_in, head_test, filled_test, first_short, short_table, no_room, lengths_of, roomed, sized_head, good_head, held_in, right_blocks, whole_test, whole_blocks, examined, sound_reading}
 use Rattle.catalogue.proofs.Room.{short_none, filled_iff, lengths_at}
 use Rattle.reader.proofs.Laws.{zeroed_again}
-use Rattle.restoring.specs.declared.Restoring.{Restoring}
-use Rattle.restoring.specs.declared.Restoring.TheVariants.{AllRestored, RestoringUnsound}
+use Rattle.restoring.specs.declared.RestoringError.{RestoringError}
+use Rattle.restoring.specs.declared.RestoringError.TheVariants.{RestoringUnsound}
 use Rattle.restoring.specs.Restoring.{Restored, no_head, clear_indexes, cleared_out, filled_table, filled_tables, filled_source, entered_indexes, Tested, kept_if, filled_from, restored_as, restored}
 
 -- ---- where rows lie
@@ -48,25 +49,25 @@ rows_fit c p k m i n h l e f =
 
 -- ---- what it tells that blocks hold a reading
 
-short_holds : (k : ℕ) → NoRoom k ≡ Holds → ⊥
+short_holds : (k : ℕ) → ◌≡◌ {A = Result (Unit {0}) FindingError} (Err (NoRoom k)) (Ok tt) → ⊥
 short_holds k e = let z : ◌≡◌ {A = ℕ} 0 1 = cc in omega arith
 
-size_holds : WrongSize ≡ Holds → ⊥
+size_holds : ◌≡◌ {A = Result (Unit {0}) FindingError} (Err WrongSize) (Ok tt) → ⊥
 size_holds e = let z : ◌≡◌ {A = ℕ} 0 1 = cc in omega arith
 
-unfilled_holds : Unfilled ≡ Holds → ⊥
+unfilled_holds : ◌≡◌ {A = Result (Unit {0}) FindingError} (Err Unfilled) (Ok tt) → ⊥
 unfilled_holds e = let z : ◌≡◌ {A = ℕ} 0 1 = cc in omega arith
 
-number_holds : FaultyNumber ≡ Holds → ⊥
+number_holds : ◌≡◌ {A = Result (Unit {0}) FindingError} (Err FaultyNumber) (Ok tt) → ⊥
 number_holds e = let z : ◌≡◌ {A = ℕ} 0 1 = cc in omega arith
 
-check_holds : FaultyCheck ≡ Holds → ⊥
+check_holds : ◌≡◌ {A = Result (Unit {0}) FindingError} (Err FaultyCheck) (Ok tt) → ⊥
 check_holds e = let z : ◌≡◌ {A = ℕ} 0 1 = cc in omega arith
 
-whole_holds : NoWholeBlocks ≡ Holds → ⊥
+whole_holds : ◌≡◌ {A = Result (Unit {0}) FindingError} (Err NoWholeBlocks) (Ok tt) → ⊥
 whole_holds e = let z : ◌≡◌ {A = ℕ} 0 1 = cc in omega arith
 
-room_none : (k : ℕ) → roomed k ≡ Holds → k ≡ 0
+room_none : (k : ℕ) → roomed k ≡ Ok tt → k ≡ 0
 room_none zero e = refl
 room_none (suc k) e = absurd (short_holds (suc k) e)
 
@@ -78,20 +79,20 @@ short_source zero n l e = (refl, go (leb n l) refl e)
     go false h z = absurd (omega arith)
 short_source (suc k) n l e = absurd (omega arith)
 
-sized_holds : (q : Bool) (h : Head) (ls : List ℕ) (l : ℕ) → sized_head q h ls l ≡ Holds → no_room h ls l ≡ 0
+sized_holds : (q : Bool) (h : Head) (ls : List ℕ) (l : ℕ) → sized_head q h ls l ≡ Ok tt → no_room h ls l ≡ 0
 sized_holds true h ls l e = room_none (no_room h ls l) e
 sized_holds false h ls l e = absurd (size_holds e)
 
-good_holds : (q sized : Bool) (m ls : List ℕ) (l : ℕ) → good_head q sized m ls l ≡ Holds → (q ≡ true) × (no_room (head_of m) ls l ≡ 0)
+good_holds : (q sized : Bool) (m ls : List ℕ) (l : ℕ) → good_head q sized m ls l ≡ Ok tt → (q ≡ true) × (no_room (head_of m) ls l ≡ 0)
 good_holds true sized m ls l e = (refl, sized_holds sized (head_of m) ls l e)
 good_holds false sized m ls l e = absurd (unfilled_holds e)
 
-right_holds : (f : BlockFault) (b : List ℕ) (sized : Bool) (ls : List ℕ) (l : ℕ) → right_blocks f b sized ls l ≡ Holds → held_in b sized ls l ≡ Holds
-right_holds NoFault b sized ls l e = e
-right_holds WrongNumber b sized ls l e = absurd (number_holds e)
-right_holds WrongCheck b sized ls l e = absurd (check_holds e)
+right_holds : (f : Result (Unit {0}) BlockFault) (b : List ℕ) (sized : Bool) (ls : List ℕ) (l : ℕ) → right_blocks f b sized ls l ≡ Ok tt → held_in b sized ls l ≡ Ok tt
+right_holds (Ok _) b sized ls l e = e
+right_holds (Err WrongNumber) b sized ls l e = absurd (number_holds e)
+right_holds (Err WrongCheck) b sized ls l e = absurd (check_holds e)
 
-blocks_hold : (q : Bool) (s : List ℕ) (sized : Bool) (ls : List ℕ) (l : ℕ) → whole_blocks q s sized ls l ≡ Holds → (q ≡ true) × (held_in (content_of s) sized ls l ≡ Holds)
+blocks_hold : (q : Bool) (s : List ℕ) (sized : Bool) (ls : List ℕ) (l : ℕ) → whole_blocks q s sized ls l ≡ Ok tt → (q ≡ true) × (held_in (content_of s) sized ls l ≡ Ok tt)
 blocks_hold true s sized ls l e = (refl, right_holds (first_fault (length s / 512) s) (content_of s) sized ls l e)
 blocks_hold false s sized ls l e = absurd (whole_holds e)
 
@@ -102,7 +103,7 @@ pub record Fits (s ls : List ℕ) (l : ℕ) (h : Head) : Type 0 where
   pub tables : (k : ℕ) → k < 13 → cells_at h.counts h.posix k ≤ get_or ls k 0
   pub source : h.length ≤ l
 
-held_fits : (b : List ℕ) (sized : Bool) (ls : List ℕ) (l : ℕ) → held_in b sized ls l ≡ Holds
+held_fits : (b : List ℕ) (sized : Bool) (ls : List ℕ) (l : ℕ) → held_in b sized ls l ≡ Ok tt
     → let h = head_of (words_in b 0 39) in
     (filled_test b (content_size h.counts h.posix h.length) ≡ true) × (no_room h ls l ≡ 0)
 unfolding held_in
@@ -113,7 +114,7 @@ held_fits b sized ls l e =
     let g = good_holds (head_test m && filled_test b n) sized m ls l e in
     (((and-eq-true_iff (head_test m) (filled_test b n)).0 g.0).1, g.1)
 
-pub holds_fits : (s : List ℕ) (sized : Bool) (ls : List ℕ) (l : ℕ) → examined s sized ls l ≡ Holds → Fits s ls l (head_in s)
+pub holds_fits : (s : List ℕ) (sized : Bool) (ls : List ℕ) (l : ℕ) → examined s sized ls l ≡ Ok tt → Fits s ls l (head_in s)
 unfolding examined whole_test no_room
 holds_fits s sized ls l e =
     let h = head_in s in
@@ -170,10 +171,10 @@ module _ (b : List ℕ) (h : Head) (S : List ℕ) (T : AllTables) (X : Indexes) 
       let x = entered_indexes (take h.length S') h.counts T' (length X.tokens) (length X.rules) in
       ap (λ (q : Bool). kept_if q h S' T' X') t.sound ∙ ap (λ (y : Indexes). kept_if (sound_reading (take h.length S') h.counts h.posix h.singles T' x) h S' T' y) t.indexes ∙ ap (λ (s : List ℕ). as_tested s T') h_s ∙ ap (λ (u : AllTables). as_tested (filled_source b h.counts h.posix h.length S) u) h_t
 
-  pub stays : ok ≡ true → record { answer = AllRestored; head = h; source = S'; tables = T'; indexes = X' } ≡ filled_from b h S T X
+  pub stays : ok ≡ true → record { answer = Ok tt; head = h; source = S'; tables = T'; indexes = X' } ≡ filled_from b h S T X
   stays e = ap (λ (q : Bool). kept_if q h S' T' X') (sym e) ∙ as_tested_lem
 
-  pub goes : ok ≡ false → (o : Restored) → o ≡ cleared_out RestoringUnsound S' T' X' → o ≡ filled_from b h S T X
+  pub goes : ok ≡ false → (o : Restored) → o ≡ cleared_out (Err RestoringUnsound) S' T' X' → o ≡ filled_from b h S T X
   goes e o f = f ∙ ap (λ (q : Bool). kept_if q h S' T' X') (sym e) ∙ as_tested_lem
 
 -- ---- what is cleared
@@ -190,9 +191,9 @@ module _ (S : List ℕ) (T : AllTables) (X : Indexes) (S' : List ℕ) (Z : AllTa
   indexes_cleared = rw (← z.1, ← z.2)
 
   -- after a refusal
-  pub cleared_out_lem : (a b : Restoring) (h : Head) → b ≡ a → h ≡ no_head → record { answer = b; head = h; source = S'; tables = Z; indexes = Y } ≡ cleared_out a S T X
+  pub cleared_out_lem : (a b : Result (Unit {0}) RestoringError) (h : Head) → b ≡ a → h ≡ no_head → record { answer = b; head = h; source = S'; tables = Z; indexes = Y } ≡ cleared_out a S T X
   cleared_out_lem a b h e f =
-      ap (λ (x : Restoring). record { answer = x; head = h; source = S'; tables = Z; indexes = Y }) e
+      ap (λ (x : Result (Unit {0}) RestoringError). record { answer = x; head = h; source = S'; tables = Z; indexes = Y }) e
       ∙ ap (λ (x : Head). record { answer = a; head = x; source = S'; tables = Z; indexes = Y }) f
       ∙ ap (λ (x : List ℕ). record { answer = a; head = no_head; source = x; tables = Z; indexes = Y }) z.0
       ∙ ap (λ (x : AllTables). record { answer = a; head = no_head; source = zeroed S; tables = x; indexes = Y }) tables_cleared
@@ -223,16 +224,16 @@ module _ (S : List ℕ) (T : AllTables) (X : Indexes) (S' : List ℕ) (Z : AllTa
         kept_length T.t17 Z.t17 z.15,
       )
 
-  module _ (s : List ℕ) (q : Bool) (f : Finding) (hq : q ≡ sized Z Y) (hf : f ≡ examined s q (lengths_of Z) (length S')) where
+  module _ (s : List ℕ) (q : Bool) (f : Result (Unit {0}) FindingError) (hq : q ≡ sized Z Y) (hf : f ≡ examined s q (lengths_of Z) (length S')) where
     found : f ≡ examined s (sized T X) (lengths_of T) (length S)
     found = rw (← lengths_same, ← kept_length S S' z.0, ← sized_same, ← hq) hf
 
     -- what a finding gives
-    pub restored_as_lem : (g : Finding) (o : Restored) → f ≡ g → o ≡ restored_as g s S T X → o ≡ restored s S T X
+    pub restored_as_lem : (g : Result (Unit {0}) FindingError) (o : Restored) → f ≡ g → o ≡ restored_as g s S T X → o ≡ restored s S T X
     unfolding restored
-    restored_as_lem g o e r = r ∙ ap (λ (x : Finding). restored_as x s S T X) (sym e ∙ found)
+    restored_as_lem g o e r = r ∙ ap (λ (x : Result (Unit {0}) FindingError). restored_as x s S T X) (sym e ∙ found)
 
-    module _ (e : f ≡ Holds) where
+    module _ (e : f ≡ Ok tt) where
       holds : Fits s (lengths_of Z) (length S') (head_in s)
       holds = holds_fits s q (lengths_of Z) (length S') (sym hf ∙ e)
 
@@ -247,5 +248,5 @@ module _ (S : List ℕ) (T : AllTables) (X : Indexes) (S' : List ℕ) (Z : AllTa
 
         pub restored_filled : (o : Restored) → o ≡ filled_from (content_of s) h S' Z Y → o ≡ restored s S T X
         restored_filled o r =
-            restored_as_lem Holds o e
+            restored_as_lem (Ok tt) o e
             (r ∙ ap (λ (x : Head). filled_from (content_of s) x S' Z Y) hh ∙ ap (λ (x : List ℕ). filled_from (content_of s) (head_in s) x Z Y) z.0 ∙ ap (λ (x : AllTables). filled_from (content_of s) (head_in s) (zeroed S) x Y) tables_cleared ∙ ap (λ (x : Indexes). filled_from (content_of s) (head_in s) (zeroed S) (zero_all T) x) indexes_cleared)

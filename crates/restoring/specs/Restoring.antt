@@ -1,5 +1,5 @@
 -- Request Twelve, loading: "Loading those blocks, with room and indexes of a right size, gives back the same tables and source and fills the indexes"; "tables, indexes and source zero after each" refusal.
-use Rattle.std.specs.Prelude.{ℕ, ◌+◌, ◌≡◌, List, [], ◌∷◌, ◌++◌, Bool, true, false, length, get_or, take, drop}
+use Rattle.std.specs.Prelude.{ℕ, ◌+◌, ◌≡◌, List, [], ◌∷◌, ◌++◌, Bool, true, false, length, get_or, take, drop, None, Result, Ok, Err}
 use Rattle.std.proofs.Math.Seq.{slice}
 use Rattle.blocks.specs.Blocks.{words_in, content_of}
 use Rattle.tables.specs.Table.{zeroed}
@@ -8,21 +8,18 @@ use Rattle.index.specs.Index.{entries}
 use Rattle.grammar.specs.declared.Counts.{Counts}
 use Rattle.grammar.specs.declared.PosixCounts.{PosixCounts}
 use Rattle.grammar.specs.declared.Singles.{Singles}
-use Rattle.grammar.specs.declared.Part.TheVariants.{Absent}
-use Rattle.grammar.specs.declared.Expect.TheVariants.{NotExpected}
-use Rattle.grammar.specs.declared.Param.TheVariants.{NoParam}
 use Rattle.grammar.specs.Sound.{AllTables, Indexes, zero_all}
 use Rattle.sections.specs.Sections.{sized}
 use Rattle.catalogue.specs.declared.Head.{Head}
-use Rattle.catalogue.specs.declared.Finding.{Finding}
-use Rattle.catalogue.specs.declared.Finding.TheVariants.{Holds, NoWholeBlocks, FaultyNumber, FaultyCheck, Unfilled, WrongSize, NoRoom}
+use Rattle.catalogue.specs.declared.FindingError.{FindingError}
+use Rattle.catalogue.specs.declared.FindingError.TheVariants.{NoWholeBlocks, FaultyNumber, FaultyCheck, Unfilled, WrongSize, NoRoom}
 use Rattle.catalogue.specs.Catalogue.{cells_at, rows_from, head_in, lengths_of, examined, sound_reading}
-use Rattle.restoring.specs.declared.Restoring.{Restoring}
-use Rattle.restoring.specs.declared.Restoring.TheVariants.{AllRestored, NotWhole, BadNumber, BadCheck, BadContent, BadSizes, NoSpace, RestoringUnsound}
+use Rattle.restoring.specs.declared.RestoringError.{RestoringError}
+use Rattle.restoring.specs.declared.RestoringError.TheVariants.{NotWhole, BadNumber, BadCheck, BadContent, BadSizes, NoSpace, RestoringUnsound}
 
 -- what loading answers and leaves
 pub record Restored : Type 0 where
-  pub answer : Restoring
+  pub answer : Result (Unit {0}) RestoringError
   pub head : Head
   pub source : List ℕ
   pub tables : AllTables
@@ -35,14 +32,14 @@ no_head =
       counts = record { n = 0 ∷ 0 ∷ 0 ∷ 0 ∷ 0 ∷ 0 ∷ 0 ∷ 0 ∷ 0 ∷ 0 ∷ [] };
       posix = record { n = 0 ∷ 0 ∷ 0 ∷ [] };
       length = 0;
-      singles = record { start = Absent; expect = NotExpected; expect_rr = NotExpected; param = NoParam; generics = Absent; programs = Absent };
+      singles = record { start = None; expect = None; expect_rr = None; param = None; generics = None; programs = None };
     }
 
 abbrev pub clear_indexes : Indexes → Indexes
 clear_indexes X = record { tokens = zeroed X.tokens; rules = zeroed X.rules }
 
 -- after a refusal nothing is left
-abbrev pub cleared_out : Restoring → List ℕ → AllTables → Indexes → Restored
+abbrev pub cleared_out : Result (Unit {0}) RestoringError → List ℕ → AllTables → Indexes → Restored
 cleared_out a S T X = record { answer = a; head = no_head; source = zeroed S; tables = zero_all T; indexes = clear_indexes X }
 
 -- a table's rows from the content b, in front of the cells that it has
@@ -67,8 +64,8 @@ pub record Tested (src : List ℕ) (c : Counts) (p : PosixCounts) (g : Singles) 
 
 -- what was filled stays where it is sound
 abbrev pub kept_if : Bool → Head → List ℕ → AllTables → Indexes → Restored
-kept_if true h S T X = record { answer = AllRestored; head = h; source = S; tables = T; indexes = X }
-kept_if false h S T X = cleared_out RestoringUnsound S T X
+kept_if true h S T X = record { answer = Ok tt; head = h; source = S; tables = T; indexes = X }
+kept_if false h S T X = cleared_out (Err RestoringUnsound) S T X
 
 unfoldable pub filled_from : List ℕ → Head → List ℕ → AllTables → Indexes → Restored
 filled_from b h S T X =
@@ -78,25 +75,25 @@ filled_from b h S T X =
     let X' = entered_indexes src h.counts T' (length X.tokens) (length X.rules) in
     kept_if (sound_reading src h.counts h.posix h.singles T' X') h S' T' X'
 
-abbrev pub restored_as : Finding → List ℕ → List ℕ → AllTables → Indexes → Restored
-restored_as Holds s S T X = filled_from (content_of s) (head_in s) (zeroed S) (zero_all T) (clear_indexes X)
-restored_as NoWholeBlocks s S T X = cleared_out NotWhole S T X
-restored_as FaultyNumber s S T X = cleared_out BadNumber S T X
-restored_as FaultyCheck s S T X = cleared_out BadCheck S T X
-restored_as Unfilled s S T X = cleared_out BadContent S T X
-restored_as WrongSize s S T X = cleared_out BadSizes S T X
-restored_as (NoRoom k) s S T X = cleared_out (NoSpace k) S T X
+abbrev pub restored_as : Result (Unit {0}) FindingError → List ℕ → List ℕ → AllTables → Indexes → Restored
+restored_as (Ok _) s S T X = filled_from (content_of s) (head_in s) (zeroed S) (zero_all T) (clear_indexes X)
+restored_as (Err NoWholeBlocks) s S T X = cleared_out (Err NotWhole) S T X
+restored_as (Err FaultyNumber) s S T X = cleared_out (Err BadNumber) S T X
+restored_as (Err FaultyCheck) s S T X = cleared_out (Err BadCheck) S T X
+restored_as (Err Unfilled) s S T X = cleared_out (Err BadContent) S T X
+restored_as (Err WrongSize) s S T X = cleared_out (Err BadSizes) S T X
+restored_as (Err (NoRoom k)) s S T X = cleared_out (Err (NoSpace k)) S T X
 
 unfoldable pub restored : List ℕ → List ℕ → AllTables → Indexes → Restored
 restored s S T X = restored_as (examined s (sized T X) (lengths_of T) (length S)) s S T X
 
 -- number, place and table: "60 length zero or no multiple of 512, then block by block 61 wrong number and 62 wrong check, then 63 [..], 45, 42 (lowest table first, source 19), 44, all at 0..0"
-abbrev pub restoring_numbers : Restoring → List ℕ
-restoring_numbers AllRestored = 0 ∷ 0 ∷ 0 ∷ 0 ∷ []
-restoring_numbers NotWhole = 60 ∷ 0 ∷ 0 ∷ 0 ∷ []
-restoring_numbers BadNumber = 61 ∷ 0 ∷ 0 ∷ 0 ∷ []
-restoring_numbers BadCheck = 62 ∷ 0 ∷ 0 ∷ 0 ∷ []
-restoring_numbers BadContent = 63 ∷ 0 ∷ 0 ∷ 0 ∷ []
-restoring_numbers BadSizes = 45 ∷ 0 ∷ 0 ∷ 0 ∷ []
-restoring_numbers (NoSpace k) = 42 ∷ 0 ∷ 0 ∷ k ∷ []
-restoring_numbers RestoringUnsound = 44 ∷ 0 ∷ 0 ∷ 0 ∷ []
+abbrev pub restoring_numbers : Result (Unit {0}) RestoringError → List ℕ
+restoring_numbers (Ok _) = 0 ∷ 0 ∷ 0 ∷ 0 ∷ []
+restoring_numbers (Err NotWhole) = 60 ∷ 0 ∷ 0 ∷ 0 ∷ []
+restoring_numbers (Err BadNumber) = 61 ∷ 0 ∷ 0 ∷ 0 ∷ []
+restoring_numbers (Err BadCheck) = 62 ∷ 0 ∷ 0 ∷ 0 ∷ []
+restoring_numbers (Err BadContent) = 63 ∷ 0 ∷ 0 ∷ 0 ∷ []
+restoring_numbers (Err BadSizes) = 45 ∷ 0 ∷ 0 ∷ 0 ∷ []
+restoring_numbers (Err (NoSpace k)) = 42 ∷ 0 ∷ 0 ∷ k ∷ []
+restoring_numbers (Err RestoringUnsound) = 44 ∷ 0 ∷ 0 ∷ 0 ∷ []

@@ -9,12 +9,11 @@ ghost use Rattle.catalogue.specs.Catalogue.{cells_at, rows_from, content_size, l
 ghost use Rattle.grammar.specs.Sound.{AllTables, Indexes, cells_of};
 ghost use Rattle.restoring.specs.Restoring.{Restored, no_head, filled_table, filled_tables, filled_source, Tested, filled_from, restored};
 
-use catalogue::{Finding, Head, Rooms};
-use grammar::{Counts, Expect, Param, Part, PosixCounts, Singles};
+use catalogue::{FindingError, Head, Rooms};
+use grammar::{Counts, PosixCounts, Singles};
 
 #[derive(Clone, Copy)]
-pub enum Restoring {
-    AllRestored,
+pub enum RestoringError {
     NotWhole,
     BadNumber,
     BadCheck,
@@ -27,7 +26,7 @@ pub enum Restoring {
 // The answer, and what stood in front of the rows; nothing of that after a refusal.
 #[derive(Clone, Copy)]
 pub struct StoredReading {
-    pub answer: Restoring,
+    pub answer: Result<(), RestoringError>,
     pub kind: u32,
     pub counts: Counts,
     pub posix: PosixCounts,
@@ -36,7 +35,7 @@ pub struct StoredReading {
 }
 
 // After a refusal.
-fn refused(answer: Restoring) -> StoredReading
+fn refused(answer: Result<(), RestoringError>) -> StoredReading
     ensures { (result.answer ≡ answer) × ◌≡◌ {A = Head} (record { kind = result.kind; counts = result.counts; posix = result.posix; length = result.length; singles = result.singles }) no_head }
 {
     StoredReading {
@@ -48,12 +47,12 @@ fn refused(answer: Restoring) -> StoredReading
         posix: PosixCounts { n: [0, 0, 0] },
         length: 0,
         singles: Singles {
-            start: Part::Absent,
-            expect: Expect::NotExpected,
-            expect_rr: Expect::NotExpected,
-            param: Param::NoParam,
-            generics: Part::Absent,
-            programs: Part::Absent,
+            start: None,
+            expect: None,
+            expect_rr: None,
+            param: None,
+            generics: None,
+            programs: None,
         },
     }
 }
@@ -120,7 +119,7 @@ fn fill_tables(
     t17: &mut [u32],
 )
     requires { ((k : _) → k < 13 → cells_at c p k ≤ length (cells_of (record { t1 = t1.now; t2 = t2.old; t3 = t3.old; t4 = t4.old; t5 = t5.old; t6 = t6.old; t7 = t7.old; t8 = t8.old; t9 = t9.old; t10 = t10.old; t15 = t15.old; t16 = t16.old; t17 = t17.old }) k)) × (rows_from c p 13 ≤ capacity s.now) }
-    ensures { ◌≡◌ {A = AllTables} (record { t1 = t1.exit.now; t2 = t2.new; t3 = t3.new; t4 = t4.new; t5 = t5.new; t6 = t6.new; t7 = t7.new; t8 = t8.new; t9 = t9.new; t10 = t10.new; t15 = t15.new; t16 = t16.new; t17 = t17.new }) (filled_tables (content_of s.now) c p (record { t1 = t1.entry.now; t2 = t2.old; t3 = t3.old; t4 = t4.old; t5 = t5.old; t6 = t6.old; t7 = t7.old; t8 = t8.old; t9 = t9.old; t10 = t10.old; t15 = t15.old; t16 = t16.old; t17 = t17.old })) }
+    ensures { ◌≡◌ {A = AllTables} (record { t1 = t1.new; t2 = t2.new; t3 = t3.new; t4 = t4.new; t5 = t5.new; t6 = t6.new; t7 = t7.new; t8 = t8.new; t9 = t9.new; t10 = t10.new; t15 = t15.new; t16 = t16.new; t17 = t17.new }) (filled_tables (content_of s.now) c p (record { t1 = t1.old; t2 = t2.old; t3 = t3.old; t4 = t4.old; t5 = t5.old; t6 = t6.old; t7 = t7.old; t8 = t8.old; t9 = t9.old; t10 = t10.old; t15 = t15.old; t16 = t16.old; t17 = t17.old })) }
 {
     fill_table(s, c, p, tables::TOKENS, t1);
     fill_table(s, c, p, tables::PRECEDENCES, t2);
@@ -168,7 +167,7 @@ fn test_filled(
     t17: &[u32],
 ) -> bool
     requires { (i1.old ≡ zeroed i1.old) × (i7.old ≡ zeroed i7.old) }
-    ensures { Tested src.now c p g (record { t1 = t1.entry.now; t2 = t2.now; t3 = t3.now; t4 = t4.now; t5 = t5.now; t6 = t6.now; t7 = t7.now; t8 = t8.now; t9 = t9.now; t10 = t10.now; t15 = t15.now; t16 = t16.now; t17 = t17.now }) (length i1.old) (length i7.old) result (record { tokens = i1.new; rules = i7.new }) }
+    ensures { Tested src.now c p g (record { t1 = t1.now; t2 = t2.now; t3 = t3.now; t4 = t4.now; t5 = t5.now; t6 = t6.now; t7 = t7.now; t8 = t8.now; t9 = t9.now; t10 = t10.now; t15 = t15.now; t16 = t16.now; t17 = t17.now }) (length i1.old) (length i7.old) result (record { tokens = i1.new; rules = i7.new }) }
 {
     reader::enter_indexes(src, c, t1, t7, i1, i7);
     catalogue::is_sound(
@@ -198,7 +197,7 @@ fn fill(
     t17: &mut [u32],
 ) -> StoredReading
     requires { (h.length ≤ length src.old) × ((k : _) → k < 13 → cells_at h.counts h.posix k ≤ length (cells_of (record { t1 = t1.now; t2 = t2.old; t3 = t3.old; t4 = t4.old; t5 = t5.old; t6 = t6.old; t7 = t7.old; t8 = t8.old; t9 = t9.old; t10 = t10.old; t15 = t15.old; t16 = t16.old; t17 = t17.old }) k)) × (content_size h.counts h.posix h.length ≤ capacity s.now) × (src.old ≡ zeroed src.old) × (i1.old ≡ zeroed i1.old) × (i7.old ≡ zeroed i7.old) }
-    ensures { ◌≡◌ {A = Restored} (record { answer = result.answer; head = record { kind = result.kind; counts = result.counts; posix = result.posix; length = result.length; singles = result.singles }; source = src.new; tables = record { t1 = t1.exit.now; t2 = t2.new; t3 = t3.new; t4 = t4.new; t5 = t5.new; t6 = t6.new; t7 = t7.new; t8 = t8.new; t9 = t9.new; t10 = t10.new; t15 = t15.new; t16 = t16.new; t17 = t17.new }; indexes = record { tokens = i1.new; rules = i7.new } }) (filled_from (content_of s.now) h src.old (record { t1 = t1.entry.now; t2 = t2.old; t3 = t3.old; t4 = t4.old; t5 = t5.old; t6 = t6.old; t7 = t7.old; t8 = t8.old; t9 = t9.old; t10 = t10.old; t15 = t15.old; t16 = t16.old; t17 = t17.old }) (record { tokens = i1.old; rules = i7.old })) }
+    ensures { ◌≡◌ {A = Restored} (record { answer = result.answer; head = record { kind = result.kind; counts = result.counts; posix = result.posix; length = result.length; singles = result.singles }; source = src.new; tables = record { t1 = t1.new; t2 = t2.new; t3 = t3.new; t4 = t4.new; t5 = t5.new; t6 = t6.new; t7 = t7.new; t8 = t8.new; t9 = t9.new; t10 = t10.new; t15 = t15.new; t16 = t16.new; t17 = t17.new }; indexes = record { tokens = i1.new; rules = i7.new } }) (filled_from (content_of s.now) h src.old (record { t1 = t1.old; t2 = t2.old; t3 = t3.old; t4 = t4.old; t5 = t5.old; t6 = t6.old; t7 = t7.old; t8 = t8.old; t9 = t9.old; t10 = t10.old; t15 = t15.old; t16 = t16.old; t17 = t17.old }) (record { tokens = i1.old; rules = i7.old })) }
 {
     let c = h.counts;
     let p = h.posix;
@@ -231,7 +230,7 @@ fn fill(
     );
     if ok {
         return StoredReading {
-            answer: Restoring::AllRestored,
+            answer: Ok(()),
             kind: h.kind,
             counts: c,
             posix: p,
@@ -242,7 +241,7 @@ fn fill(
     clear_all(
         src, t1, t2, t3, t4, t5, t6, t7, t8, t9, t10, i1, i7, t15, t16, t17,
     );
-    refused(Restoring::RestoringUnsound)
+    refused(Err(RestoringError::RestoringUnsound))
 }
 
 // Reads a reading back from blocks, into tables, indexes and a source that are lent.
@@ -265,7 +264,7 @@ pub fn load_stored(
     t16: &mut [u32],
     t17: &mut [u32],
 ) -> StoredReading
-    ensures { ◌≡◌ {A = Restored} (record { answer = result.answer; head = record { kind = result.kind; counts = result.counts; posix = result.posix; length = result.length; singles = result.singles }; source = src.new; tables = record { t1 = t1.exit.now; t2 = t2.new; t3 = t3.new; t4 = t4.new; t5 = t5.new; t6 = t6.new; t7 = t7.new; t8 = t8.new; t9 = t9.new; t10 = t10.new; t15 = t15.new; t16 = t16.new; t17 = t17.new }; indexes = record { tokens = i1.new; rules = i7.new } }) (restored s.now src.old (record { t1 = t1.entry.now; t2 = t2.old; t3 = t3.old; t4 = t4.old; t5 = t5.old; t6 = t6.old; t7 = t7.old; t8 = t8.old; t9 = t9.old; t10 = t10.old; t15 = t15.old; t16 = t16.old; t17 = t17.old }) (record { tokens = i1.old; rules = i7.old })) }
+    ensures { ◌≡◌ {A = Restored} (record { answer = result.answer; head = record { kind = result.kind; counts = result.counts; posix = result.posix; length = result.length; singles = result.singles }; source = src.new; tables = record { t1 = t1.new; t2 = t2.new; t3 = t3.new; t4 = t4.new; t5 = t5.new; t6 = t6.new; t7 = t7.new; t8 = t8.new; t9 = t9.new; t10 = t10.new; t15 = t15.new; t16 = t16.new; t17 = t17.new }; indexes = record { tokens = i1.new; rules = i7.new } }) (restored s.now src.old (record { t1 = t1.old; t2 = t2.old; t3 = t3.old; t4 = t4.old; t5 = t5.old; t6 = t6.old; t7 = t7.old; t8 = t8.old; t9 = t9.old; t10 = t10.old; t15 = t15.old; t16 = t16.old; t17 = t17.old }) (record { tokens = i1.old; rules = i7.old })) }
 {
     clear_all(
         src, t1, t2, t3, t4, t5, t6, t7, t8, t9, t10, i1, i7, t15, t16, t17,
@@ -289,7 +288,7 @@ pub fn load_stored(
         ],
     };
     match catalogue::examine(s, sized, rooms, src.len()) {
-        Finding::Holds => fill(
+        Ok(()) => fill(
             s,
             catalogue::head_in(s),
             src,
@@ -309,11 +308,11 @@ pub fn load_stored(
             t16,
             t17,
         ),
-        Finding::NoWholeBlocks => refused(Restoring::NotWhole),
-        Finding::FaultyNumber => refused(Restoring::BadNumber),
-        Finding::FaultyCheck => refused(Restoring::BadCheck),
-        Finding::Unfilled => refused(Restoring::BadContent),
-        Finding::WrongSize => refused(Restoring::BadSizes),
-        Finding::NoRoom(k) => refused(Restoring::NoSpace(k)),
+        Err(FindingError::NoWholeBlocks) => refused(Err(RestoringError::NotWhole)),
+        Err(FindingError::FaultyNumber) => refused(Err(RestoringError::BadNumber)),
+        Err(FindingError::FaultyCheck) => refused(Err(RestoringError::BadCheck)),
+        Err(FindingError::Unfilled) => refused(Err(RestoringError::BadContent)),
+        Err(FindingError::WrongSize) => refused(Err(RestoringError::BadSizes)),
+        Err(FindingError::NoRoom(k)) => refused(Err(RestoringError::NoSpace(k))),
     }
 }

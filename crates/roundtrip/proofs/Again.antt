@@ -1,4 +1,5 @@
 -- The blocks that load are exactly those that writing gives. Assumes nothing.
+use Rattle.std.specs.Prelude.{Result, Ok, Err}
 use Prim.Native.Nat.{ℕ, zero, suc, ◌+◌, ◌*◌, ◌/◌, ◌-◌, ◌≤◌, ◌<◌}
 use mathlib.Core.Path.{◌≡◌, refl, sym, ap, ◌∙◌}
 use mathlib.Core.List.{List, ◌++◌}
@@ -20,17 +21,15 @@ use Rattle.grammar.specs.declared.Singles.{Singles}
 use Rattle.grammar.specs.Sound.{AllTables, Indexes, cells_of, zero_all}
 use Rattle.sections.specs.Sections.{sized}
 use Rattle.catalogue.specs.declared.Head.{Head}
-use Rattle.catalogue.specs.declared.Finding.TheVariants.{Holds}
 use Rattle.catalogue.specs.Catalogue.{Fit32, Bytes, head_cells, head_in, cells_at, rows_from, content_size, content, lengths_of, sound_reading}
 use Rattle.catalogue.proofs.Heads.{head_iff}
 use Rattle.catalogue.proofs.Room.{filled_iff}
 use Rattle.catalogue.proofs.Contents.{content_length, content_again}
-use Rattle.storing.specs.declared.Storing.{Storing}
-use Rattle.storing.specs.declared.Storing.TheVariants.{StoredBlocks}
+use Rattle.storing.specs.declared.StoringError.{StoringError}
 use Rattle.storing.specs.Storing.{StoreResult, head_with, block_count, store_all}
 use Rattle.storing.proofs.Laws.{reading_fits, stored_cases}
 use Rattle.storing.proofs.Theorems.{stored_iff, stored_holds}
-use Rattle.restoring.specs.declared.Restoring.TheVariants.{AllRestored, RestoringUnsound}
+use Rattle.restoring.specs.declared.RestoringError.TheVariants.{RestoringUnsound}
 use Rattle.restoring.specs.Restoring.{Restored, filled_tables, filled_source, entered_indexes, kept_if, filled_from, restored}
 use Rattle.roundtrip.proofs.Cases.{apart, Held, held_iff, loaded_held, restored_found, fresh_cells, fresh_source}
 use Rattle.roundtrip.proofs.Altered.{whole_blocks_lem}
@@ -67,16 +66,16 @@ stored_length src kind c p g T X out =
     let z = length-replicate {A = ℕ} (length out) 0 in
     stored_cases src kind c p g T X out (λ (r : StoreResult). length r.blocks ≡ length out) (λ _. z) (λ _ _. z) (λ _ _ _. z) (λ _ _ _. blocks_length (content (head_with src kind c p g) T src) out)
 
-result_is : (o : StoreResult) (a : Storing) (x : List ℕ) → o.answer ≡ a → o.blocks ≡ x → o ≡ record { answer = a; blocks = x }
-result_is o a x e f = ap (λ (y : Storing). record { answer = y; blocks = o.blocks }) e ∙ ap (λ (y : List ℕ). record { answer = a; blocks = y }) f
+result_is : (o : StoreResult) (a : Result ℕ StoringError) (x : List ℕ) → o.answer ≡ a → o.blocks ≡ x → o ≡ record { answer = a; blocks = x }
+result_is o a x e f = ap (λ (y : Result ℕ StoringError). record { answer = y; blocks = o.blocks }) e ∙ ap (λ (y : List ℕ). record { answer = a; blocks = y }) f
 
 -- ---- blocks that load
 
-kept_true : (q : Bool) (h : Head) (S : List ℕ) (T : AllTables) (X : Indexes) → (kept_if q h S T X).answer ≡ AllRestored → q ≡ true
+kept_true : (q : Bool) (h : Head) (S : List ℕ) (T : AllTables) (X : Indexes) → (kept_if q h S T X).answer ≡ Ok tt → q ≡ true
 kept_true true h S T X e = refl
-kept_true false h S T X e = absurd (apart RestoringUnsound AllRestored (λ z. omega arith) e)
+kept_true false h S T X e = absurd (apart (Err RestoringUnsound) (Ok tt) (λ z. omega arith) e)
 
-module _ (s S : List ℕ) (T : AllTables) (X : Indexes) (loads : (restored s S T X).answer ≡ AllRestored) (bytes : Bytes s) where
+module _ (s S : List ℕ) (T : AllTables) (X : Indexes) (loads : (restored s S T X).answer ≡ Ok tt) (bytes : Bytes s) where
   abbrev h : Head
   h = head_in s
 
@@ -107,12 +106,12 @@ module _ (s S : List ℕ) (T : AllTables) (X : Indexes) (loads : (restored s S T
   -- what is left
   filled : restored s S T X ≡ kept_if (sound_reading src h.counts h.posix h.singles U Y) h S' U Y
   unfolding filled_from
-  filled = restored_found S T X s Holds (loaded_held S T X s loads)
+  filled = restored_found S T X s (Ok tt) (loaded_held S T X s loads)
 
   sound : sound_reading src h.counts h.posix h.singles U Y ≡ true
   sound = kept_true (sound_reading src h.counts h.posix h.singles U Y) h S' U Y (ap (λ (x : Restored). x.answer) (sym filled) ∙ loads)
 
-  loaded_is : restored s S T X ≡ record { answer = AllRestored; head = h; source = S'; tables = U; indexes = Y }
+  loaded_is : restored s S T X ≡ record { answer = Ok tt; head = h; source = S'; tables = U; indexes = Y }
   loaded_is = filled ∙ ap (λ (q : Bool). kept_if q h S' U Y) sound
 
   -- the source that was read
@@ -176,7 +175,7 @@ module _ (s S : List ℕ) (T : AllTables) (X : Indexes) (loads : (restored s S T
   kind_known : (1 ≤ h.kind) × (h.kind ≤ 4)
   kind_known = let m = words_in b 0 39 in let x = (head_iff m (numbers_length b 0 39) (λ j. numbers_low b 0 39 j (content_bytes s bytes))).0 held.head in (x.1, x.2)
 
-  written : (out : List ℕ) → length out ≡ length s → store_all src h.kind h.counts h.posix h.singles U Y out ≡ record { answer = StoredBlocks (length s / 512); blocks = s }
+  written : (out : List ℕ) → length out ≡ length s → store_all src h.kind h.counts h.posix h.singles U Y out ≡ record { answer = Ok (length s / 512); blocks = s }
   written out e =
       let w = (whole_blocks_lem s held.whole).1 in
       let o = store_all src h.kind h.counts h.posix h.singles U Y out in
@@ -184,12 +183,12 @@ module _ (s S : List ℕ) (T : AllTables) (X : Indexes) (loads : (restored s S T
       let a = (stored_iff src h.kind h.counts h.posix h.singles U Y out (length s / 512)).1 (kind_known.0, kind_known.1, sound, omega (arith, n, w), n) in
       let x = (stored_holds src h.kind h.counts h.posix h.singles U Y out (length s / 512) a (told (λ (y : Head). Fit32 (head_cells y)) (sym head_same) heads_low) cells_low source_low).0 in
       let f = stored_one (content h U src) o.blocks s (told (λ (y : Head). Stored (content y U src) o.blocks) head_same x) again (stored_length src h.kind h.counts h.posix h.singles U Y out ∙ e) in
-      result_is o (StoredBlocks (length s / 512)) s a f
+      result_is o (Ok (length s / 512)) s a f
 
 -- What loads holds the content of what it leaves, and writing that again, into blocks of the same length, gives the same blocks.
-pub loaded_stored : (s S : List ℕ) (T : AllTables) (X : Indexes) → (restored s S T X).answer ≡ AllRestored → Bytes s
+pub loaded_stored : (s S : List ℕ) (T : AllTables) (X : Indexes) → (restored s S T X).answer ≡ Ok tt → Bytes s
     → let r = restored s S T X in
     let src = take r.head.length r.source in
     Stored (content r.head r.tables src) s
-    × ((out : List ℕ) → length out ≡ length s → store_all src r.head.kind r.head.counts r.head.posix r.head.singles r.tables r.indexes out ≡ record { answer = StoredBlocks (length s / 512); blocks = s })
+    × ((out : List ℕ) → length out ≡ length s → store_all src r.head.kind r.head.counts r.head.posix r.head.singles r.tables r.indexes out ≡ record { answer = Ok (length s / 512); blocks = s })
 loaded_stored s S T X e f = rw (loaded_is s S T X e f) (again s S T X e f, written s S T X e f)

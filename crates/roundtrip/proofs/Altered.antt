@@ -1,4 +1,5 @@
 -- "One altered byte anywhere is refused", and after every refusal all is zero. Assumes nothing.
+use Rattle.std.specs.Prelude.{Result, Ok, Err}
 use Prim.Native.Nat.{ℕ, ◌+◌, ◌*◌, ◌/◌, ◌%◌, ◌-◌, ◌≤◌, ◌<◌}
 use mathlib.Core.Path.{◌≡◌, refl, sym, ap, ◌∙◌}
 use mathlib.Core.List.{List, ◌++◌}
@@ -18,11 +19,11 @@ use Rattle.sections.specs.Sections.{sized}
 use Rattle.index.proofs.Theorems.{entries_length}
 use Rattle.tables.specs.Layout.{tokens, rules, width}
 use Rattle.catalogue.specs.declared.Head.{Head}
-use Rattle.catalogue.specs.declared.Finding.{Finding}
-use Rattle.catalogue.specs.declared.Finding.TheVariants.{Holds, NoWholeBlocks, FaultyNumber, FaultyCheck, Unfilled, WrongSize, NoRoom}
+use Rattle.catalogue.specs.declared.FindingError.{FindingError}
+use Rattle.catalogue.specs.declared.FindingError.TheVariants.{NoWholeBlocks, FaultyNumber, FaultyCheck, Unfilled, WrongSize, NoRoom}
 use Rattle.catalogue.specs.Catalogue.{Bytes, rows_from, content_size, head_in, lengths_of, whole_test, examined, sound_reading}
 use Rattle.catalogue.proofs.Room.{lengths_at}
-use Rattle.restoring.specs.declared.Restoring.TheVariants.{AllRestored, BadNumber, BadCheck, RestoringUnsound}
+use Rattle.restoring.specs.declared.RestoringError.TheVariants.{BadNumber, BadCheck, RestoringUnsound}
 use Rattle.restoring.specs.Restoring.{no_head, clear_indexes, cleared_out, filled_tables, filled_source, entered_indexes, kept_if, filled_from, restored_as, restored}
 use Rattle.restoring.proofs.Laws.{Fits, holds_fits}
 use Rattle.roundtrip.proofs.Cases.{held_iff, loaded_held, restored_found, tables_ext, zero_at, fresh_length, fresh_source}
@@ -42,8 +43,8 @@ whole_blocks_lem s e =
     (ltb-true 0 (length s) x.0, y)
 
 -- blocks that load, and the same with one other byte: in a block's number 61, in its content or check 62
-pub load_altered : (s S : List ℕ) (T : AllTables) (X : Indexes) (k v : ℕ) → (restored s S T X).answer ≡ AllRestored → Bytes s → k < length s → v < 256 → (v ≡ get_or s k 0 → ⊥)
-    → (k % 512 < 4 → restored (set s k v) S T X ≡ cleared_out BadNumber S T X) × (4 ≤ k % 512 → restored (set s k v) S T X ≡ cleared_out BadCheck S T X)
+pub load_altered : (s S : List ℕ) (T : AllTables) (X : Indexes) (k v : ℕ) → (restored s S T X).answer ≡ Ok tt → Bytes s → k < length s → v < 256 → (v ≡ get_or s k 0 → ⊥)
+    → (k % 512 < 4 → restored (set s k v) S T X ≡ cleared_out (Err BadNumber) S T X) × (4 ≤ k % 512 → restored (set s k v) S T X ≡ cleared_out (Err BadCheck) S T X)
 unfolding examined
 load_altered s S T X k v e bytes h low new =
     let x = (held_iff s (sized T X) (lengths_of T) (length S)).0 (loaded_held S T X s e) in
@@ -51,8 +52,8 @@ load_altered s S T X k v e bytes h low new =
     let w = (whole_blocks_lem s x.whole).1 in
     let l = length-set s k v in
     let whole : whole_test (set s k v) ≡ true = whole_same (set s k v) s l ∙ x.whole in (
-      λ a. restored_found S T X (set s k v) FaultyNumber (rw (whole, l, altered_number n s k v (omega arith) bytes low new (omega arith) x.right a)),
-      λ a. restored_found S T X (set s k v) FaultyCheck (rw (whole, l, altered_check n s k v (omega arith) bytes low new (omega arith) x.right a)),
+      λ a. restored_found S T X (set s k v) (Err FaultyNumber) (rw (whole, l, altered_number n s k v (omega arith) bytes low new (omega arith) x.right a)),
+      λ a. restored_found S T X (set s k v) (Err FaultyCheck) (rw (whole, l, altered_check n s k v (omega arith) bytes low new (omega arith) x.right a)),
     )
 
 -- ---- after a refusal
@@ -61,7 +62,7 @@ zeroed_as : (t u : List ℕ) → length t ≡ length u → zeroed t ≡ zeroed u
 zeroed_as t u e = ap (λ (n : ℕ). replicate n 0) e
 
 -- filling keeps every length, so clearing what was filled leaves the same as clearing what was lent
-module _ (s S : List ℕ) (T : AllTables) (X : Indexes) (x : examined s (sized T X) (lengths_of T) (length S) ≡ Holds) where
+module _ (s S : List ℕ) (T : AllTables) (X : Indexes) (x : examined s (sized T X) (lengths_of T) (length S) ≡ Ok tt) where
   fits : Fits s (lengths_of T) (length S) (head_in s)
   fits = holds_fits s (sized T X) (lengths_of T) (length S) x
 
@@ -87,14 +88,14 @@ module _ (s S : List ℕ) (T : AllTables) (X : Indexes) (x : examined s (sized T
   indexes_again src c U =
       rw (entries_length src (width tokens) 0 U.t1 (length (zeroed X.tokens)) (get_or c.n tokens 0), entries_length src (width rules) 0 U.t7 (length (zeroed X.rules)) (get_or c.n rules 0), length-replicate {A = ℕ} (length X.tokens) 0, length-replicate {A = ℕ} (length X.rules) 0)
 
-  filled_clear : (q : Bool) (h : Head) (S' : List ℕ) (U : AllTables) (Y : Indexes) → zeroed S' ≡ zeroed S → zero_all U ≡ zero_all T → clear_indexes Y ≡ clear_indexes X → ((kept_if q h S' U Y).answer ≡ AllRestored → ⊥) → kept_if q h S' U Y ≡ cleared_out (kept_if q h S' U Y).answer S T X
+  filled_clear : (q : Bool) (h : Head) (S' : List ℕ) (U : AllTables) (Y : Indexes) → zeroed S' ≡ zeroed S → zero_all U ≡ zero_all T → clear_indexes Y ≡ clear_indexes X → ((kept_if q h S' U Y).answer ≡ Ok tt → ⊥) → kept_if q h S' U Y ≡ cleared_out (kept_if q h S' U Y).answer S T X
   filled_clear true h S' U Y a b c d = absurd (d refl)
   filled_clear false h S' U Y a b c d =
-      ap (λ (z : List ℕ). record { answer = RestoringUnsound; head = no_head; source = z; tables = zero_all U; indexes = clear_indexes Y }) a
-      ∙ ap (λ (z : AllTables). record { answer = RestoringUnsound; head = no_head; source = zeroed S; tables = z; indexes = clear_indexes Y }) b
-      ∙ ap (λ (z : Indexes). record { answer = RestoringUnsound; head = no_head; source = zeroed S; tables = zero_all T; indexes = z }) c
+      ap (λ (z : List ℕ). record { answer = Err RestoringUnsound; head = no_head; source = z; tables = zero_all U; indexes = clear_indexes Y }) a
+      ∙ ap (λ (z : AllTables). record { answer = Err RestoringUnsound; head = no_head; source = zeroed S; tables = z; indexes = clear_indexes Y }) b
+      ∙ ap (λ (z : Indexes). record { answer = Err RestoringUnsound; head = no_head; source = zeroed S; tables = zero_all T; indexes = z }) c
 
-  held_clear : ((restored_as Holds s S T X).answer ≡ AllRestored → ⊥) → restored_as Holds s S T X ≡ cleared_out (restored_as Holds s S T X).answer S T X
+  held_clear : ((restored_as (Ok tt) s S T X).answer ≡ Ok tt → ⊥) → restored_as (Ok tt) s S T X ≡ cleared_out (restored_as (Ok tt) s S T X).answer S T X
   unfolding filled_from
   held_clear d =
       let h = head_in s in
@@ -104,15 +105,15 @@ module _ (s S : List ℕ) (T : AllTables) (X : Indexes) (x : examined s (sized T
       filled_clear (sound_reading (take h.length S') h.counts h.posix h.singles U Y) h S' U Y source_again tables_again (indexes_again (take h.length S') h.counts U) d
 
 -- "tables, indexes and source zero after each" refusal
-pub refused_clear : (s S : List ℕ) (T : AllTables) (X : Indexes) → ((restored s S T X).answer ≡ AllRestored → ⊥) → restored s S T X ≡ cleared_out (restored s S T X).answer S T X
+pub refused_clear : (s S : List ℕ) (T : AllTables) (X : Indexes) → ((restored s S T X).answer ≡ Ok tt → ⊥) → restored s S T X ≡ cleared_out (restored s S T X).answer S T X
 unfolding restored
 refused_clear s S T X = go (examined s (sized T X) (lengths_of T) (length S)) refl
   where
-    go : (f : Finding) → examined s (sized T X) (lengths_of T) (length S) ≡ f → ((restored_as f s S T X).answer ≡ AllRestored → ⊥) → restored_as f s S T X ≡ cleared_out (restored_as f s S T X).answer S T X
-    go Holds e d = held_clear s S T X e d
-    go NoWholeBlocks e d = refl
-    go FaultyNumber e d = refl
-    go FaultyCheck e d = refl
-    go Unfilled e d = refl
-    go WrongSize e d = refl
-    go (NoRoom k) e d = refl
+    go : (f : Result (Unit {0}) FindingError) → examined s (sized T X) (lengths_of T) (length S) ≡ f → ((restored_as f s S T X).answer ≡ Ok tt → ⊥) → restored_as f s S T X ≡ cleared_out (restored_as f s S T X).answer S T X
+    go (Ok _) e d = held_clear s S T X e d
+    go (Err NoWholeBlocks) e d = refl
+    go (Err FaultyNumber) e d = refl
+    go (Err FaultyCheck) e d = refl
+    go (Err Unfilled) e d = refl
+    go (Err WrongSize) e d = refl
+    go (Err (NoRoom k)) e d = refl

@@ -1,4 +1,5 @@
 -- "Loading those blocks, with room and indexes of a right size, gives back the same tables and source and fills the indexes." Assumes nothing.
+use Rattle.std.specs.Prelude.{Ok}
 use Prim.Native.Nat.{ℕ, ◌*◌, ◌/◌, ◌-◌, ◌≤◌, ◌<◌}
 use mathlib.Core.Path.{◌≡◌, refl, sym, ap, ◌∙◌}
 use mathlib.Core.List.{List, ◌++◌}
@@ -26,16 +27,13 @@ use Rattle.grammar.specs.declared.Singles.{Singles}
 use Rattle.grammar.specs.Sound.{AllTables, Indexes, cells_of, zero_all}
 use Rattle.sections.specs.Sections.{sizes_fit, sized}
 use Rattle.catalogue.specs.declared.Head.{Head}
-use Rattle.catalogue.specs.declared.Finding.TheVariants.{Holds}
 use Rattle.catalogue.specs.Catalogue.{head_cells, head_of, head_in, head_test, filled_test, cells_at, content_size, content, no_room, lengths_of, whole_test, sound_reading}
 use Rattle.catalogue.proofs.Heads.{head_length, head_back, head_iff}
 use Rattle.catalogue.proofs.Room.{short_none, filled_iff, lengths_at}
 use Rattle.catalogue.proofs.Contents.{content_length, head_read, rows_read, source_read}
-use Rattle.storing.specs.declared.Storing.TheVariants.{StoredBlocks}
 use Rattle.storing.specs.Storing.{head_with, store_all}
 use Rattle.storing.proofs.Laws.{reading_iff, reading_fits}
 use Rattle.storing.proofs.Theorems.{stored_iff, stored_holds}
-use Rattle.restoring.specs.declared.Restoring.TheVariants.{AllRestored}
 use Rattle.restoring.specs.Restoring.{Restored, clear_indexes, filled_tables, filled_source, entered_indexes, kept_if, filled_from, restored}
 use Rattle.roundtrip.specs.Roundtrip.{Plain, Back}
 use Rattle.roundtrip.proofs.Cases.{Held, held_iff, restored_found, tables_ext, fresh_cells, fresh_length, fresh_source}
@@ -169,7 +167,7 @@ module _ (src : List ℕ) (kind : ℕ) (c : Counts) (p : PosixCounts) (g : Singl
       (rows_sound src c p g T X left m n y.0 y.1 (λ k a. rw (left_length k a) (fits k a)) (λ k a. rw (left_length k a) (left_cells k a))
       (told (λ (i : ℕ). Sized m i (width tokens)) (sym (left_length tokens (omega arith))) q.0) (told (λ (i : ℕ). Sized n i (width rules)) (sym (left_length rules (omega arith))) q.1) (entered_indexes src c left m n) refl)
 
-  filled_is : filled_from (b ++ z) h (zeroed S) (zero_all T₀) (clear_indexes X₀) ≡ record { answer = AllRestored; head = h; source = src ++ replicate (length S - length src) 0; tables = left; indexes = entered_indexes src c left (length X₀.tokens) (length X₀.rules) }
+  filled_is : filled_from (b ++ z) h (zeroed S) (zero_all T₀) (clear_indexes X₀) ≡ record { answer = Ok tt; head = h; source = src ++ replicate (length S - length src) 0; tables = left; indexes = entered_indexes src c left (length X₀.tokens) (length X₀.rules) }
   unfolding filled_from
   filled_is =
       ap (λ (y : List ℕ). made (take (length src) y) y (length (zeroed X₀.tokens)) (length (zeroed X₀.rules))) left_source
@@ -181,9 +179,9 @@ module _ (src : List ℕ) (kind : ℕ) (c : Counts) (p : PosixCounts) (g : Singl
       made : List ℕ → List ℕ → ℕ → ℕ → Restored
       made a y m n = kept_if (sound_reading a c p g left (entered_indexes a c left m n)) h y left (entered_indexes a c left m n)
 
-  restored_is : restored s S T₀ X₀ ≡ record { answer = AllRestored; head = h; source = src ++ replicate (length S - length src) 0; tables = left; indexes = entered_indexes src c left (length X₀.tokens) (length X₀.rules) }
+  restored_is : restored s S T₀ X₀ ≡ record { answer = Ok tt; head = h; source = src ++ replicate (length S - length src) 0; tables = left; indexes = entered_indexes src c left (length X₀.tokens) (length X₀.rules) }
   restored_is =
-      restored_found S T₀ X₀ s Holds ((held_iff s (sized T₀ X₀) (lengths_of T₀) (length S)).1 held)
+      restored_found S T₀ X₀ s (Ok tt) ((held_iff s (sized T₀ X₀) (lengths_of T₀) (length S)).1 held)
       ∙ ap (λ (y : Head). filled_from (content_of s) y (zeroed S) (zero_all T₀) (clear_indexes X₀)) head_is
       ∙ ap (λ (y : List ℕ). filled_from y h (zeroed S) (zero_all T₀) (clear_indexes X₀)) (content_are b s x l)
       ∙ filled_is
@@ -194,7 +192,7 @@ module _ (src : List ℕ) (kind : ℕ) (c : Counts) (p : PosixCounts) (g : Singl
 -- ---- the theorem
 
 module _ (src : List ℕ) (kind : ℕ) (c : Counts) (p : PosixCounts) (g : Singles) (T : AllTables) (X : Indexes) (out : List ℕ) (n : ℕ) (s S : List ℕ) (T₀ : AllTables) (X₀ : Indexes) where
-  pub load_back : Plain src kind c p g T → (store_all src kind c p g T X out).answer ≡ StoredBlocks n → s ≡ take (n * 512) (store_all src kind c p g T X out).blocks
+  pub load_back : Plain src kind c p g T → (store_all src kind c p g T X out).answer ≡ Ok n → s ≡ take (n * 512) (store_all src kind c p g T X out).blocks
       → ((k : ℕ) → k < 13 → cells_at c p k ≤ length (cells_of T₀ k))
       → length src ≤ length S
       → sized T₀ X₀ ≡ true
@@ -208,7 +206,7 @@ module _ (src : List ℕ) (kind : ℕ) (c : Counts) (p : PosixCounts) (g : Singl
       held_back src kind c p g T X s S T₀ X₀ plain (q.0, q.1) q.2 (rw es at f.0) (rw es at f.1) fits short right
 
   -- Tables and indexes of the same lengths are then the same: those of a sound reading are zero behind their rows, and its indexes are what entering its rows gives.
-  pub load_same : Plain src kind c p g T → (store_all src kind c p g T X out).answer ≡ StoredBlocks n → s ≡ take (n * 512) (store_all src kind c p g T X out).blocks
+  pub load_same : Plain src kind c p g T → (store_all src kind c p g T X out).answer ≡ Ok n → s ≡ take (n * 512) (store_all src kind c p g T X out).blocks
       → ((k : ℕ) → k < 13 → length (cells_of T₀ k) ≡ length (cells_of T k))
       → length X₀.tokens ≡ length X.tokens
       → length X₀.rules ≡ length X.rules

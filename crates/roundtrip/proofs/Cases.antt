@@ -1,4 +1,5 @@
 -- What loading comes to, one case for each finding; what blocks that load are; and the thirteen tables by index. Assumes nothing.
+use Rattle.std.specs.Prelude.{Result, Ok, Err}
 use Prim.Native.Nat.{ℕ, zero, suc, ◌+◌, ◌/◌, ◌-◌, ◌≤◌, ◌<◌}
 use mathlib.Core.Path.{◌≡◌, refl, ap, ◌∙◌}
 use mathlib.Core.List.{List, [], ◌∷◌, ◌++◌}
@@ -11,7 +12,7 @@ use lib.Seq.{slice, ext_get_or}
 use Rattle.tables.specs.Table.{zeroed}
 use Rattle.tables.proofs.Rows.{drop_zeros}
 use Rattle.blocks.specs.declared.BlockFault.{BlockFault}
-use Rattle.blocks.specs.declared.BlockFault.TheVariants.{NoFault, WrongNumber, WrongCheck}
+use Rattle.blocks.specs.declared.BlockFault.TheVariants.{WrongNumber, WrongCheck}
 use Rattle.blocks.specs.Blocks.{words_in, content_of, first_fault}
 use Rattle.blocks.proofs.Content.{numbers_length}
 use Rattle.grammar.specs.declared.Counts.{Counts}
@@ -19,32 +20,32 @@ use Rattle.grammar.specs.declared.PosixCounts.{PosixCounts}
 use Rattle.grammar.specs.Sound.{AllTables, Indexes, list_of, of_list, cells_of, zero_all}
 use Rattle.sections.specs.Sections.{sized}
 use Rattle.catalogue.specs.declared.Head.{Head}
-use Rattle.catalogue.specs.declared.Finding.{Finding}
-use Rattle.catalogue.specs.declared.Finding.TheVariants.{Holds, NoWholeBlocks, FaultyNumber, FaultyCheck, Unfilled, WrongSize, NoRoom}
+use Rattle.catalogue.specs.declared.FindingError.{FindingError}
+use Rattle.catalogue.specs.declared.FindingError.TheVariants.{NoWholeBlocks, FaultyNumber, FaultyCheck, Unfilled, WrongSize, NoRoom}
 use Rattle.catalogue.specs.Catalogue.{cells_at, rows_from, content_size, head_of, head_in, head_test, filled_test, no_room, lengths_of, roomed, sized_head, good_head, held_in, right_blocks, whole_test, whole_blocks, examined}
-use Rattle.restoring.specs.declared.Restoring.{Restoring}
-use Rattle.restoring.specs.declared.Restoring.TheVariants.{AllRestored, NotWhole, BadNumber, BadCheck, BadContent, BadSizes, NoSpace}
+use Rattle.restoring.specs.declared.RestoringError.{RestoringError}
+use Rattle.restoring.specs.declared.RestoringError.TheVariants.{NotWhole, BadNumber, BadCheck, BadContent, BadSizes, NoSpace}
 use Rattle.restoring.specs.Restoring.{filled_table, filled_tables, filled_source, restored_as, restored, restoring_numbers}
 
 -- ---- answers and findings that differ
 
-abbrev pub number_of : Restoring → ℕ
+abbrev pub number_of : Result (Unit {0}) RestoringError → ℕ
 number_of a = get_or (restoring_numbers a) 0 0
 
 -- answers with different numbers differ
-pub apart : (a b : Restoring) → (number_of a ≡ number_of b → ⊥) → a ≡ b → ⊥
+pub apart : (a b : Result (Unit {0}) RestoringError) → (number_of a ≡ number_of b → ⊥) → a ≡ b → ⊥
 apart a b d e = d (ap number_of e)
 
-abbrev holds_number : Finding → ℕ
-holds_number Holds = 0
-holds_number NoWholeBlocks = 1
-holds_number FaultyNumber = 1
-holds_number FaultyCheck = 1
-holds_number Unfilled = 1
-holds_number WrongSize = 1
-holds_number (NoRoom k) = 1
+abbrev holds_number : Result (Unit {0}) FindingError → ℕ
+holds_number (Ok _) = 0
+holds_number (Err NoWholeBlocks) = 1
+holds_number (Err FaultyNumber) = 1
+holds_number (Err FaultyCheck) = 1
+holds_number (Err Unfilled) = 1
+holds_number (Err WrongSize) = 1
+holds_number (Err (NoRoom k)) = 1
 
-none : (f : Finding) → holds_number f ≡ 1 → f ≡ Holds → ⊥
+none : (f : Result (Unit {0}) FindingError) → holds_number f ≡ 1 → f ≡ Ok tt → ⊥
 none f d e = let z = ap holds_number e in omega arith
 
 -- ---- blocks that hold a reading
@@ -52,35 +53,35 @@ none f d e = let z = ap holds_number e in omega arith
 -- what each test says of them
 pub record Held (s : List ℕ) (q : Bool) (ls : List ℕ) (l : ℕ) : Type 0 where
   pub whole : whole_test s ≡ true
-  pub right : first_fault (length s / 512) s ≡ NoFault
+  pub right : first_fault (length s / 512) s ≡ Ok tt
   pub head : head_test (words_in (content_of s) 0 39) ≡ true
   pub filled : filled_test (content_of s) (content_size (head_in s).counts (head_in s).posix (head_in s).length) ≡ true
   pub sized : q ≡ true
   pub room : no_room (head_in s) ls l ≡ 0
 
 module _ (s : List ℕ) (q : Bool) (ls : List ℕ) (l : ℕ) where
-  from_room : (k : ℕ) → roomed k ≡ Holds → k ≡ 0
+  from_room : (k : ℕ) → roomed k ≡ Ok tt → k ≡ 0
   from_room zero e = refl
-  from_room (suc k) e = absurd (none (NoRoom (suc k)) refl e)
+  from_room (suc k) e = absurd (none (Err (NoRoom (suc k))) refl e)
 
-  from_size : (q : Bool) (h : Head) → sized_head q h ls l ≡ Holds → (q ≡ true) × (no_room h ls l ≡ 0)
+  from_size : (q : Bool) (h : Head) → sized_head q h ls l ≡ Ok tt → (q ≡ true) × (no_room h ls l ≡ 0)
   from_size true h e = (refl, from_room (no_room h ls l) e)
-  from_size false h e = absurd (none WrongSize refl e)
+  from_size false h e = absurd (none (Err WrongSize) refl e)
 
-  from_head : (a : Bool) (m : List ℕ) → good_head a q m ls l ≡ Holds → (a ≡ true) × (q ≡ true) × (no_room (head_of m) ls l ≡ 0)
+  from_head : (a : Bool) (m : List ℕ) → good_head a q m ls l ≡ Ok tt → (a ≡ true) × (q ≡ true) × (no_room (head_of m) ls l ≡ 0)
   from_head true m e = let x = from_size q (head_of m) e in (refl, x.0, x.1)
-  from_head false m e = absurd (none Unfilled refl e)
+  from_head false m e = absurd (none (Err Unfilled) refl e)
 
-  from_right : (f : BlockFault) (b : List ℕ) → right_blocks f b q ls l ≡ Holds → (f ≡ NoFault) × (held_in b q ls l ≡ Holds)
-  from_right NoFault b e = (refl, e)
-  from_right WrongNumber b e = absurd (none FaultyNumber refl e)
-  from_right WrongCheck b e = absurd (none FaultyCheck refl e)
+  from_right : (f : Result (Unit {0}) BlockFault) (b : List ℕ) → right_blocks f b q ls l ≡ Ok tt → (f ≡ Ok tt) × (held_in b q ls l ≡ Ok tt)
+  from_right (Ok _) b e = (refl, e)
+  from_right (Err WrongNumber) b e = absurd (none (Err FaultyNumber) refl e)
+  from_right (Err WrongCheck) b e = absurd (none (Err FaultyCheck) refl e)
 
-  from_whole : (a : Bool) → whole_blocks a s q ls l ≡ Holds → (a ≡ true) × (first_fault (length s / 512) s ≡ NoFault) × (held_in (content_of s) q ls l ≡ Holds)
+  from_whole : (a : Bool) → whole_blocks a s q ls l ≡ Ok tt → (a ≡ true) × (first_fault (length s / 512) s ≡ Ok tt) × (held_in (content_of s) q ls l ≡ Ok tt)
   from_whole true e = let x = from_right (first_fault (length s / 512) s) (content_of s) e in (refl, x.0, x.1)
-  from_whole false e = absurd (none NoWholeBlocks refl e)
+  from_whole false e = absurd (none (Err NoWholeBlocks) refl e)
 
-  pub held_iff : (examined s q ls l ≡ Holds) ↔ Held s q ls l
+  pub held_iff : (examined s q ls l ≡ Ok tt) ↔ Held s q ls l
   unfolding examined held_in
   held_iff = (
     λ e. let x = from_whole (whole_test s) e in
@@ -97,22 +98,22 @@ module _ (s : List ℕ) (q : Bool) (ls : List ℕ) (l : ℕ) where
 
 module _ (S : List ℕ) (T : AllTables) (X : Indexes) where
   -- only blocks that hold a reading load
-  from_answer : (f : Finding) (s : List ℕ) → (restored_as f s S T X).answer ≡ AllRestored → f ≡ Holds
-  from_answer Holds s e = refl
-  from_answer NoWholeBlocks s e = absurd (apart NotWhole AllRestored (λ z. omega arith) e)
-  from_answer FaultyNumber s e = absurd (apart BadNumber AllRestored (λ z. omega arith) e)
-  from_answer FaultyCheck s e = absurd (apart BadCheck AllRestored (λ z. omega arith) e)
-  from_answer Unfilled s e = absurd (apart BadContent AllRestored (λ z. omega arith) e)
-  from_answer WrongSize s e = absurd (apart BadSizes AllRestored (λ z. omega arith) e)
-  from_answer (NoRoom k) s e = absurd (apart (NoSpace k) AllRestored (λ z. omega arith) e)
+  from_answer : (f : Result (Unit {0}) FindingError) (s : List ℕ) → (restored_as f s S T X).answer ≡ Ok tt → f ≡ Ok tt
+  from_answer (Ok _) s e = refl
+  from_answer (Err NoWholeBlocks) s e = absurd (apart (Err NotWhole) (Ok tt) (λ z. omega arith) e)
+  from_answer (Err FaultyNumber) s e = absurd (apart (Err BadNumber) (Ok tt) (λ z. omega arith) e)
+  from_answer (Err FaultyCheck) s e = absurd (apart (Err BadCheck) (Ok tt) (λ z. omega arith) e)
+  from_answer (Err Unfilled) s e = absurd (apart (Err BadContent) (Ok tt) (λ z. omega arith) e)
+  from_answer (Err WrongSize) s e = absurd (apart (Err BadSizes) (Ok tt) (λ z. omega arith) e)
+  from_answer (Err (NoRoom k)) s e = absurd (apart (Err (NoSpace k)) (Ok tt) (λ z. omega arith) e)
 
-  pub loaded_held : (s : List ℕ) → (restored s S T X).answer ≡ AllRestored → examined s (sized T X) (lengths_of T) (length S) ≡ Holds
+  pub loaded_held : (s : List ℕ) → (restored s S T X).answer ≡ Ok tt → examined s (sized T X) (lengths_of T) (length S) ≡ Ok tt
   unfolding restored
   loaded_held s e = from_answer (examined s (sized T X) (lengths_of T) (length S)) s e
 
-  pub restored_found : (s : List ℕ) (f : Finding) → examined s (sized T X) (lengths_of T) (length S) ≡ f → restored s S T X ≡ restored_as f s S T X
+  pub restored_found : (s : List ℕ) (f : Result (Unit {0}) FindingError) → examined s (sized T X) (lengths_of T) (length S) ≡ f → restored s S T X ≡ restored_as f s S T X
   unfolding restored
-  restored_found s f e = ap (λ (x : Finding). restored_as x s S T X) e
+  restored_found s f e = ap (λ (x : Result (Unit {0}) FindingError). restored_as x s S T X) e
 
 -- ---- the thirteen tables by index
 

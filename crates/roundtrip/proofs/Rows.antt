@@ -1,4 +1,5 @@
 -- Soundness depends on the rows below the counts: tables with the same rows and zeros behind them are sound with the indexes that entering their rows gives. Assumes nothing.
+use Rattle.std.specs.Prelude.{Option, Some}
 use Prim.Native.Nat.{ℕ, zero, suc, ◌+◌, ◌*◌, ◌-◌, ◌≤◌, ◌<◌}
 use mathlib.Core.Path.{◌≡◌, refl, sym, ap, ◌∙◌}
 use mathlib.Core.List.{List, ◌++◌}
@@ -8,8 +9,6 @@ use native.Mathlib.Decide.{dec_lt}
 use lib.Dec.{eqb}
 use lib.ListN.{length, get_or, take, drop, replicate}
 use lib.Seq.{length-take-le, get_or-take, take_at, drop_at}
-use Rattle.tables.specs.declared.Found.{Found}
-use Rattle.tables.specs.declared.Found.TheVariants.{RowAt}
 use Rattle.tables.specs.Table.{cell, has_name, first_row, find_name}
 use Rattle.tables.specs.Rows.{Clean, row_at, Rows, end_before, Chained}
 use Rattle.tables.specs.Layout.{tokens, rules, productions, symbols, symbols_from, symbols_to, kind_name, known_row, posix_from, width}
@@ -33,8 +32,8 @@ first_same : (p q : ℕ → Bool) (n i : ℕ) → ((r : ℕ) → i ≤ r → r <
 unfolding first_row
 first_same p q zero i f = refl
 first_same p q (suc n) i f =
-    ap (λ (b : Bool). elim b [ true ↦ RowAt i | false ↦ first_row p n (i + 1) ]) (f i (omega arith) (omega arith))
-    ∙ ap (λ (o : Found). elim (q i) [ true ↦ RowAt i | false ↦ o ]) (first_same p q n (i + 1) (λ r a b. f r (omega arith) (omega arith)))
+    ap (λ (b : Bool). elim b [ true ↦ Some i | false ↦ first_row p n (i + 1) ]) (f i (omega arith) (omega arith))
+    ∙ ap (λ (o : Option ℕ). elim (q i) [ true ↦ Some i | false ↦ o ]) (first_same p q n (i + 1) (λ r a b. f r (omega arith) (omega arith)))
 
 module _ (w n : ℕ) (t u : List ℕ) (ft : n * w ≤ length t) (fu : n * w ≤ length u) (e : take (n * w) u ≡ take (n * w) t) where
   pub cell_same : (r k : ℕ) → r < n → k < w → cell w u r k ≡ cell w t r k
@@ -110,8 +109,8 @@ module _ (src : List ℕ) (c : Counts) (p : PosixCounts) (g : Singles) (T : AllT
   named_same : (kind a b : ℕ) → named_row (lexicon_of src c (ten_of U)) kind a b ≡ named_row (lexicon_of src c (ten_of T)) kind a b
   unfolding named_row
   named_same kind a b =
-      ap (λ (o : Found). elim (eqb kind 1) [ true ↦ row_number o | false ↦ row_number (find_name src (width tokens) 0 (get_or c.n tokens 0) U.t1 a b) ]) (find_at rules (omega arith) (omega arith) a b)
-      ∙ ap (λ (o : Found). elim (eqb kind 1) [ true ↦ row_number (find_name src (width rules) 0 (get_or c.n rules 0) T.t7 a b) | false ↦ row_number o ]) (find_at tokens (omega arith) (omega arith) a b)
+      ap (λ (o : Option ℕ). elim (eqb kind 1) [ true ↦ row_number o | false ↦ row_number (find_name src (width tokens) 0 (get_or c.n tokens 0) U.t1 a b) ]) (find_at rules (omega arith) (omega arith) a b)
+      ∙ ap (λ (o : Option ℕ). elim (eqb kind 1) [ true ↦ row_number (find_name src (width rules) 0 (get_or c.n rules 0) T.t7 a b) | false ↦ row_number o ]) (find_at tokens (omega arith) (omega arith) a b)
 
   knows_now : Knows (lexicon_of src c (ten_of U)) (get_or c.n symbols 0) U.t9
   unfolding row_for

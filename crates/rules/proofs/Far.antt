@@ -1,5 +1,6 @@
 -- Each step of the rules section keeps soundness so far, whatever its answer; so does the section, and unless it was refused the productions' ranges end behind
 -- the last symbol. Assumes nothing.
+use Rattle.std.specs.Prelude.{Option, Some, None, Result, Ok, Err}
 use Prim.Native.Nat.{ℕ, suc, ◌+◌, ◌-◌, ◌≤◌, ◌<◌}
 use mathlib.Core.Path.{◌≡◌, refl, sym, ◌∙◌}
 use mathlib.Core.List.{List, [], ◌∷◌}
@@ -11,29 +12,22 @@ use lib.ListN.{length, get_or}
 use Rattle.scan.specs.Scan.{starts_at}
 use Rattle.scan.proofs.Bytes.{on_test, told}
 use Rattle.scan.proofs.Loop.{Either, turns_end}
-use Rattle.words.specs.declared.Name.{Name}
-use Rattle.words.specs.declared.Name.TheVariants.{NameTo, NoName}
 use Rattle.words.specs.Words.{name_at, Named}
 use Rattle.words.proofs.Words.{name_placed}
-use Rattle.texts.specs.declared.ColonText.{ColonText}
-use Rattle.texts.specs.declared.ColonText.TheVariants.{Upto, NoColon}
+use Rattle.scan.specs.declared.Place.{Place}
 use Rattle.texts.specs.Colon.{colon_text_at, ColonTexts}
 use Rattle.texts.proofs.Laws.{colon_placed}
-use Rattle.tables.specs.declared.Found.{Found}
 use Rattle.tables.specs.Table.{has_name}
 use Rattle.tables.specs.Rows.{row_at}
 use Rattle.tables.specs.Layout.{rules, symbols, width}
 use Rattle.tables.proofs.Rows.{row_cell}
 use Rattle.tables.proofs.Cases.{find_cases}
-use Rattle.grammar.specs.declared.Part.{Part}
-use Rattle.grammar.specs.declared.Part.TheVariants.{Absent, At}
 use Rattle.grammar.specs.declared.State.{State}
 use Rattle.grammar.specs.declared.Cause.{Cause}
 use Rattle.grammar.specs.declared.Cause.TheVariants.{MissingColon, MissingRightArrow, UnknownDeclaration}
 use Rattle.grammar.specs.declared.Answer.{Answer}
 use Rattle.grammar.specs.declared.Answer.TheVariants.{Going, Done, Refused}
-use Rattle.grammar.specs.declared.Gap.{Gap}
-use Rattle.grammar.specs.declared.Gap.TheVariants.{GapTo, GapRefused}
+use Rattle.grammar.specs.declared.Refusal.{Refusal}
 use Rattle.grammar.specs.Cells.{rule_cells}
 use Rattle.grammar.specs.Numbers.{part_numbers}
 use Rattle.grammar.specs.State.{Out0, Passed, count, with_at, gap_at, Gapped, past_gap, onward}
@@ -76,39 +70,39 @@ module _ {src : List ℕ} {done : ℕ} {s : State} {T : AllTables} (f : Far src 
       past : (j : ℕ) → s.at ≤ j → j ≤ length src → Uncounted src done T s (past_gap src false j s).state
       past j h k = record { far = past_far f false j h k; forth = (pass_onward src j s Going k).forth h; counts = pass_counts src false j Going s }
 
-      go : (g : Gap) → Gapped src s.at g → Uncounted src done T s (mark_gap g src s word cause).state
-      go (GapTo i n) x =
+      go : (g : Result (ℕ × ℕ) Refusal) → Gapped src s.at g → Uncounted src done T s (mark_gap g src s word cause).state
+      go (Ok (i, n)) x =
           let a = x.0 in
           on_test (λ (o : Out0). Uncounted src done T s o.state) (starts_at word src i) _ _ (λ e. past (i + length word) (omega arith) (mark_fits word src i x.1 e)) (λ e. still)
-      go (GapRefused e) x = still
+      go (Err e) x = still
 
   -- the start
   pub start_far : (from to : ℕ) → Passed src from to → Uncounted src done T s (first_start s from to)
   unfolding first_start
   start_far from to p = go s.singles.start
     where
-      go : (q : Part) → Uncounted src done T s (start_or q s from to)
-      go Absent =
+      go : (q : Option (ℕ × ℕ)) → Uncounted src done T s (start_or q s from to)
+      go None =
           let g = f.singles in
           record { far = far_singles f _ (record { start = p; expect = g.expect; expect_rr = g.expect_rr; param = g.param; generics = g.generics; programs = g.programs }); forth = omega arith; counts = refl }
-      go (At a b) = still
+      go (Some (a, b)) = still
 
   start_at : (from to : ℕ) → (first_start s from to).at ≡ s.at
   unfolding first_start
   start_at from to = go s.singles.start
     where
-      go : (q : Part) → (start_or q s from to).at ≡ s.at
-      go Absent = refl
-      go (At a b) = refl
+      go : (q : Option (ℕ × ℕ)) → (start_or q s from to).at ≡ s.at
+      go None = refl
+      go (Some (a, b)) = refl
 
   -- a type up to a colon
   colon_far : TypeFar src done T s (colon_type src s)
   unfolding colon_type
   colon_far = go (colon_text_at src s.at) (colon_placed src s.at f.here (colon_text_at src s.at) refl).1
     where
-      go : (t : ColonText) → ColonTexts src s.at t → TypeFar src done T s (colon_given t s)
-      go (Upto to n p) x = let a = x.0 in let b = x.1 in record { to = moved to (omega arith) (omega arith); given = record { onward = x.4; inside = x.5 } }
-      go (NoColon i) x = record { to = still; given = tt }
+      go : (t : Result (ℕ × ℕ × Place) ℕ) → ColonTexts src s.at t → TypeFar src done T s (colon_given t s)
+      go (Ok (to, n, p)) x = let a = x.0 in let b = x.1 in record { to = moved to (omega arith) (omega arith); given = record { onward = x.4; inside = x.5 } }
+      go (Err i) x = record { to = still; given = tt }
 
   -- the programs
   pub programs_far : Uncounted src done T s (programs_from src s).state
@@ -118,16 +112,16 @@ module _ {src : List ℕ} {done : ℕ} {s : State} {T : AllTables} (f : Far src 
       (λ e. let h = mark_fits percents src s.at f.here e in go (gap_at s.kind true src (s.at + 2)) (gapped s.kind true src (s.at + 2) h))
       (λ e. still)
     where
-      go : (g : Gap) → Gapped src (s.at + 2) g → Uncounted src done T s (programs_gap g src s).state
-      go (GapTo i n) x =
+      go : (g : Result (ℕ × ℕ) Refusal) → Gapped src (s.at + 2) g → Uncounted src done T s (programs_gap g src s).state
+      go (Ok (i, n)) x =
           let g = f.singles in
           let h = f.here in
           record {
-            far = far_singles (far_at f (length src) h (omega arith)) (with_programs s.singles (At i (length src))) (record { start = g.start; expect = g.expect; expect_rr = g.expect_rr; param = g.param; generics = g.generics; programs = record { onward = x.1; inside = omega arith } });
+            far = far_singles (far_at f (length src) h (omega arith)) (with_programs s.singles (Some (i, length src))) (record { start = g.start; expect = g.expect; expect_rr = g.expect_rr; param = g.param; generics = g.generics; programs = record { onward = x.1; inside = omega arith } });
             forth = h;
             counts = refl;
           }
-      go (GapRefused e) x = still
+      go (Err e) x = still
 
 -- the type of a rule, by the kind
 pub type_far : {src : List ℕ} {done : ℕ} {s : State} {T : AllTables} → Far src done s T → TypeFar src done T s (rule_type src s)
@@ -151,24 +145,24 @@ pub record HeadFar (src : List ℕ) (done : ℕ) (T : AllTables) (s : State) (le
   pub row : h.answer ≡ Going → h.row < count h.state rules
 
 -- the cells of a type
-part_wide : (p : Part) → length (part_numbers p) ≡ 3
-part_wide Absent = refl
-part_wide (At a b) = refl
+part_wide : (p : Option (ℕ × ℕ)) → length (part_numbers p) ≡ 3
+part_wide None = refl
+part_wide (Some (a, b)) = refl
 
-given_part : (src : List ℕ) (p : Part) → Lies src p → Given src (get_or (part_numbers p) 0 0) (get_or (part_numbers p) 1 0) (get_or (part_numbers p) 2 0)
-given_part src Absent x = inl (refl, refl, refl)
-given_part src (At a b) x = inr (refl, x)
+given_part : (src : List ℕ) (p : Option (ℕ × ℕ)) → Lies src p → Given src (get_or (part_numbers p) 0 0) (get_or (part_numbers p) 1 0) (get_or (part_numbers p) 2 0)
+given_part src None x = inl (refl, refl, refl)
+given_part src (Some (a, b)) x = inr (refl, x)
 
 -- a rule whose name no row has
-new_name : (src t : List ℕ) (from to : ℕ) (given : Part) (r : ℕ) → has_name src (width rules) 0 t from to r ≡ false → Differ src (row_at (width rules) t r) (rule_cells from to given)
+new_name : (src t : List ℕ) (from to : ℕ) (given : Option (ℕ × ℕ)) (r : ℕ) → has_name src (width rules) 0 t from to r ≡ false → Differ src (row_at (width rules) t r) (rule_cells from to given)
 unfolding has_name
 new_name src t from to given r e = record { differ = rw (row_cell (width rules) t r 0 (omega arith), row_cell (width rules) t r 1 (omega arith)) e }
 
 -- a rule's row
-pub rule_far : {src : List ℕ} {done : ℕ} {s : State} {T : AllTables} → Far src done s T → (from to : ℕ) (given : Part) → Passed src from to → Lies src given → HeadFar src done T s s.at (enter_rule src s from to given T.t7)
+pub rule_far : {src : List ℕ} {done : ℕ} {s : State} {T : AllTables} → Far src done s T → (from to : ℕ) (given : Option (ℕ × ℕ)) → Passed src from to → Lies src given → HeadFar src done T s s.at (enter_rule src s from to given T.t7)
 unfolding enter_rule
 rule_far {src} {done} {s} {T} f from to given p q =
-    find_cases (λ (x : Found). HeadFar src done T s s.at (rule_found x s from to given T.t7)) src (width rules) 0 (count s rules) T.t7 from to
+    find_cases (λ (x : Option ℕ). HeadFar src done T s s.at (rule_found x s from to given T.t7)) src (width rules) 0 (count s rules) T.t7 from to
     (λ r l e none. record { far = f; beyond = λ g. omega arith; symbols = refl; row = λ g. l })
     (λ none.
     let row = rule_cells from to given in
@@ -212,9 +206,9 @@ module _ {src : List ℕ} {done : ℕ} {s : State} {T : AllTables} (f : Far src 
   unfolding rule_head
   head_far = go (name_at src s.at) (name_placed src s.at (name_at src s.at) refl).1
     where
-      go : (n : Name) → Named src s.at n → HeadFar src done T s (s.at + 1) (head_found n src s T.t7)
-      go (NameTo j) x = named_far j x.0 x.1
-      go (NoName k) x = record { far = f; beyond = λ g. absurd (refused_going _ g); symbols = refl; row = λ g. absurd (refused_going _ g) }
+      go : (n : Result ℕ ℕ) → Named src s.at n → HeadFar src done T s (s.at + 1) (head_found n src s T.t7)
+      go (Ok j) x = named_far j x.0 x.1
+      go (Err k) x = record { far = f; beyond = λ g. absurd (refused_going _ g); symbols = refl; row = λ g. absurd (refused_going _ g) }
 
 -- Rules that were read: sound so far, and the productions' ranges end behind the last symbol unless a rule was refused.
 pub record Whole (src : List ℕ) (T : AllTables) (a : Answer) (s : State) : Type 0 where

@@ -1,4 +1,5 @@
 -- The rules section: one law for each answer of its steps. Assumes nothing.
+use Rattle.std.specs.Prelude.{Option, Some, None, Ok, Err, Result}
 use Prim.Native.Nat.{ℕ, ◌+◌, ◌≤◌, ◌<◌}
 use mathlib.Core.Path.{◌≡◌, refl, sym, ◌∙◌, ap}
 use mathlib.Core.List.{List, [], ◌∷◌}
@@ -11,18 +12,10 @@ use Rattle.scan.specs.Scan.{starts_at}
 use Rattle.scan.specs.Loop.{more, stop}
 use Rattle.scan.proofs.Bytes.{starts_fits}
 use Rattle.scan.specs.declared.Place.{Place}
-use Rattle.words.specs.declared.Name.{Name}
-use Rattle.words.specs.declared.Name.TheVariants.{NameTo, NoName}
 use Rattle.words.specs.Words.{name_at, Named}
-use Rattle.texts.specs.declared.ColonText.{ColonText}
-use Rattle.texts.specs.declared.ColonText.TheVariants.{Upto, NoColon}
 use Rattle.texts.specs.Colon.{colon_text_at, ColonTexts}
-use Rattle.tables.specs.declared.Found.{Found}
-use Rattle.tables.specs.declared.Found.TheVariants.{RowAt, NoRow}
 use Rattle.tables.specs.Table.{find_name}
 use Rattle.tables.specs.Layout.{rules, symbols, width}
-use Rattle.grammar.specs.declared.Part.{Part}
-use Rattle.grammar.specs.declared.Part.TheVariants.{Absent, At}
 use Rattle.grammar.specs.declared.Singles.{Singles}
 use Rattle.grammar.specs.declared.Answer.{Answer}
 use Rattle.grammar.specs.declared.Answer.TheVariants.{Going, Done, Refused}
@@ -31,8 +24,6 @@ use Rattle.grammar.specs.declared.State.{State}
 use Rattle.grammar.specs.declared.Cause.{Cause}
 use Rattle.grammar.specs.declared.Refusal.{Refusal}
 use Rattle.grammar.specs.declared.Refusal.TheVariants.{Fault}
-use Rattle.grammar.specs.declared.Gap.{Gap}
-use Rattle.grammar.specs.declared.Gap.TheVariants.{GapTo, GapRefused}
 use Rattle.grammar.specs.Numbers.{part_numbers}
 use Rattle.grammar.specs.State.{Out0, Out1, Passed, Onward, Moves, pass_on, count, with_at, with_singles, gap_at, push_row, past_gap, refused}
 use Rattle.grammar.proofs.Touch.{pass_going}
@@ -47,8 +38,8 @@ mark_fits [] s i h e = omega arith
 mark_fits (c ∷ cs) s i h e = starts_fits (c ∷ cs) s i e (omega arith)
 
 -- spacing, a mark, and spacing again
-module _ (src : List ℕ) (s : State) (word : List ℕ) (cause : Cause) (g : Gap) (q : g ≡ gap_at s.kind true src s.at) where
-  module _ (i n : ℕ) (e : g ≡ GapTo i n) (b : Bool) (is : b ≡ starts_at word src i) where
+module _ (src : List ℕ) (s : State) (word : List ℕ) (cause : Cause) (g : Result (ℕ × ℕ) Refusal) (q : g ≡ gap_at s.kind true src s.at) where
+  module _ (i n : ℕ) (e : g ≡ Ok (i, n)) (b : Bool) (is : b ≡ starts_at word src i) where
     pub mark_passed : (o : Out0) → b ≡ true → o ≡ past_gap src false (i + length word) s → o ≡ pass_mark src s word cause
     unfolding pass_mark
     mark_passed o t h = rw (← q, e, mark_gap, ← is, t) h
@@ -57,34 +48,34 @@ module _ (src : List ℕ) (s : State) (word : List ℕ) (cause : Cause) (g : Gap
     unfolding pass_mark
     mark_missing t = rw (← q, e, mark_gap, ← is, t)
 
-  pub mark_refused : (f : Refusal) → g ≡ GapRefused f → refused f s ≡ pass_mark src s word cause
+  pub mark_refused : (f : Refusal) → g ≡ Err f → refused f s ≡ pass_mark src s word cause
   unfolding pass_mark
   mark_refused f e = rw (← q, e)
 
 -- the start
 module _ (s : State) (from to : ℕ) where
-  pub start_none : (g : Singles) → s.singles.start ≡ Absent → g ≡ with_start s.singles (At from to) → with_singles s g ≡ first_start s from to
+  pub start_none : (g : Singles) → s.singles.start ≡ None → g ≡ with_start s.singles (Some (from, to)) → with_singles s g ≡ first_start s from to
   unfolding first_start
   start_none g e h = rw (e, h)
 
-  pub start_given_lem : (a b : ℕ) → s.singles.start ≡ At a b → s ≡ first_start s from to
+  pub start_given_lem : (a b : ℕ) → s.singles.start ≡ Some (a, b) → s ≡ first_start s from to
   unfolding first_start
   start_given_lem a b e = rw e
 
 -- the type ends at a colon of the source
-pub colon_at : (src : List ℕ) (i : ℕ) (w : ColonText) (j n : ℕ) (p : Place) → ColonTexts src i w → w ≡ Upto j n p → Passed src i j
+pub colon_at : (src : List ℕ) (i : ℕ) (w : Result (ℕ × ℕ × Place) ℕ) (j n : ℕ) (p : Place) → ColonTexts src i w → w ≡ Ok (j, n, p) → Passed src i j
 colon_at src i w j n p x e =
     let y = rw e at x in
     let k = y.0 in
     let l = y.1 in
     record { onward = omega arith; inside = omega arith }
 
-module _ (src : List ℕ) (s : State) (w : ColonText) (q : w ≡ colon_text_at src s.at) where
-  pub colon_upto : (to n : ℕ) (p : Place) → w ≡ Upto to n p → record { answer = Going; state = with_at s to; given = At p.from p.to } ≡ colon_type src s
+module _ (src : List ℕ) (s : State) (w : Result (ℕ × ℕ × Place) ℕ) (q : w ≡ colon_text_at src s.at) where
+  pub colon_upto : (to n : ℕ) (p : Place) → w ≡ Ok (to, n, p) → record { answer = Going; state = with_at s to; given = Some (p.from, p.to) } ≡ colon_type src s
   unfolding colon_type
   colon_upto to n p e = rw (← q, e)
 
-  pub colon_open : (i : ℕ) → w ≡ NoColon i → record { answer = Refused (Fault ReachedEnd i); state = s; given = Absent } ≡ colon_type src s
+  pub colon_open : (i : ℕ) → w ≡ Err i → record { answer = Refused (Fault ReachedEnd i); state = s; given = None } ≡ colon_type src s
   unfolding colon_type
   colon_open i e = rw (← q, e)
 
@@ -93,11 +84,11 @@ module _ (src : List ℕ) (s : State) (o : Out0) (q : o ≡ pass_mark src s (45 
   unfolding arrow_type
   arrow_going z e h = rw (← q, e) h
 
-  pub arrow_done : o.answer ≡ Done → record { answer = Done; state = o.state; given = Absent } ≡ arrow_type src s
+  pub arrow_done : o.answer ≡ Done → record { answer = Done; state = o.state; given = None } ≡ arrow_type src s
   unfolding arrow_type
   arrow_done e = rw (← q, e)
 
-  pub arrow_refused : (f : Refusal) → o.answer ≡ Refused f → record { answer = Refused f; state = o.state; given = Absent } ≡ arrow_type src s
+  pub arrow_refused : (f : Refusal) → o.answer ≡ Refused f → record { answer = Refused f; state = o.state; given = None } ≡ arrow_type src s
   unfolding arrow_type
   arrow_refused f e = rw (← q, e)
 
@@ -111,16 +102,16 @@ module _ (src : List ℕ) (s : State) where
   type_given e = rw (rule_type, e)
 
 -- the rule's row
-three : (p : Part) → get_or (part_numbers p) 0 0 ∷ get_or (part_numbers p) 1 0 ∷ get_or (part_numbers p) 2 0 ∷ [] ≡ part_numbers p
-three Absent = refl
-three (At a b) = refl
+three : (p : Option (ℕ × ℕ)) → get_or (part_numbers p) 0 0 ∷ get_or (part_numbers p) 1 0 ∷ get_or (part_numbers p) 2 0 ∷ [] ≡ part_numbers p
+three None = refl
+three (Some (a, b)) = refl
 
-module _ (src : List ℕ) (s : State) (from to : ℕ) (given : Part) (t7 : List ℕ) (n : ℕ) (w : Found) (c : n ≡ count s rules) (q : w ≡ find_name src (width rules) 0 n t7 from to) where
-  pub rule_again : (r : ℕ) → w ≡ RowAt r → record { answer = Going; state = s; row = r; t7 = t7 } ≡ enter_rule src s from to given t7
+module _ (src : List ℕ) (s : State) (from to : ℕ) (given : Option (ℕ × ℕ)) (t7 : List ℕ) (n : ℕ) (w : Option ℕ) (c : n ≡ count s rules) (q : w ≡ find_name src (width rules) 0 n t7 from to) where
+  pub rule_again : (r : ℕ) → w ≡ Some r → record { answer = Going; state = s; row = r; t7 = t7 } ≡ enter_rule src s from to given t7
   unfolding enter_rule
   rule_again r e = rw (← c, ← q, e)
 
-  pub rule_new : (x : List ℕ) (o : Out1) → w ≡ NoRow → x ≡ part_numbers given → o ≡ push_row s rules (from ∷ to ∷ get_or x 0 0 ∷ get_or x 1 0 ∷ get_or x 2 0 ∷ []) t7
+  pub rule_new : (x : List ℕ) (o : Out1) → w ≡ None → x ≡ part_numbers given → o ≡ push_row s rules (from ∷ to ∷ get_or x 0 0 ∷ get_or x 1 0 ∷ get_or x 2 0 ∷ []) t7
       → record { answer = o.answer; state = o.state; row = n; t7 = o.a } ≡ enter_rule src s from to given t7
   unfolding enter_rule
   rule_new x o e k h =
@@ -141,17 +132,17 @@ module _ (src : List ℕ) (s : State) (j : ℕ) (t7 : List ℕ) (first : State) 
   unfolding named_head
   head_refused f e = rw (← k, ← q, e)
 
-module _ (src : List ℕ) (s : State) (t7 : List ℕ) (w : Name) (q : w ≡ name_at src s.at) where
-  pub head_named : (j : ℕ) (h : Heading) → w ≡ NameTo j → h ≡ named_head src s j t7 → h ≡ rule_head src s t7
+module _ (src : List ℕ) (s : State) (t7 : List ℕ) (w : Result ℕ ℕ) (q : w ≡ name_at src s.at) where
+  pub head_named : (j : ℕ) (h : Heading) → w ≡ Ok j → h ≡ named_head src s j t7 → h ≡ rule_head src s t7
   unfolding rule_head
   head_named j h e z = rw (← q, e) z
 
-  pub head_none : (k : ℕ) → w ≡ NoName k → record { answer = Refused (Fault IllegalName k); state = s; row = 0; t7 = t7 } ≡ rule_head src s t7
+  pub head_none : (k : ℕ) → w ≡ Err k → record { answer = Refused (Fault IllegalName k); state = s; row = 0; t7 = t7 } ≡ rule_head src s t7
   unfolding rule_head
   head_none k e = rw (← q, e)
 
 -- behind its name a head is further on
-pub named_moves : (src : List ℕ) (at j after : ℕ) (w : Name) (a : Answer) → Named src at w → w ≡ NameTo j → Passed src j after → Moves src at a after
+pub named_moves : (src : List ℕ) (at j after : ℕ) (w : Result ℕ ℕ) (a : Answer) → Named src at w → w ≡ Ok j → Passed src j after → Moves src at a after
 named_moves src at j after w a x e p =
     let y = rw e at x in
     let k = y.0 in
@@ -164,12 +155,12 @@ module _ (src : List ℕ) (s : State) (b : Bool) (is : b ≡ starts_at percents 
   unfolding programs_from
   no_programs e = rw (programs_from, ← is, e)
 
-  module _ (t : b ≡ true) (g : Gap) (q : g ≡ gap_at s.kind true src (s.at + 2)) where
-    pub programs_text_lem : (i n : ℕ) (y : Singles) → g ≡ GapTo i n → y ≡ with_programs s.singles (At i (length src)) → record { answer = Going; state = with_singles (with_at s (length src)) y } ≡ programs_from src s
+  module _ (t : b ≡ true) (g : Result (ℕ × ℕ) Refusal) (q : g ≡ gap_at s.kind true src (s.at + 2)) where
+    pub programs_text_lem : (i n : ℕ) (y : Singles) → g ≡ Ok (i, n) → y ≡ with_programs s.singles (Some (i, length src)) → record { answer = Going; state = with_singles (with_at s (length src)) y } ≡ programs_from src s
     unfolding programs_from
     programs_text_lem i n y e h = rw (programs_from, ← is, t, ← q, e, h)
 
-    pub programs_refused : (f : Refusal) → g ≡ GapRefused f → refused f s ≡ programs_from src s
+    pub programs_refused : (f : Refusal) → g ≡ Err f → refused f s ≡ programs_from src s
     unfolding programs_from
     programs_refused f e = rw (programs_from, ← is, t, ← q, e)
 

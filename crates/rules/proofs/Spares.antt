@@ -1,4 +1,5 @@
 -- What heads and bodies of rules leave of the counts, and so of the indexes. Assumes nothing.
+use Rattle.std.specs.Prelude.{Option, Some, None, Result, Ok, Err}
 use Prim.Native.Nat.{ℕ, ◌+◌}
 use mathlib.Core.Path.{◌≡◌, refl, ap}
 use mathlib.Core.List.{List, [], ◌∷◌}
@@ -7,24 +8,16 @@ use native.Mathlib.Omega.{arith}
 use lib.Dec.{eqb}
 use lib.ListN.{length}
 use Rattle.scan.specs.Scan.{starts_at}
-use Rattle.texts.specs.declared.ColonText.{ColonText}
-use Rattle.texts.specs.declared.ColonText.TheVariants.{Upto, NoColon}
+use Rattle.scan.specs.declared.Place.{Place}
 use Rattle.texts.specs.Colon.{colon_text_at}
-use Rattle.words.specs.declared.Name.{Name}
-use Rattle.words.specs.declared.Name.TheVariants.{NameTo, NoName}
 use Rattle.words.specs.Words.{name_at}
-use Rattle.tables.specs.declared.Found.{Found}
-use Rattle.tables.specs.declared.Found.TheVariants.{RowAt, NoRow}
 use Rattle.tables.specs.Table.{find_name}
 use Rattle.tables.specs.Layout.{tokens, rules, productions, symbols, width}
 use Rattle.grammar.specs.declared.Answer.{Answer}
 use Rattle.grammar.specs.declared.Answer.TheVariants.{Going, Done, Refused}
 use Rattle.grammar.specs.declared.Cause.{Cause}
 use Rattle.grammar.specs.declared.Cause.TheVariants.{MissingColon, MissingRightArrow}
-use Rattle.grammar.specs.declared.Gap.{Gap}
-use Rattle.grammar.specs.declared.Gap.TheVariants.{GapTo, GapRefused}
-use Rattle.grammar.specs.declared.Part.{Part}
-use Rattle.grammar.specs.declared.Part.TheVariants.{Absent, At}
+use Rattle.grammar.specs.declared.Refusal.{Refusal}
 use Rattle.grammar.specs.declared.State.{State}
 use Rattle.grammar.specs.Cells.{rule_cells}
 use Rattle.grammar.specs.State.{Out0, Tracked, Tokens, Rules, count, with_at, gap_at}
@@ -39,29 +32,29 @@ module _ (k : ℕ) (src : List ℕ) where
   unfolding pass_mark
   mark_spares s word cause = go (gap_at s.kind true src s.at)
     where
-      by : (i : ℕ) (b : Bool) → starts_at word src i ≡ b → Spares k s.counts (mark_gap (GapTo i 0) src s word cause).state.counts
+      by : (i : ℕ) (b : Bool) → starts_at word src i ≡ b → Spares k s.counts (mark_gap (Ok (i, 0)) src s word cause).state.counts
       by i true e = rw (e, mark_gap) (spares_pass k src false (i + length word) Going s)
       by i false e = rw (e, mark_gap) (spares_none k s.counts)
 
-      go : (g : Gap) → Spares k s.counts (mark_gap g src s word cause).state.counts
-      go (GapTo i n) = by i (starts_at word src i) refl
-      go (GapRefused f) = spares_none k s.counts
+      go : (g : Result (ℕ × ℕ) Refusal) → Spares k s.counts (mark_gap g src s word cause).state.counts
+      go (Ok (i, n)) = by i (starts_at word src i) refl
+      go (Err f) = spares_none k s.counts
 
   first_spares : (s : State) (from to : ℕ) → Spares k s.counts (first_start s from to).counts
   unfolding first_start
   first_spares s from to = go s.singles.start
     where
-      go : (p : Part) → Spares k s.counts (start_or p s from to).counts
-      go Absent = spares_none k s.counts
-      go (At a b) = spares_none k s.counts
+      go : (p : Option (ℕ × ℕ)) → Spares k s.counts (start_or p s from to).counts
+      go None = spares_none k s.counts
+      go (Some (a, b)) = spares_none k s.counts
 
   colon : (s : State) → Spares k s.counts (colon_type src s).state.counts
   unfolding colon_type
   colon s = go (colon_text_at src s.at)
     where
-      go : (x : ColonText) → Spares k s.counts (colon_given x s).state.counts
-      go (Upto to n p) = spares_none k s.counts
-      go (NoColon i) = spares_none k s.counts
+      go : (x : Result (ℕ × ℕ × Place) ℕ) → Spares k s.counts (colon_given x s).state.counts
+      go (Ok (to, n, p)) = spares_none k s.counts
+      go (Err i) = spares_none k s.counts
 
   arrow : (s : State) → Spares k s.counts (arrow_type src s).state.counts
   unfolding arrow_type
@@ -85,9 +78,9 @@ module _ (k : ℕ) (src : List ℕ) where
   unfolding programs_from
   programs_spares s = by (starts_at percents src s.at) refl
     where
-      go : (g : Gap) → Spares k s.counts (programs_gap g src s).state.counts
-      go (GapTo i n) = spares_none k s.counts
-      go (GapRefused f) = spares_none k s.counts
+      go : (g : Result (ℕ × ℕ) Refusal) → Spares k s.counts (programs_gap g src s).state.counts
+      go (Ok (i, n)) = spares_none k s.counts
+      go (Err f) = spares_none k s.counts
 
       by : (b : Bool) → starts_at percents src s.at ≡ b → Spares k s.counts (programs_from src s).state.counts
       by true e = rw (e, programs_from) (go (gap_at s.kind true src (s.at + 2)))
@@ -95,13 +88,13 @@ module _ (k : ℕ) (src : List ℕ) where
 
   -- a head leaves every count but that of table 7
   module _ (seventh : rules ≡ k → ⊥) where
-    enter : (s : State) (from to : ℕ) (given : Part) (t7 : List ℕ) → Spares k s.counts (enter_rule src s from to given t7).state.counts
+    enter : (s : State) (from to : ℕ) (given : Option (ℕ × ℕ)) (t7 : List ℕ) → Spares k s.counts (enter_rule src s from to given t7).state.counts
     unfolding enter_rule
     enter s from to given t7 = go (find_name src (width rules) 0 (count s rules) t7 from to)
       where
-        go : (f : Found) → Spares k s.counts (rule_found f s from to given t7).state.counts
-        go (RowAt r) = spares_none k s.counts
-        go NoRow = spares_push k s rules (rule_cells from to given) t7 seventh
+        go : (f : Option ℕ) → Spares k s.counts (rule_found f s from to given t7).state.counts
+        go (Some r) = spares_none k s.counts
+        go None = spares_push k s rules (rule_cells from to given) t7 seventh
 
     named : (s : State) (j : ℕ) (t7 : List ℕ) → Spares k s.counts (named_head src s j t7).state.counts
     unfolding named_head
@@ -109,7 +102,7 @@ module _ (k : ℕ) (src : List ℕ) where
         let ty = rule_type src (with_at (first_start s s.at j) j) in
         spares_on (spares_on (first_spares s s.at j) (type_spares (with_at (first_start s s.at j) j))) (go ty.answer ty.state ty.given)
       where
-        go : (a : Answer) (u : State) (given : Part) → Spares k u.counts (typed_head a src u given s.at j t7).state.counts
+        go : (a : Answer) (u : State) (given : Option (ℕ × ℕ)) → Spares k u.counts (typed_head a src u given s.at j t7).state.counts
         go Going u given = enter u s.at j given t7
         go Done u given = spares_none k u.counts
         go (Refused f) u given = spares_none k u.counts
@@ -118,9 +111,9 @@ module _ (k : ℕ) (src : List ℕ) where
     unfolding rule_head
     head_spares s t7 = go (name_at src s.at)
       where
-        go : (x : Name) → Spares k s.counts (head_found x src s t7).state.counts
-        go (NameTo j) = named s j t7
-        go (NoName i) = spares_none k s.counts
+        go : (x : Result ℕ ℕ) → Spares k s.counts (head_found x src s t7).state.counts
+        go (Ok j) = named s j t7
+        go (Err i) = spares_none k s.counts
 
   -- a body leaves every count but those of tables 1, 8 and 9
   module _ (first : tokens ≡ k → ⊥) (eighth : productions ≡ k → ⊥) (ninth : symbols ≡ k → ⊥) where
@@ -138,7 +131,7 @@ module _ (src : List ℕ) (s : State) (t ix : List ℕ) (a : Answer) (q : State)
   pub by_mark : (k w name : ℕ) (word : List ℕ) (cause : Cause) → ◌≡◌ {A = Out0} (record { answer = a; state = q }) (pass_mark src s word cause) → Tracked src k w name s.counts t ix → Tracked src k w name q.counts t ix
   by_mark k w name word cause e I = rw (ap (λ (o : Out0). o.state.counts) e) (spared (mark_spares k src s word cause) I)
 
-  pub by_type : (given : Part) → ◌≡◌ {A = Typing} (record { answer = a; state = q; given = given }) (rule_type src s) → Rules src s.counts t ix → Rules src q.counts t ix
+  pub by_type : (given : Option (ℕ × ℕ)) → ◌≡◌ {A = Typing} (record { answer = a; state = q; given = given }) (rule_type src s) → Rules src s.counts t ix → Rules src q.counts t ix
   by_type given e I = rw (ap (λ (o : Typing). o.state.counts) e) (spared (type_spares 6 src s) I)
 
   pub by_head : (row : ℕ) (t7 u7 : List ℕ) → ◌≡◌ {A = Heading} (record { answer = a; state = q; row = row; t7 = u7 }) (rule_head src s t7) → Tokens src s.counts t ix → Tokens src q.counts t ix

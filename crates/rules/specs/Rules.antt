@@ -1,19 +1,12 @@
 -- Document 01, "Rules", and the crate's `parse_rule`, `parse_rules` and `parse_programs`.
-use Rattle.std.specs.Prelude.{ℕ, suc, ◌+◌, List, [], ◌∷◌, Bool, true, false, leb, eqb, length}
+use Rattle.std.specs.Prelude.{ℕ, suc, ◌+◌, List, [], ◌∷◌, Bool, true, false, leb, eqb, length, Option, Some, None, Result, Ok, Err}
 use Rattle.scan.specs.Scan.{starts_at}
 use Rattle.scan.specs.Loop.{Turn, stop, turns}
-use Rattle.words.specs.declared.Name.{Name}
-use Rattle.words.specs.declared.Name.TheVariants.{NameTo, NoName}
 use Rattle.words.specs.Words.{name_at}
-use Rattle.texts.specs.declared.ColonText.{ColonText}
-use Rattle.texts.specs.declared.ColonText.TheVariants.{Upto, NoColon}
+use Rattle.scan.specs.declared.Place.{Place}
 use Rattle.texts.specs.Colon.{colon_text_at}
-use Rattle.tables.specs.declared.Found.{Found}
-use Rattle.tables.specs.declared.Found.TheVariants.{RowAt, NoRow}
 use Rattle.tables.specs.Table.{find_name}
 use Rattle.tables.specs.Layout.{rules, symbols, width}
-use Rattle.grammar.specs.declared.Part.{Part}
-use Rattle.grammar.specs.declared.Part.TheVariants.{Absent, At}
 use Rattle.grammar.specs.declared.Singles.{Singles}
 use Rattle.grammar.specs.declared.State.{State}
 use Rattle.grammar.specs.declared.Cause.{Cause}
@@ -21,8 +14,7 @@ use Rattle.grammar.specs.declared.Cause.TheVariants.{IllegalName, MissingColon, 
 use Rattle.grammar.specs.declared.Refusal.TheVariants.{Fault}
 use Rattle.grammar.specs.declared.Answer.{Answer}
 use Rattle.grammar.specs.declared.Answer.TheVariants.{Going, Done, Refused}
-use Rattle.grammar.specs.declared.Gap.{Gap}
-use Rattle.grammar.specs.declared.Gap.TheVariants.{GapTo, GapRefused}
+use Rattle.grammar.specs.declared.Refusal.{Refusal}
 use Rattle.grammar.specs.Cells.{rule_cells}
 use Rattle.grammar.specs.State.{Out0, Out1, count, with_at, with_singles, gap_at, push_row, past_gap, pass_on, refused, onward}
 use Rattle.settings.specs.Singles.{with_start}
@@ -32,7 +24,7 @@ use Rattle.items.specs.Items.{Itemed, begun, item_list}
 pub record Typing : Type 0 where
   pub answer : Answer
   pub state : State
-  pub given : Part
+  pub given : Option (ℕ × ℕ)
 
 -- the row of a rule, or why there is none
 pub record Heading : Type 0 where
@@ -51,25 +43,25 @@ pub record Ruled : Type 0 where
   pub t9 : List ℕ
 
 -- spacing, a mark that is sought behind it, and spacing again
-abbrev pub mark_gap : Gap → List ℕ → State → List ℕ → Cause → Out0
-mark_gap (GapTo i n) src s word cause = elim (starts_at word src i) [ true ↦ past_gap src false (i + length word) s | false ↦ refused (Fault cause i) s ]
-mark_gap (GapRefused f) src s word cause = refused f s
+abbrev pub mark_gap : Result (ℕ × ℕ) Refusal → List ℕ → State → List ℕ → Cause → Out0
+mark_gap (Ok (i, n)) src s word cause = elim (starts_at word src i) [ true ↦ past_gap src false (i + length word) s | false ↦ refused (Fault cause i) s ]
+mark_gap (Err f) src s word cause = refused f s
 
 unfoldable pub pass_mark : List ℕ → State → List ℕ → Cause → Out0
 pass_mark src s word cause = mark_gap (gap_at s.kind true src s.at) src s word cause
 
 -- "The first rule is the start if `%start` gave none."
-abbrev pub start_or : Part → State → ℕ → ℕ → State
-start_or Absent s from to = with_singles s (with_start s.singles (At from to))
-start_or (At a b) s from to = s
+abbrev pub start_or : Option (ℕ × ℕ) → State → ℕ → ℕ → State
+start_or None s from to = with_singles s (with_start s.singles (Some (from, to)))
+start_or (Some (a, b)) s from to = s
 
 unfoldable pub first_start : State → ℕ → ℕ → State
 first_start s from to = start_or s.singles.start s from to
 
 -- "a type up to a single colon", trimmed
-abbrev pub colon_given : ColonText → State → Typing
-colon_given (Upto to n p) s = record { answer = Going; state = with_at s to; given = At p.from p.to }
-colon_given (NoColon i) s = record { answer = Refused (Fault ReachedEnd i); state = s; given = Absent }
+abbrev pub colon_given : Result (ℕ × ℕ × Place) ℕ → State → Typing
+colon_given (Ok (to, n, p)) s = record { answer = Going; state = with_at s to; given = Some (p.from, p.to) }
+colon_given (Err i) s = record { answer = Refused (Fault ReachedEnd i); state = s; given = None }
 
 unfoldable pub colon_type : List ℕ → State → Typing
 colon_type src s = colon_given (colon_text_at src s.at) s
@@ -77,8 +69,8 @@ colon_type src s = colon_given (colon_text_at src s.at) s
 -- "In kind 2 the name is followed by `->`", else 8
 abbrev pub arrow_passed : Answer → List ℕ → State → Typing
 arrow_passed Going src s = colon_type src s
-arrow_passed Done src s = record { answer = Done; state = s; given = Absent }
-arrow_passed (Refused f) src s = record { answer = Refused f; state = s; given = Absent }
+arrow_passed Done src s = record { answer = Done; state = s; given = None }
+arrow_passed (Refused f) src s = record { answer = Refused f; state = s; given = None }
 
 abbrev pub arrow_out : List ℕ → Out0 → Typing
 arrow_out src o = arrow_passed o.answer src o.state
@@ -94,15 +86,15 @@ rule_type src s = elim (eqb s.kind 2) [ true ↦ arrow_type src s | false ↦ re
 abbrev pub new_rule : ℕ → Out1 → Heading
 new_rule n o = record { answer = o.answer; state = o.state; row = n; t7 = o.a }
 
-abbrev pub rule_found : Found → State → ℕ → ℕ → Part → List ℕ → Heading
-rule_found (RowAt r) s from to given t7 = record { answer = Going; state = s; row = r; t7 = t7 }
-rule_found NoRow s from to given t7 = new_rule (count s rules) (push_row s rules (rule_cells from to given) t7)
+abbrev pub rule_found : Option ℕ → State → ℕ → ℕ → Option (ℕ × ℕ) → List ℕ → Heading
+rule_found (Some r) s from to given t7 = record { answer = Going; state = s; row = r; t7 = t7 }
+rule_found None s from to given t7 = new_rule (count s rules) (push_row s rules (rule_cells from to given) t7)
 
-unfoldable pub enter_rule : List ℕ → State → ℕ → ℕ → Part → List ℕ → Heading
+unfoldable pub enter_rule : List ℕ → State → ℕ → ℕ → Option (ℕ × ℕ) → List ℕ → Heading
 enter_rule src s from to given t7 = rule_found (find_name src (width rules) 0 (count s rules) t7 from to) s from to given t7
 
 -- "the rule is entered after the type"
-abbrev pub typed_head : Answer → List ℕ → State → Part → ℕ → ℕ → List ℕ → Heading
+abbrev pub typed_head : Answer → List ℕ → State → Option (ℕ × ℕ) → ℕ → ℕ → List ℕ → Heading
 typed_head Going src s given from to t7 = enter_rule src s from to given t7
 typed_head Done src s given from to t7 = record { answer = Done; state = s; row = 0; t7 = t7 }
 typed_head (Refused f) src s given from to t7 = record { answer = Refused f; state = s; row = 0; t7 = t7 }
@@ -114,9 +106,9 @@ unfoldable pub named_head : List ℕ → State → ℕ → List ℕ → Heading
 named_head src s j t7 = head_out src (rule_type src (with_at (first_start s s.at j) j)) s.at j t7
 
 -- a rule's name; "2 IllegalName" where it was sought
-abbrev pub head_found : Name → List ℕ → State → List ℕ → Heading
-head_found (NameTo j) src s t7 = named_head src s j t7
-head_found (NoName k) src s t7 = record { answer = Refused (Fault IllegalName k); state = s; row = 0; t7 = t7 }
+abbrev pub head_found : Result ℕ ℕ → List ℕ → State → List ℕ → Heading
+head_found (Ok j) src s t7 = named_head src s j t7
+head_found (Err k) src s t7 = record { answer = Refused (Fault IllegalName k); state = s; row = 0; t7 = t7 }
 
 unfoldable pub rule_head : List ℕ → State → List ℕ → Heading
 rule_head src s t7 = head_found (name_at src s.at) src s t7
@@ -188,12 +180,12 @@ unfoldable pub rules_all : List ℕ → State → List ℕ → List ℕ → List
 rules_all src s t1 t7 t8 t9 = rules_out src (pass_mark src s percents UnknownDeclaration) t1 t7 t8 t9
 
 -- "Behind a second `%%`, spacing passes and the rest is the programs text, given even if empty."
-abbrev pub with_programs : Singles → Part → Singles
+abbrev pub with_programs : Singles → Option (ℕ × ℕ) → Singles
 with_programs g p = record { start = g.start; expect = g.expect; expect_rr = g.expect_rr; param = g.param; generics = g.generics; programs = p }
 
-abbrev pub programs_gap : Gap → List ℕ → State → Out0
-programs_gap (GapTo i n) src s = record { answer = Going; state = with_singles (with_at s (length src)) (with_programs s.singles (At i (length src))) }
-programs_gap (GapRefused f) src s = refused f s
+abbrev pub programs_gap : Result (ℕ × ℕ) Refusal → List ℕ → State → Out0
+programs_gap (Ok (i, n)) src s = record { answer = Going; state = with_singles (with_at s (length src)) (with_programs s.singles (Some (i, length src))) }
+programs_gap (Err f) src s = refused f s
 
 unfoldable pub programs_from : List ℕ → State → Out0
 programs_from src s =

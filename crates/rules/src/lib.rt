@@ -6,17 +6,14 @@ ghost use Rattle.grammar.specs.State.{Out0, Here, Passed, Moves, Onward, Tokens,
 ghost use Rattle.items.specs.Items.{Itemed};
 ghost use Rattle.rules.specs.Rules.{pass_mark, first_start, Typing, colon_type, arrow_type, rule_type, Heading, enter_rule, named_head, rule_head, rule_body, Ruled, rule_step, next_rule, rules_run, rules_all, with_programs, programs_from};
 
-use grammar::{Answer, Cause, Gap, Part, Refusal, Singles, State, Step};
-use tables::Found;
-use texts::ColonText;
-use words::Name;
+use grammar::{Answer, Cause, Refusal, Singles, State, Step};
 
 // The type of a rule, or why there is none.
 #[derive(Clone, Copy)]
 pub struct Typed {
     pub answer: Answer,
     pub state: State,
-    pub given: Part,
+    pub given: Option<(u32, u32)>,
 }
 
 // The row of a rule, or why there is none.
@@ -35,7 +32,7 @@ pub fn pass_mark(src: &[u8], s: State, word: &[u8], cause: Cause) -> Step
 {
     let at = s.at;
     match grammar::pass_gap(src, s.kind, at, true) {
-        Gap::GapTo(i, _) => {
+        Ok((i, _)) => {
             if scan::starts(src, i, word) {
                 return grammar::past_gap(src, s, i + word.len(), false);
             }
@@ -44,7 +41,7 @@ pub fn pass_mark(src: &[u8], s: State, word: &[u8], cause: Cause) -> Step
                 state: s,
             }
         }
-        Gap::GapRefused(f) => Step {
+        Err(f) => Step {
             answer: Answer::Refused(f),
             state: s,
         },
@@ -58,12 +55,12 @@ pub fn first_start(s: State, from: u32, to: u32) -> State
     let g = s.singles;
     let p = g.start;
     match p {
-        Part::Absent => {
+        None => {
             let mut n = s;
-            n.singles = settings::with_start(g, Part::At(from, to));
+            n.singles = settings::with_start(g, Some((from, to)));
             n
         }
-        Part::At(_, _) => s,
+        Some((_, _)) => s,
     }
 }
 
@@ -75,19 +72,19 @@ pub fn colon_type(src: &[u8], s: State) -> Typed
 {
     let at = s.at;
     match texts::parse_to_single_colon(src, at) {
-        ColonText::Upto(to, _, p) => {
+        Ok((to, _, p)) => {
             let mut n = s;
             n.at = to;
             Typed {
                 answer: Answer::Going,
                 state: n,
-                given: Part::At(p.from as u32, p.to as u32),
+                given: Some((p.from as u32, p.to as u32)),
             }
         }
-        ColonText::NoColon(i) => Typed {
+        Err(i) => Typed {
             answer: Answer::Refused(Refusal::Fault(Cause::ReachedEnd, i as u32)),
             state: s,
-            given: Part::Absent,
+            given: None,
         },
     }
 }
@@ -106,12 +103,12 @@ pub fn arrow_type(src: &[u8], s: State) -> Typed
         Answer::Done => Typed {
             answer: Answer::Done,
             state: n,
-            given: Part::Absent,
+            given: None,
         },
         Answer::Refused(f) => Typed {
             answer: Answer::Refused(f),
             state: n,
-            given: Part::Absent,
+            given: None,
         },
     }
 }
@@ -139,7 +136,7 @@ pub fn enter_rule(
     s: State,
     from: u32,
     to: u32,
-    given: Part,
+    given: Option<(u32, u32)>,
     t7: &mut [u32],
     i7: &mut [u16],
 ) -> Headed
@@ -150,12 +147,12 @@ pub fn enter_rule(
 {
     let n = grammar::count_of(s, tables::RULES);
     match finder::find(src, t7, tables::RULE_WIDTH, tables::NAME, n, i7, from, to) {
-        Found::RowAt(r) => Headed {
+        Some(r) => Headed {
             answer: Answer::Going,
             state: s,
             row: r,
         },
-        Found::NoRow => {
+        None => {
             let x = grammar::part_cells(given);
             let row = [from, to, x[0], x[1], x[2]];
             let r = grammar::push_entered(
@@ -219,8 +216,8 @@ pub fn rule_head(src: &[u8], s: State, t7: &mut [u32], i7: &mut [u16]) -> Headed
 {
     let at = s.at;
     match words::parse_name(src, at) {
-        Name::NameTo(j) => named_head(src, s, j, t7, i7),
-        Name::NoName(k) => Headed {
+        Ok(j) => named_head(src, s, j, t7, i7),
+        Err(k) => Headed {
             answer: Answer::Refused(Refusal::Fault(Cause::IllegalName, k as u32)),
             state: s,
             row: 0,
@@ -395,7 +392,7 @@ pub fn rules(
     }
 }
 
-pub fn with_programs(g: Singles, p: Part) -> Singles
+pub fn with_programs(g: Singles, p: Option<(u32, u32)>) -> Singles
     ensures { result ≡ with_programs g p }
 {
     let start = g.start;
@@ -427,18 +424,18 @@ pub fn programs(src: &[u8], s: State) -> Step
         };
     }
     match grammar::pass_gap(src, s.kind, at + 2, true) {
-        Gap::GapTo(i, _) => {
+        Ok((i, _)) => {
             let end = src.len();
             let g = s.singles;
             let mut n = s;
             n.at = end;
-            n.singles = with_programs(g, Part::At(i as u32, end as u32));
+            n.singles = with_programs(g, Some((i as u32, end as u32)));
             Step {
                 answer: Answer::Going,
                 state: n,
             }
         }
-        Gap::GapRefused(f) => Step {
+        Err(f) => Step {
             answer: Answer::Refused(f),
             state: s,
         },

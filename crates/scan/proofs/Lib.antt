@@ -5,3 +5,4 @@ pub mod Table
 pub mod Tally
 pub mod Lines
 pub mod Cases
+pub mod Tuples

@@ -47,17 +47,10 @@ pub fn is_at(s: &[u8], k: usize, b: u8) -> bool
 pub fn starts(s: &[u8], at: usize, word: &[u8]) -> bool
     ensures { result ≡ starts_at word.now s.now at }
 {
-    let mut i = at;
-    let mut k = 0;
-    while k < word.len() {
-        if s.len() <= i {
+    for (k, b) in word.iter().enumerate() {
+        if !is_at(s, at + k, *b) {
             return false;
         }
-        if s[i] != word[k] {
-            return false;
-        }
-        i += 1;
-        k += 1;
     }
     true
 }
@@ -107,15 +100,12 @@ pub fn run_end(s: &[u8], from: usize, class: Class) -> usize
     ensures value { result ≡ run_end_at (in_class class) s.now from }
     ensures runs { Runs (in_class class) s.now from result }
 {
-    let mut i = from;
-    while i < s.len() {
-        let c = s[i];
-        if !in_class(c, class) {
+    for i in from..s.len() {
+        if !in_class(s[i], class) {
             return i;
         }
-        i += 1;
     }
-    i
+    s.len()
 }
 
 // Whether the eight bytes from `i` on are of the class; not so, where there are not so many.
@@ -144,6 +134,7 @@ pub fn far_end(s: &[u8], from: usize, class: Class) -> usize
     ensures runs { Runs (in_class class) s.now from result }
 {
     let mut i = from;
+    // by hand: no range's end says where it stops, and the scan goes on from there
     while eight_in(s, i, class) {
         i += 8;
     }

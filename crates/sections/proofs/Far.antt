@@ -1,5 +1,6 @@
 -- The sections of a source are sound so far, whatever their answer, on tables that were zero; and in kinds 1 to 3 they leave tables 15 to 17 and their counts.
 -- Assumes nothing.
+use Rattle.std.specs.Prelude.{Result, Ok, Err}
 use Prim.Native.Nat.{ℕ, ◌≤◌}
 use mathlib.Core.Path.{◌≡◌, refl, sym, ap}
 use mathlib.Core.List.{List, [], ◌∷◌}
@@ -9,8 +10,6 @@ use lib.Dec.{ltb}
 use lib.ListN.{length, get_or, replicate}
 use borrow.Author.Tests.{ltb-false}
 use Rattle.scan.proofs.Bytes.{on_test}
-use Rattle.whole.specs.declared.Checked.{Checked}
-use Rattle.whole.specs.declared.Checked.TheVariants.{Good, BadAt}
 use Rattle.whole.specs.Whole.{check_at}
 use Rattle.tables.specs.Table.{zeroed}
 use Rattle.tables.specs.Layout.{symbols, tags, token_numbers, bodies}
@@ -31,18 +30,17 @@ use Rattle.declarations.proofs.Posix.{posix_arms}
 use Rattle.declarations.proofs.Far.{FarAll, declarations_far}
 use Rattle.rules.specs.Rules.{Ruled, rules_all}
 use Rattle.rules.proofs.Far.{Whole, WholeFar, rules_far, programs_far}
-use Rattle.sections.specs.declared.Admission.{Admission}
-use Rattle.sections.specs.declared.Admission.TheVariants.{Fit, Unfit}
+use Rattle.grammar.specs.declared.Refusal.{Refusal}
 use Rattle.sections.specs.Sections.{Run, as_text, sized_text, admitted, rest_from, rest_all, declared, with_declared, sections_from, sections_all}
 
 -- What holds of a source that is not too long, with indexes that have right sizes, and of the four refusals of any other, holds of what an admission comes to.
-pub admit_cases : (C : Admission → Type 0) (src : List ℕ) (kind : ℕ) (fit : Bool) → (length src ≤ 65536 → fit ≡ true → C Fit) → ((i : ℕ) → C (Unfit (Fault NotUtf8 i))) → C (Unfit TooLong) → C (Unfit BadKind) → C (Unfit BadIndex) → C (admitted src kind fit)
+pub admit_cases : (C : Result (Unit {0}) Refusal → Type 0) (src : List ℕ) (kind : ℕ) (fit : Bool) → (length src ≤ 65536 → fit ≡ true → C (Ok tt)) → ((i : ℕ) → C (Err (Fault NotUtf8 i))) → C (Err TooLong) → C (Err BadKind) → C (Err BadIndex) → C (admitted src kind fit)
 unfolding admitted
 admit_cases C src kind fit good text long bad index = on_test C (ltb kind 1 || ltb 4 kind) _ _ (λ e. bad) (λ e. by fit refl)
   where
-    go : (c : Checked) → C Fit → C (as_text c)
-    go Good x = x
-    go (BadAt i) x = text i
+    go : (c : Result (Unit {0}) ℕ) → C (Ok tt) → C (as_text c)
+    go (Ok _) x = x
+    go (Err i) x = text i
 
     by : (b : Bool) → fit ≡ b → C (sized_text b src)
     by true e = on_test C (ltb 65536 (length src)) _ _ (λ h. long) (λ h. go (check_at src 0) (good (ltb-false _ _ h) e))

@@ -1,4 +1,5 @@
 -- The sections of a source: what they came to, one law for each answer. Assumes nothing.
+use Rattle.std.specs.Prelude.{Result, Ok, Err}
 use Prim.Native.Nat.{ℕ, ◌≤◌, ◌<◌}
 use mathlib.Core.Path.{◌≡◌, refl, sym, ap}
 use mathlib.Core.List.{List}
@@ -10,8 +11,6 @@ use lib.Dec.{ltb}
 use lib.ListN.{length, get_or}
 use borrow.Author.Tests.{lt-ltb, le-ltb, not-true, not-false}
 use Rattle.scan.proofs.Bytes.{told}
-use Rattle.whole.specs.declared.Checked.{Checked}
-use Rattle.whole.specs.declared.Checked.TheVariants.{Good, BadAt}
 use Rattle.whole.specs.Whole.{check_at, Below}
 use Rattle.tables.specs.Layout.{tokens, precedences, avoided, implicit, epps, rules, width}
 use Rattle.index.specs.Index.{size_test}
@@ -25,37 +24,35 @@ use Rattle.grammar.specs.State.{Out0, Here, Passed, Tracked, fresh, no_counts}
 use Rattle.grammar.specs.Sound.{AllTables}
 use Rattle.declarations.specs.Declarations.{Givens, Out, decl_all}
 use Rattle.rules.specs.Rules.{Ruled, rules_all, programs_from}
-use Rattle.sections.specs.declared.Admission.{Admission}
-use Rattle.sections.specs.declared.Admission.TheVariants.{Fit, Unfit}
 use Rattle.sections.specs.Sections.{Run, Short, sizes_fit, sized_text, admitted, ran_program, rest_all, declared, with_declared, with_ruled, sections_all, attempted}
 
 -- kind, sizes, length, UTF-8
 module _ (src : List ℕ) (kind : ℕ) (fit : Bool) where
-  pub bad_kind : (ltb kind 1 || ltb 4 kind) ≡ true → Unfit BadKind ≡ admitted src kind fit
+  pub bad_kind : (ltb kind 1 || ltb 4 kind) ≡ true → Err BadKind ≡ admitted src kind fit
   unfolding admitted
   bad_kind e = rw (admitted, e)
 
   module _ (k : (ltb kind 1 || ltb 4 kind) ≡ false) where
-    pub bad_index : not fit ≡ true → Unfit BadIndex ≡ admitted src kind fit
+    pub bad_index : not fit ≡ true → Err BadIndex ≡ admitted src kind fit
     unfolding admitted
     bad_index g = rw (admitted, k, not-true fit g)
 
     module _ (g : not fit ≡ false) where
-      pub too_long : 65536 < length src → Unfit TooLong ≡ admitted src kind fit
+      pub too_long : 65536 < length src → Err TooLong ≡ admitted src kind fit
       unfolding admitted
       too_long h = rw (admitted, k, not-false fit g, sized_text, lt-ltb _ _ h)
 
-      module _ (h : length src ≤ 65536) (w : Checked) (q : w ≡ check_at src 0) where
-        pub is_text : w ≡ Good → Fit ≡ admitted src kind fit
+      module _ (h : length src ≤ 65536) (w : Result (Unit {0}) ℕ) (q : w ≡ check_at src 0) where
+        pub is_text : w ≡ Ok tt → Ok tt ≡ admitted src kind fit
         unfolding admitted
         is_text e = rw (admitted, k, not-false fit g, sized_text, le-ltb _ _ h, ← q, e)
 
-        pub no_text : (i : ℕ) → w ≡ BadAt i → Unfit (Fault NotUtf8 i) ≡ admitted src kind fit
+        pub no_text : (i : ℕ) → w ≡ Err i → Err (Fault NotUtf8 i) ≡ admitted src kind fit
         unfolding admitted
         no_text i e = rw (admitted, k, not-false fit g, sized_text, le-ltb _ _ h, ← q, e)
 
 -- a byte of a source that is not too long is a 32-bit place
-pub bad_byte : (src : List ℕ) (w : Checked) (i : ℕ) → length src ≤ 65536 → Below (length src) w → w ≡ BadAt i → Fits w32 i
+pub bad_byte : (src : List ℕ) (w : Result (Unit {0}) ℕ) (i : ℕ) → length src ≤ 65536 → Below (length src) w → w ≡ Err i → Fits w32 i
 bad_byte src w i h x e = let k = told (Below (length src)) e x in omega arith
 
 -- rules, then programs
@@ -87,7 +84,7 @@ module _ (src : List ℕ) (s : State) (T : AllTables) (o : Out) (q : o ≡ decl_
   sections_refused f e = rw (← q, e)
 
 -- a source that can be read is begun at its begin, and no reading leaves it
-module _ (src : List ℕ) (a : Admission) (x : Short src a) (e : a ≡ Fit) where
+module _ (src : List ℕ) (a : Result (Unit {0}) Refusal) (x : Short src a) (e : a ≡ Ok tt) where
   pub fit_here : (s : State) (kind : ℕ) → s ≡ fresh kind → Here src s.at
   fit_here s kind b = told (λ (y : State). Here src y.at) (sym b) (record { within = omega arith; short = told (Short src) e x })
 
@@ -101,12 +98,12 @@ pub begun_near : (s : State) (kind : ℕ) → s ≡ fresh kind → s.at ≤ 6553
 begun_near s kind b = told (λ (y : State). y.at ≤ 65536) (sym b) (omega arith)
 
 -- its sections
-module _ (src : List ℕ) (kind : ℕ) (T : AllTables) (s : State) (b : s ≡ fresh kind) (fit fits : Bool) (z : fit ≡ fits) (a : Admission) (q : a ≡ admitted src kind fit) where
-  pub attempt_fit : (r : Run) → a ≡ Fit → r ≡ sections_all src s T → r ≡ attempted src kind fits T
+module _ (src : List ℕ) (kind : ℕ) (T : AllTables) (s : State) (b : s ≡ fresh kind) (fit fits : Bool) (z : fit ≡ fits) (a : Result (Unit {0}) Refusal) (q : a ≡ admitted src kind fit) where
+  pub attempt_fit : (r : Run) → a ≡ Ok tt → r ≡ sections_all src s T → r ≡ attempted src kind fits T
   unfolding attempted
   attempt_fit r e h = rw (← z, ← q, e) (rw b at h)
 
-  pub attempt_unfit : (f : Refusal) → a ≡ Unfit f → record { answer = Refused f; state = s; tables = T } ≡ attempted src kind fits T
+  pub attempt_unfit : (f : Refusal) → a ≡ Err f → record { answer = Refused f; state = s; tables = T } ≡ attempted src kind fits T
   unfolding attempted
   attempt_unfit f e = rw (← z, ← q, e, b)
 

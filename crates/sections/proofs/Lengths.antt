@@ -1,4 +1,5 @@
 -- No step of a reading changes the length of a table. Assumes nothing.
+use Rattle.std.specs.Prelude.{Option, Some, None, Result, Ok, Err}
 use Prim.Native.Nat.{ℕ, suc, ◌+◌, ◌*◌}
 use mathlib.Core.Path.{◌≡◌, refl, ap, ◌∙◌}
 use mathlib.Core.List.{List, [], ◌∷◌}
@@ -8,24 +9,17 @@ use lib.ListN.{length, get_or, length-set, length-replicate}
 use Rattle.scan.specs.Scan.{is_at, starts_at}
 use Rattle.scan.proofs.Bytes.{on_test}
 use Rattle.scan.proofs.Loop.{Either, turns_keep}
-use Rattle.words.specs.declared.Name.{Name}
-use Rattle.words.specs.declared.Name.TheVariants.{NameTo, NoName}
-use Rattle.words.specs.declared.Token.{Token}
-use Rattle.words.specs.declared.Token.TheVariants.{Found, NoToken}
-use Rattle.words.specs.declared.Int.{Int}
-use Rattle.words.specs.declared.Int.TheVariants.{Value, NoDigits, TooLarge}
-use Rattle.words.specs.declared.Quote.{Quote}
-use Rattle.words.specs.declared.Quote.TheVariants.{Closed, NotOpened, LineInside, BadEscape, NotClosed}
+use Rattle.scan.specs.declared.Place.{Place}
+use Rattle.words.specs.declared.IntError.{IntError}
+use Rattle.words.specs.declared.IntError.TheVariants.{NoDigits, TooLarge}
+use Rattle.words.specs.declared.QuoteError.{QuoteError}
+use Rattle.words.specs.declared.QuoteError.TheVariants.{NotOpened, LineInside, BadEscape, NotClosed}
 use Rattle.words.specs.Words.{name_at, token_at}
 use Rattle.words.specs.Numbers.{int_at}
 use Rattle.words.specs.Strings.{string_at}
-use Rattle.texts.specs.declared.Brace.{Brace}
-use Rattle.texts.specs.declared.Brace.TheVariants.{Closes, NeverCloses}
 use Rattle.texts.specs.Action.{braced_at}
 use Rattle.texts.specs.Line.{line_end_at}
 use Rattle.texts.specs.Mark.{marked_at}
-use Rattle.tables.specs.declared.Found.{Found as Row}
-use Rattle.tables.specs.declared.Found.TheVariants.{RowAt, NoRow}
 use Rattle.tables.specs.Table.{Added, Inserted, flag, marked, zeroed, find_name}
 use Rattle.tables.specs.Layout.{tokens, precedences, avoided, implicit, epps, unused, rules, productions, symbols, repeats, tags, token_numbers, bodies, declared, key_name, width}
 use Rattle.tables.proofs.Laws.{put_length}
@@ -33,18 +27,13 @@ use Rattle.tables.proofs.Cases.{add_cases, enter_cases}
 use Rattle.keywords.specs.declared.Keyword.{Keyword}
 use Rattle.keywords.specs.declared.Keyword.TheVariants.{Percents, TokenWord, ActiontypeWord, StartWord, EppWord, ExpectRrWord, ExpectUnusedWord, ExpectWord, AvoidInsertWord, ParseParamWord, ParseGenericsWord, ImplicitTokensWord, LeftWord, RightWord, NonassocWord, PrologueWord, UnionWord, TypeWord, NoKeyword}
 use Rattle.keywords.specs.Keywords.{seen_at}
-use Rattle.grammar.specs.declared.Part.{Part}
-use Rattle.grammar.specs.declared.Part.TheVariants.{Absent, At}
-use Rattle.grammar.specs.declared.Expect.{Expect}
-use Rattle.grammar.specs.declared.Expect.TheVariants.{NotExpected, Expected}
 use Rattle.grammar.specs.declared.State.{State}
 use Rattle.grammar.specs.declared.Repeat.{Repeat}
 use Rattle.grammar.specs.declared.Repeat.TheVariants.{RepeatedPrecedence, RepeatedAvoidInsert, RepeatedImplicitTokens, RepeatedEpp}
 use Rattle.grammar.specs.declared.Cause.TheVariants.{MissingColon, UnknownDeclaration}
 use Rattle.grammar.specs.declared.Answer.{Answer}
 use Rattle.grammar.specs.declared.Answer.TheVariants.{Going, Done, Refused}
-use Rattle.grammar.specs.declared.Gap.{Gap}
-use Rattle.grammar.specs.declared.Gap.TheVariants.{GapTo, GapRefused}
+use Rattle.grammar.specs.declared.Refusal.{Refusal}
 use Rattle.grammar.specs.Cells.{token_cells, precedence_cells, name_cells, epp_cells, kind_cells, symbol_cells, rule_cells, tag_cells, number_cells, body_cells}
 use Rattle.grammar.specs.State.{Out0, Out1, Out2, Out3, Out4, count, with_at, with_level, next_level, gap_at, pushed, push_row, list_repeat, entered, enter_step, once_found, once_step, pass_on}
 use Rattle.grammar.specs.Sound.{AllTables, zero_all}
@@ -52,8 +41,6 @@ use Rattle.grammar.proofs.Kept.{onward_keep}
 use Rattle.settings.specs.Singles.{expected_of}
 use Rattle.settings.specs.Settings.{start_given, start_named, start_name, start_from, start_decl, repeated_expect, expect_seen, expect_given, expect_int, expect_from, expect_decl, actiontype_given, actiontype_named, actiontype_from, actiontype_decl}
 use Rattle.marks.specs.Marks.{Leading, lead_tag, tag_given, tag_row, number_given, number_behind, number_after, behind_word}
-use Rattle.lists.specs.declared.Spelling.{Spelling}
-use Rattle.lists.specs.declared.Spelling.TheVariants.{Spelled, Unspelled}
 use Rattle.lists.specs.declared.WordList.{WordList}
 use Rattle.lists.specs.declared.WordList.TheVariants.{TokenList, UnusedList, TypeList}
 use Rattle.lists.specs.Lists.{token_found, token_item, spelled_at, unused_row, unused_spelled, unused_item, type_row, type_spelled, type_item, list_item, ends, after_item, list_turn, percent_list, lead_list, list_led, list_body, list_from, list_decl}
@@ -107,9 +94,9 @@ once_long : (src : List ℕ) (s : State) (k w name : ℕ) (what : Repeat) (row t
 unfolding once_step
 once_long src s k w name what row t u = go (find_name src w name (count s k) t (get_or row name 0) (get_or row (name + 1) 0))
   where
-    go : (r : Row) → Long2 t u (once_found r s k w what row t u)
-    go (RowAt r) = (refl, repeat_long s what _ _ _ _ u)
-    go NoRow = (push_long s k row t, refl)
+    go : (r : Option ℕ) → Long2 t u (once_found r s k w what row t u)
+    go (Some r) = (refl, repeat_long s what _ _ _ _ u)
+    go None = (push_long s k row t, refl)
 
 -- the settings that list a repeat
 module _ (src : List ℕ) (s : State) (t : List ℕ) where
@@ -117,53 +104,53 @@ module _ (src : List ℕ) (s : State) (t : List ℕ) where
   unfolding start_decl start_named
   start_long = go (gap_at s.kind false src s.at)
     where
-      given : (i j : ℕ) (p : Part) → Long1 t (start_given p s i j t)
-      given i j Absent = refl
-      given i j (At a b) = repeat_long s _ a b i j t
+      given : (i j : ℕ) (p : Option (ℕ × ℕ)) → Long1 t (start_given p s i j t)
+      given i j None = refl
+      given i j (Some (a, b)) = repeat_long s _ a b i j t
 
-      named : (i : ℕ) (n : Name) → Long1 t (start_name n i src s t)
-      named i (NameTo j) = given i j s.singles.start
-      named i (NoName k) = refl
+      named : (i : ℕ) (n : Result ℕ ℕ) → Long1 t (start_name n i src s t)
+      named i (Ok j) = given i j s.singles.start
+      named i (Err k) = refl
 
-      go : (g : Gap) → Long1 t (start_from g src s t)
-      go (GapTo i n) = named i (name_at src i)
-      go (GapRefused f) = refl
+      go : (g : Result (ℕ × ℕ) Refusal) → Long1 t (start_from g src s t)
+      go (Ok (i, n)) = named i (name_at src i)
+      go (Err f) = refl
 
   expect_long : (rr : Bool) → Long1 t (expect_decl src s rr t)
   unfolding expect_decl expect_given
   expect_long rr = go (gap_at s.kind false src s.at)
     where
-      given : (v i j : ℕ) (e : Expect) → Long1 t (expect_seen e s rr v i j t)
-      given v i j NotExpected = refl
-      given v i j (Expected w a b) = repeat_long s (repeated_expect rr) a b i j t
+      given : (v i j : ℕ) (e : Option (ℕ × ℕ × ℕ)) → Long1 t (expect_seen e s rr v i j t)
+      given v i j None = refl
+      given v i j (Some (w, a, b)) = repeat_long s (repeated_expect rr) a b i j t
 
-      counted : (i : ℕ) (n : Int) → Long1 t (expect_int n i src s rr t)
-      counted i (Value v j) = given v i j (expected_of rr s.singles)
-      counted i (NoDigits k) = refl
-      counted i (TooLarge k) = refl
+      counted : (i : ℕ) (n : Result (ℕ × ℕ) IntError) → Long1 t (expect_int n i src s rr t)
+      counted i (Ok (v, j)) = given v i j (expected_of rr s.singles)
+      counted i (Err (NoDigits k)) = refl
+      counted i (Err (TooLarge k)) = refl
 
-      go : (g : Gap) → Long1 t (expect_from g src s rr t)
-      go (GapTo i n) = counted i (int_at src i)
-      go (GapRefused f) = refl
+      go : (g : Result (ℕ × ℕ) Refusal) → Long1 t (expect_from g src s rr t)
+      go (Ok (i, n)) = counted i (int_at src i)
+      go (Err f) = refl
 
   actiontype_long : Long1 t (actiontype_decl src s t)
   unfolding actiontype_decl actiontype_named
   actiontype_long = go (gap_at s.kind false src s.at)
     where
-      given : (i j : ℕ) (p : Part) → Long1 t (actiontype_given p s i j t)
-      given i j Absent = refl
-      given i j (At a b) = repeat_long s _ a b i j t
+      given : (i j : ℕ) (p : Option (ℕ × ℕ)) → Long1 t (actiontype_given p s i j t)
+      given i j None = refl
+      given i j (Some (a, b)) = repeat_long s _ a b i j t
 
-      go : (g : Gap) → Long1 t (actiontype_from g src s t)
-      go (GapTo i n) = given i (line_end_at src i) s.actiontype
-      go (GapRefused f) = refl
+      go : (g : Result (ℕ × ℕ) Refusal) → Long1 t (actiontype_from g src s t)
+      go (Ok (i, n)) = given i (line_end_at src i) s.actiontype
+      go (Err f) = refl
 
 -- what stands beside a word: its tag, and behind it a number
-given_long : (tag : Part) (s : State) (from to : ℕ) (t : List ℕ) → Long1 t (tag_given tag s from to t)
-given_long Absent s from to t = refl
-given_long (At i j) s from to t = push_long s tags (tag_cells from to i j) t
+given_long : (tag : Option (ℕ × ℕ)) (s : State) (from to : ℕ) (t : List ℕ) → Long1 t (tag_given tag s from to t)
+given_long None s from to t = refl
+given_long (Some (i, j)) s from to t = push_long s tags (tag_cells from to i j) t
 
-tag_long : (a : Answer) (s : State) (tag : Part) (from to : ℕ) (t : List ℕ) → Long1 t (tag_row a s tag from to t)
+tag_long : (a : Answer) (s : State) (tag : Option (ℕ × ℕ)) (from to : ℕ) (t : List ℕ) → Long1 t (tag_row a s tag from to t)
 unfolding tag_row
 tag_long Going s tag from to t = given_long tag s from to t
 tag_long Done s tag from to t = refl
@@ -173,10 +160,10 @@ behind_long : (src : List ℕ) (line : Bool) (from to end : ℕ) (a : Answer) (s
 unfolding behind_word number_behind
 behind_long src line from to end a s t = let o = pass_on src line end a s in after o.answer o
   where
-    number : (n : Int) (u : State) → Long1 t (number_given n src line from to u t)
-    number (Value v j) u = on_test (Long1 t) (ltb 4294967295 v) _ _ (λ e. refl) (λ e. push_long u token_numbers (number_cells from to v) t)
-    number (NoDigits k) u = refl
-    number (TooLarge k) u = refl
+    number : (n : Result (ℕ × ℕ) IntError) (u : State) → Long1 t (number_given n src line from to u t)
+    number (Ok (v, j)) u = on_test (Long1 t) (ltb 4294967295 v) _ _ (λ e. refl) (λ e. push_long u token_numbers (number_cells from to v) t)
+    number (Err (NoDigits k)) u = refl
+    number (Err (TooLarge k)) u = refl
 
     after : (b : Answer) (o : Out0) → Long1 t (number_after o src line from to b t)
     after Going o = on_test (Long1 t) (eqb o.state.kind 4) _ _ (λ e. number (int_at src o.state.at) o.state) (λ e. refl)
@@ -188,27 +175,27 @@ list_long : (src : List ℕ) (s : State) (what : WordList) (t u v : List ℕ) �
 unfolding list_decl list_body percent_list list_turn token_item unused_item unused_row type_item type_row
 list_long src s what t u v = go (gap_at s.kind false src s.at)
   where
-    token : (r : Token) (w : State) (tag : Part) (x y z : List ℕ) → Long3 x y z (token_found r src w tag x y z)
-    token (Found p end q) w tag x y z =
+    token : (r : Result (Place × ℕ × Bool) ℕ) (w : State) (tag : Option (ℕ × ℕ)) (x y z : List ℕ) → Long3 x y z (token_found r src w tag x y z)
+    token (Ok (p, end, q)) w tag x y z =
         let o = enter_step src w p.from p.to true x in
         let g = tag_row o.answer o.state tag p.from p.to y in
         (enter_long src w p.from p.to true x, tag_long o.answer o.state tag p.from p.to y, behind_long src false p.from p.to end g.answer g.state z)
-    token (NoToken k) w tag x y z = (refl, refl, refl)
+    token (Err k) w tag x y z = (refl, refl, refl)
 
-    excused : (r : Spelling) (w : State) (x : List ℕ) → Long1 x (unused_spelled r src w x)
-    excused (Spelled kind from to end) w x = push_long w unused (kind_cells kind from to) x
-    excused (Unspelled k) w x = refl
+    excused : (r : Result (ℕ × ℕ × ℕ × ℕ) ℕ) (w : State) (x : List ℕ) → Long1 x (unused_spelled r src w x)
+    excused (Ok (kind, from, to, end)) w x = push_long w unused (kind_cells kind from to) x
+    excused (Err k) w x = refl
 
-    typed : (r : Spelling) (w : State) (tag : Part) (x : List ℕ) → Long1 x (type_spelled r src w tag x)
-    typed (Spelled kind from to end) w tag x = given_long tag w from to x
-    typed (Unspelled k) w tag x = refl
+    typed : (r : Result (ℕ × ℕ × ℕ × ℕ) ℕ) (w : State) (tag : Option (ℕ × ℕ)) (x : List ℕ) → Long1 x (type_spelled r src w tag x)
+    typed (Ok (kind, from, to, end)) w tag x = given_long tag w from to x
+    typed (Err k) w tag x = refl
 
-    item : (l : WordList) (w : State) (tag : Part) (x y z : List ℕ) → Long3 x y z (list_item src w l tag x y z)
+    item : (l : WordList) (w : State) (tag : Option (ℕ × ℕ)) (x y z : List ℕ) → Long3 x y z (list_item src w l tag x y z)
     item TokenList w tag x y z = token (token_at src w.at) w tag x y z
     item UnusedList w tag x y z = (excused (spelled_at src w.at) w x, refl, refl)
     item TypeList w tag x y z = (refl, typed (spelled_at src w.at) w tag y, refl)
 
-    after : (tag : Part) (b : Bool) (o : Out3) → Long3 t u v o → Either (Long3 t u v) (Long3 t u v) (after_item b o (list_item src o.state what tag o.a o.b o.c))
+    after : (tag : Option (ℕ × ℕ)) (b : Bool) (o : Out3) → Long3 t u v o → Either (Long3 t u v) (Long3 t u v) (after_item b o (list_item src o.state what tag o.a o.b o.c))
     after tag true o h = h
     after tag false o h =
         let p = list_item src o.state what tag o.a o.b o.c in
@@ -220,30 +207,30 @@ list_long src s what t u v = go (gap_at s.kind false src s.at)
     led Done l = (refl, refl, refl)
     led (Refused f) l = (refl, refl, refl)
 
-    go : (g : Gap) → Long3 t u v (list_from g src s what t u v)
-    go (GapTo i n) = let l = lead_list what src (with_at s i) in led l.answer l
-    go (GapRefused f) = (refl, refl, refl)
+    go : (g : Result (ℕ × ℕ) Refusal) → Long3 t u v (list_from g src s what t u v)
+    go (Ok (i, n)) = let l = lead_list what src (with_at s i) in led l.answer l
+    go (Err f) = (refl, refl, refl)
 
 -- lists that run to their line's end
 prec_long : (src : List ℕ) (s : State) (assoc : ℕ) (t u v w : List ℕ) → Long4 t u v w (prec_decl src s assoc t u v w)
 unfolding prec_decl prec_body prec_list prec_turn prec_item
 prec_long src s assoc t u v w = go (gap_at s.kind false src s.at)
   where
-    found : (r : Token) (m : State) (tag : Part) (x y z q : List ℕ) → Long4 x y z q (prec_found r src m s.level assoc tag x y z q)
-    found (Found p end e) m tag x y z q =
+    found : (r : Result (Place × ℕ × Bool) ℕ) (m : State) (tag : Option (ℕ × ℕ)) (x y z q : List ℕ) → Long4 x y z q (prec_found r src m s.level assoc tag x y z q)
+    found (Ok (p, end, e)) m tag x y z q =
         let row = precedence_cells p.from p.to s.level assoc in
         let o = once_step src m precedences (width precedences) 0 RepeatedPrecedence row x y in
         let l = once_long src m precedences (width precedences) 0 RepeatedPrecedence row x y in
         let g = tag_row o.answer o.state tag p.from p.to z in
         (l.0, l.1, tag_long o.answer o.state tag p.from p.to z, behind_long src true p.from p.to end g.answer g.state q)
-    found (NoToken k) m tag x y z q = (refl, refl, refl, refl)
+    found (Err k) m tag x y z q = (refl, refl, refl, refl)
 
     next : (a : Answer) (p : Out4) → Long4 t u v w p → Either (Long4 t u v w) (Long4 t u v w) (line_end a p)
     next Going p h = h
     next Done p h = h
     next (Refused f) p h = h
 
-    after : (tag : Part) (b : Bool) (o : Out4) → Long4 t u v w o → Either (Long4 t u v w) (Long4 t u v w) (after_end b o (prec_item src o.state s.level assoc tag o.a o.b o.c o.d))
+    after : (tag : Option (ℕ × ℕ)) (b : Bool) (o : Out4) → Long4 t u v w o → Either (Long4 t u v w) (Long4 t u v w) (after_end b o (prec_item src o.state s.level assoc tag o.a o.b o.c o.d))
     after tag true o h = h
     after tag false o h =
         let p = prec_item src o.state s.level assoc tag o.a o.b o.c o.d in
@@ -255,9 +242,9 @@ prec_long src s assoc t u v w = go (gap_at s.kind false src s.at)
     led Done l = (refl, refl, refl, refl)
     led (Refused f) l = (refl, refl, refl, refl)
 
-    go : (g : Gap) → Long4 t u v w (prec_from g src s assoc t u v w)
-    go (GapTo i n) = let l = lead_tag src (with_level (with_at s i) (next_level s.level)) false true in led l.answer l
-    go (GapRefused f) = (refl, refl, refl, refl)
+    go : (g : Result (ℕ × ℕ) Refusal) → Long4 t u v w (prec_from g src s assoc t u v w)
+    go (Ok (i, n)) = let l = lead_tag src (with_level (with_at s i) (next_level s.level)) false true in led l.answer l
+    go (Err f) = (refl, refl, refl, refl)
 
 avoid_long : (src : List ℕ) (s : State) (k : ℕ) (what : Repeat) (t u v : List ℕ) → Long3 t u v (avoid_decl src s k what t u v)
 unfolding avoid_decl avoid_list avoid_turn avoid_item avoid_named
@@ -268,12 +255,12 @@ avoid_long src s k what t u v = on_test (Long3 t u v) (leb (length src) s.at) _ 
     entry Done o from to end y z = (refl, refl, refl)
     entry (Refused f) o from to end y z = (refl, refl, refl)
 
-    found : (r : Token) (w : State) (x y z : List ℕ) → Long3 x y z (avoid_found r src w k what x y z)
-    found (Found p end q) w x y z =
+    found : (r : Result (Place × ℕ × Bool) ℕ) (w : State) (x y z : List ℕ) → Long3 x y z (avoid_found r src w k what x y z)
+    found (Ok (p, end, q)) w x y z =
         let o = enter_step src w p.from p.to false x in
         let h = entry o.answer o p.from p.to end y z in
         (h.0 ∙ enter_long src w p.from p.to false x, h.1, h.2)
-    found (NoToken i) w x y z = (refl, refl, refl)
+    found (Err i) w x y z = (refl, refl, refl)
 
     next : (a : Answer) (p : Out3) → Long3 t u v p → Either (Long3 t u v) (Long3 t u v) (avoid_end a p)
     next Going p h = h
@@ -286,58 +273,58 @@ avoid_long src s k what t u v = on_test (Long3 t u v) (leb (length src) s.at) _ 
         let x = found (token_at src o.state.at) o.state o.a o.b o.c in
         next p.answer p (x.0 ∙ h.0, x.1 ∙ h.1, x.2 ∙ h.2)
 
-    go : (g : Gap) → Long3 t u v (avoid_from g src s k what t u v)
-    go (GapTo i n) = turns_keep (Long3 t u v) (avoid_turn src k what) turn (suc (length src)) _ (refl, refl, refl)
-    go (GapRefused f) = (refl, refl, refl)
+    go : (g : Result (ℕ × ℕ) Refusal) → Long3 t u v (avoid_from g src s k what t u v)
+    go (Ok (i, n)) = turns_keep (Long3 t u v) (avoid_turn src k what) turn (suc (length src)) _ (refl, refl, refl)
+    go (Err f) = (refl, refl, refl)
 
 -- `%epp`
 epp_long : (src : List ℕ) (s : State) (t u : List ℕ) → Long2 t u (epp_decl src s t u)
 unfolding epp_decl epp_value epp_text epp_given
 epp_long src s t u = go (gap_at s.kind false src s.at)
   where
-    string : (i j from to v : ℕ) (q : Quote) → Long2 t u (epp_string q src s i j from to v t u)
-    string i j from to v (Closed e) = once_long src s epps (width epps) key_name RepeatedEpp (epp_cells i j from to v e) t u
-    string i j from to v (NotOpened k) = (refl, refl)
-    string i j from to v (LineInside k) = (refl, refl)
-    string i j from to v (BadEscape k) = (refl, refl)
-    string i j from to v (NotClosed k) = (refl, refl)
+    string : (i j from to v : ℕ) (q : Result ℕ QuoteError) → Long2 t u (epp_string q src s i j from to v t u)
+    string i j from to v (Ok e) = once_long src s epps (width epps) key_name RepeatedEpp (epp_cells i j from to v e) t u
+    string i j from to v (Err (NotOpened k)) = (refl, refl)
+    string i j from to v (Err (LineInside k)) = (refl, refl)
+    string i j from to v (Err (BadEscape k)) = (refl, refl)
+    string i j from to v (Err (NotClosed k)) = (refl, refl)
 
-    value : (i j from to : ℕ) (g : Gap) → Long2 t u (epp_gap g src s i j from to t u)
-    value i j from to (GapTo v n) = string i j from to v (string_at src v)
-    value i j from to (GapRefused f) = (refl, refl)
+    value : (i j from to : ℕ) (g : Result (ℕ × ℕ) Refusal) → Long2 t u (epp_gap g src s i j from to t u)
+    value i j from to (Ok (v, n)) = string i j from to v (string_at src v)
+    value i j from to (Err f) = (refl, refl)
 
-    key : (i : ℕ) (r : Token) → Long2 t u (epp_key r i src s t u)
-    key i (Found p end q) = value i end p.from p.to (gap_at s.kind false src end)
-    key i (NoToken k) = (refl, refl)
+    key : (i : ℕ) (r : Result (Place × ℕ × Bool) ℕ) → Long2 t u (epp_key r i src s t u)
+    key i (Ok (p, end, q)) = value i end p.from p.to (gap_at s.kind false src end)
+    key i (Err k) = (refl, refl)
 
-    go : (g : Gap) → Long2 t u (epp_from g src s t u)
-    go (GapTo i n) = key i (token_at src i)
-    go (GapRefused f) = (refl, refl)
+    go : (g : Result (ℕ × ℕ) Refusal) → Long2 t u (epp_from g src s t u)
+    go (Ok (i, n)) = key i (token_at src i)
+    go (Err f) = (refl, refl)
 
 -- prologues and unions
 prologue_long : (src : List ℕ) (s : State) (at : ℕ) (t : List ℕ) → Long1 t (prologue_decl src s at t)
 unfolding prologue_decl body_row
 prologue_long src s at t = go (marked_at src s.at)
   where
-    go : (b : Brace) → Long1 t (prologue_closed b src s at t)
-    go (Closes to n) = push_long s bodies (body_cells 1 s.at to) t
-    go NeverCloses = refl
+    go : (b : Option (ℕ × ℕ)) → Long1 t (prologue_closed b src s at t)
+    go (Some (to, n)) = push_long s bodies (body_cells 1 s.at to) t
+    go None = refl
 
 union_long : (src : List ℕ) (s : State) (at : ℕ) (t : List ℕ) → Long1 t (union_decl src s at t)
 unfolding union_decl union_body body_row
 union_long src s at t = go (gap_at s.kind false src s.at)
   where
-    closed : (i : ℕ) (b : Brace) → Long1 t (union_closed b src s at i t)
-    closed i (Closes to n) = push_long s bodies (body_cells 2 (i + 1) to) t
-    closed i NeverCloses = refl
+    closed : (i : ℕ) (b : Option (ℕ × ℕ)) → Long1 t (union_closed b src s at i t)
+    closed i (Some (to, n)) = push_long s bodies (body_cells 2 (i + 1) to) t
+    closed i None = refl
 
     opened : (i : ℕ) (b : Bool) → Long1 t (union_opened b src s at i t)
     opened i true = closed i (braced_at src (i + 1))
     opened i false = refl
 
-    go : (g : Gap) → Long1 t (union_from g src s at t)
-    go (GapTo i n) = opened i (is_at 123 src i)
-    go (GapRefused f) = refl
+    go : (g : Result (ℕ × ℕ) Refusal) → Long1 t (union_from g src s at t)
+    go (Ok (i, n)) = opened i (is_at 123 src i)
+    go (Err f) = refl
 
 -- declarations
 abbrev lengths_of : Declared → List ℕ
@@ -378,9 +365,9 @@ declarations_long src s D = go (gap_at s.kind true src s.at)
         let r = seen_at o.state.kind src o.state.at in
         onward_keep Long p.answer p (by_keyword_lem r.word src o.state (with_at o.state r.end) o.tables ∙ h)
 
-    go : (g : Gap) → Long (all_from g src s D)
-    go (GapTo i n) = turns_keep Long (decl_turn src) (λ o. after (leb (length src) o.state.at) o) (suc (length src)) _ refl
-    go (GapRefused f) = refl
+    go : (g : Result (ℕ × ℕ) Refusal) → Long (all_from g src s D)
+    go (Ok (i, n)) = turns_keep Long (decl_turn src) (λ o. after (leb (length src) o.state.at) o) (suc (length src)) _ refl
+    go (Err f) = refl
 
 -- the items of a rule
 abbrev LongMade : List ℕ → List ℕ → List ℕ → Made3 → Type 0
@@ -401,38 +388,38 @@ quoted_long src s d t1 t9 = go (token_at src s.at)
     symbol Done o from to = (refl, refl)
     symbol (Refused f) o from to = (refl, refl)
 
-    gap : (g : Gap) (from to end : ℕ) → (length (quoted_gap g src s d from to end t1 t9).a ≡ length t1) × (length (quoted_gap g src s d from to end t1 t9).b ≡ length t9)
-    gap (GapTo i n) from to end =
+    gap : (g : Result (ℕ × ℕ) Refusal) (from to end : ℕ) → (length (quoted_gap g src s d from to end t1 t9).a ≡ length t1) × (length (quoted_gap g src s d from to end t1 t9).b ≡ length t9)
+    gap (Ok (i, n)) from to end =
         let o = enter_step src (with_at s i) from to false t1 in
         let x = symbol o.answer o from to in
         (x.0 ∙ enter_long src (with_at s i) from to false t1, x.1)
-    gap (GapRefused f) from to end = (refl, refl)
+    gap (Err f) from to end = (refl, refl)
 
-    go : (r : Token) → (length (quoted_found r src s d t1 t9).a ≡ length t1) × (length (quoted_found r src s d t1 t9).b ≡ length t9)
-    go (Found p end q) = gap (gap_at s.kind true src end) p.from p.to end
-    go (NoToken k) = (refl, refl)
+    go : (r : Result (Place × ℕ × Bool) ℕ) → (length (quoted_found r src s d t1 t9).a ≡ length t1) × (length (quoted_found r src s d t1 t9).b ≡ length t9)
+    go (Ok (p, end, q)) = gap (gap_at s.kind true src end) p.from p.to end
+    go (Err k) = (refl, refl)
 
 -- `%prec`
 prec_part_long : (src : List ℕ) (s : State) (d : Production) (t : List ℕ) → length (prec_part src s d t).a ≡ length t
 unfolding prec_part prec_name
 prec_part_long src s d t = go (gap_at s.kind true src s.at)
   where
-    name : (r : Token) (u : State) → length (prec_token r src u d t).a ≡ length t
-    name (Found p end q) u = enter_long src u p.from p.to false t
-    name (NoToken k) u = refl
+    name : (r : Result (Place × ℕ × Bool) ℕ) (u : State) → length (prec_token r src u d t).a ≡ length t
+    name (Ok (p, end, q)) u = enter_long src u p.from p.to false t
+    name (Err k) u = refl
 
-    go : (g : Gap) → length (prec_gap g src s d t).a ≡ length t
-    go (GapTo i n) = name (token_at src i) (with_at s i)
-    go (GapRefused f) = refl
+    go : (g : Result (ℕ × ℕ) Refusal) → length (prec_gap g src s d t).a ≡ length t
+    go (Ok (i, n)) = name (token_at src i) (with_at s i)
+    go (Err f) = refl
 
 -- a bare symbol
 bare_long : (src : List ℕ) (s : State) (d : Production) (t1 t9 : List ℕ) → length (bare_item src s d t1 t9).a ≡ length t9
 unfolding bare_item
 bare_long src s d t1 t9 = go (token_at src s.at)
   where
-    go : (r : Token) → length (bare_found r src s d t1 t9).a ≡ length t9
-    go (Found p end q) = push_long s symbols (symbol_cells (symbol_kind src (count s tokens) t1 p.from p.to) p.from p.to) t9
-    go (NoToken k) = refl
+    go : (r : Result (Place × ℕ × Bool) ℕ) → length (bare_found r src s d t1 t9).a ≡ length t9
+    go (Ok (p, end, q)) = push_long s symbols (symbol_cells (symbol_kind src (count s tokens) t1 p.from p.to) p.from p.to) t9
+    go (Err k) = refl
 
 by_sort_lem : (k : Sort) (src : List ℕ) (s n : State) (d : Production) (t1 t8 t9 : List ℕ) → LongMade t1 t8 t9 (by_sort k src s n d t1 t8 t9)
 unfolding bar_item end_item
@@ -472,18 +459,18 @@ head_long : (src : List ℕ) (s : State) (t : List ℕ) → length (rule_head sr
 unfolding rule_head named_head enter_rule
 head_long src s t = go (name_at src s.at)
   where
-    found : (r : Row) (u : State) (from to : ℕ) (p : Part) → length (rule_found r u from to p t).t7 ≡ length t
-    found (RowAt r) u from to p = refl
-    found NoRow u from to p = push_long u rules (rule_cells from to p) t
+    found : (r : Option ℕ) (u : State) (from to : ℕ) (p : Option (ℕ × ℕ)) → length (rule_found r u from to p t).t7 ≡ length t
+    found (Some r) u from to p = refl
+    found None u from to p = push_long u rules (rule_cells from to p) t
 
     typed : (a : Answer) (o : Typing) (from to : ℕ) → length (typed_head a src o.state o.given from to t).t7 ≡ length t
     typed Going o from to = found (find_name src (width rules) 0 (count o.state rules) t from to) o.state from to o.given
     typed Done o from to = refl
     typed (Refused f) o from to = refl
 
-    go : (n : Name) → length (head_found n src s t).t7 ≡ length t
-    go (NameTo j) = let o = rule_type src (with_at (first_start s s.at j) j) in typed o.answer o s.at j
-    go (NoName k) = refl
+    go : (n : Result ℕ ℕ) → length (head_found n src s t).t7 ≡ length t
+    go (Ok j) = let o = rule_type src (with_at (first_start s s.at j) j) in typed o.answer o s.at j
+    go (Err k) = refl
 
 body_long : (src : List ℕ) (s : State) (row : ℕ) (t1 t8 t9 : List ℕ) → let o = rule_body src s row t1 t8 t9 in (length o.t1 ≡ length t1) × (length o.t8 ≡ length t8) × (length o.t9 ≡ length t9)
 unfolding rule_body

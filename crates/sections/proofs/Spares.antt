@@ -1,4 +1,5 @@
 -- Declarations leave the count of table 7, and so its index. Assumes nothing.
+use Rattle.std.specs.Prelude.{Option, Some, None, Result, Ok, Err}
 use Prim.Native.Nat.{ℕ, suc, ◌+◌}
 use mathlib.Core.Path.{◌≡◌, refl, ap}
 use mathlib.Core.List.{List}
@@ -8,16 +9,13 @@ use lib.Dec.{leb}
 use lib.ListN.{length}
 use Rattle.scan.specs.Scan.{is_at}
 use Rattle.scan.proofs.Loop.{Either, turns_keep}
-use Rattle.texts.specs.declared.Brace.{Brace}
-use Rattle.texts.specs.declared.Brace.TheVariants.{Closes, NeverCloses}
 use Rattle.texts.specs.Action.{braced_at}
 use Rattle.texts.specs.Mark.{marked_at}
 use Rattle.tables.specs.Layout.{rules, avoided, implicit}
 use Rattle.grammar.specs.declared.Answer.{Answer}
 use Rattle.grammar.specs.declared.Counts.{Counts}
 use Rattle.grammar.specs.declared.State.{State}
-use Rattle.grammar.specs.declared.Gap.{Gap}
-use Rattle.grammar.specs.declared.Gap.TheVariants.{GapTo, GapRefused}
+use Rattle.grammar.specs.declared.Refusal.{Refusal}
 use Rattle.grammar.specs.declared.Repeat.TheVariants.{RepeatedAvoidInsert, RepeatedImplicitTokens}
 use Rattle.grammar.specs.State.{Out0, Tracked, Rules, with_at, gap_at}
 use Rattle.grammar.proofs.Kept.{onward_keep}
@@ -42,25 +40,25 @@ module _ (src : List ℕ) where
   unfolding prologue_decl
   prologue_counts s at t = go (marked_at src s.at)
     where
-      go : (b : Brace) → (prologue_closed b src s at t).state.counts ≡ s.counts
-      go (Closes to n) = row_counts src s 1 s.at to (to + 2) t
-      go NeverCloses = refl
+      go : (b : Option (ℕ × ℕ)) → (prologue_closed b src s at t).state.counts ≡ s.counts
+      go (Some (to, n)) = row_counts src s 1 s.at to (to + 2) t
+      go None = refl
 
   union_counts : (s : State) (at : ℕ) (t : List ℕ) → (union_decl src s at t).state.counts ≡ s.counts
   unfolding union_decl union_body
   union_counts s at t = gap (gap_at s.kind false src s.at)
     where
-      closed : (i : ℕ) (b : Brace) → (union_closed b src s at i t).state.counts ≡ s.counts
-      closed i (Closes to n) = row_counts src s 2 (i + 1) to (to + 1) t
-      closed i NeverCloses = refl
+      closed : (i : ℕ) (b : Option (ℕ × ℕ)) → (union_closed b src s at i t).state.counts ≡ s.counts
+      closed i (Some (to, n)) = row_counts src s 2 (i + 1) to (to + 1) t
+      closed i None = refl
 
       opened : (i : ℕ) (b : Bool) → (union_opened b src s at i t).state.counts ≡ s.counts
       opened i true = closed i (braced_at src (i + 1))
       opened i false = refl
 
-      gap : (g : Gap) → (union_from g src s at t).state.counts ≡ s.counts
-      gap (GapTo i n) = opened i (is_at 123 src i)
-      gap (GapRefused f) = refl
+      gap : (g : Result (ℕ × ℕ) Refusal) → (union_from g src s at t).state.counts ≡ s.counts
+      gap (Ok (i, n)) = opened i (is_at 123 src i)
+      gap (Err f) = refl
 
   -- a declaration
   by_keyword_lem : (w : Keyword) (s n : State) (D : Declared) → s.counts ≡ n.counts → Spares rules n.counts (by_keyword w src s n D).state.counts
@@ -104,9 +102,9 @@ module _ (src : List ℕ) where
   unfolding decl_all decl_run
   declarations_spare s D = go (gap_at s.kind true src s.at)
     where
-      go : (g : Gap) → Spares rules s.counts (all_from g src s D).state.counts
-      go (GapTo i n) = turns_keep (Since s.counts) (decl_turn src) (turn s.counts) (suc (length src)) _ (spares_none rules s.counts)
-      go (GapRefused f) = spares_none rules s.counts
+      go : (g : Result (ℕ × ℕ) Refusal) → Spares rules s.counts (all_from g src s D).state.counts
+      go (Ok (i, n)) = turns_keep (Since s.counts) (decl_turn src) (turn s.counts) (suc (length src)) _ (spares_none rules s.counts)
+      go (Err f) = spares_none rules s.counts
 
 -- so the index of table 7 stays; and programs leave every index
 module _ (src : List ℕ) (s : State) (t ix : List ℕ) (a : Answer) (q : State) where

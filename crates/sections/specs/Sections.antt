@@ -1,7 +1,5 @@
 -- Document 01, "Numbers given back": "Order: 43, 41, 40, then reading.", and document 02: 45 "tested after 43". Then the three sections.
-use Rattle.std.specs.Prelude.{ℕ, ◌≤◌, List, [], ◌∷◌, Bool, true, false, ◌||◌, ◌&&◌, ltb, length}
-use Rattle.whole.specs.declared.Checked.{Checked}
-use Rattle.whole.specs.declared.Checked.TheVariants.{Good, BadAt}
+use Rattle.std.specs.Prelude.{ℕ, ◌≤◌, List, [], ◌∷◌, Bool, true, false, ◌||◌, ◌&&◌, ltb, length, Result, Ok, Err}
 use Rattle.whole.specs.Whole.{check_at}
 use Rattle.tables.specs.Layout.{tokens, rules, width}
 use Rattle.index.specs.Index.{size_test}
@@ -15,8 +13,7 @@ use Rattle.grammar.specs.State.{Out0, fresh}
 use Rattle.grammar.specs.Sound.{AllTables, Indexes}
 use Rattle.declarations.specs.Declarations.{Declared, Out, decl_all}
 use Rattle.rules.specs.Rules.{Ruled, rules_all, programs_from}
-use Rattle.sections.specs.declared.Admission.{Admission}
-use Rattle.sections.specs.declared.Admission.TheVariants.{Fit, Unfit}
+use Rattle.grammar.specs.declared.Refusal.{Refusal}
 
 -- a reading under way, with all thirteen tables
 pub record Run : Type 0 where
@@ -24,14 +21,14 @@ pub record Run : Type 0 where
   pub state : State
   pub tables : AllTables
 
-abbrev pub admission_numbers : Admission → List ℕ
-admission_numbers Fit = 0 ∷ 0 ∷ 0 ∷ 0 ∷ []
-admission_numbers (Unfit f) = refusal_numbers f
+abbrev pub admission_numbers : Result (Unit {0}) Refusal → List ℕ
+admission_numbers (Ok _) = 0 ∷ 0 ∷ 0 ∷ 0 ∷ []
+admission_numbers (Err f) = refusal_numbers f
 
 -- "40 not UTF-8: first byte that begins no well-formed sequence"
-abbrev pub as_text : Checked → Admission
-as_text Good = Fit
-as_text (BadAt i) = Unfit (Fault NotUtf8 i)
+abbrev pub as_text : Result (Unit {0}) ℕ → Result (Unit {0}) Refusal
+as_text (Ok _) = Ok tt
+as_text (Err i) = Err (Fault NotUtf8 i)
 
 -- "a power of two of slots", at least "twice the rows its table has room for": m slots for n cells, of tables 1 and 7
 unfoldable pub sizes_fit : ℕ → ℕ → ℕ → ℕ → Bool
@@ -41,17 +38,17 @@ abbrev pub sized : AllTables → Indexes → Bool
 sized T X = sizes_fit (length X.tokens) (length T.t1) (length X.rules) (length T.t7)
 
 -- "Kinds: 1 Original, 2 Grmtools, 3 Eco. Source: 0 to 65,536 bytes.", and document 02, request Nine: "Add kind 4"
-abbrev pub sized_text : Bool → List ℕ → Admission
-sized_text true src = elim (ltb 65536 (length src)) [ true ↦ Unfit TooLong | false ↦ as_text (check_at src 0) ]
-sized_text false src = Unfit BadIndex
+abbrev pub sized_text : Bool → List ℕ → Result (Unit {0}) Refusal
+sized_text true src = elim (ltb 65536 (length src)) [ true ↦ Err TooLong | false ↦ as_text (check_at src 0) ]
+sized_text false src = Err BadIndex
 
-unfoldable pub admitted : List ℕ → ℕ → Bool → Admission
-admitted src kind fit = elim (ltb kind 1 || ltb 4 kind) [ true ↦ Unfit BadKind | false ↦ sized_text fit src ]
+unfoldable pub admitted : List ℕ → ℕ → Bool → Result (Unit {0}) Refusal
+admitted src kind fit = elim (ltb kind 1 || ltb 4 kind) [ true ↦ Err BadKind | false ↦ sized_text fit src ]
 
 -- a source that can be read is not too long
-abbrev pub Short : List ℕ → Admission → Type 0
-Short src Fit = length src ≤ 65536
-Short src (Unfit f) = Unit {0}
+abbrev pub Short : List ℕ → Result (Unit {0}) Refusal → Type 0
+Short src (Ok _) = length src ≤ 65536
+Short src (Err f) = Unit {0}
 
 -- rules, then programs
 abbrev pub ran_program : Out0 → Ruled → Ruled
@@ -96,9 +93,9 @@ unfoldable pub sections_all : List ℕ → State → AllTables → Run
 sections_all src s T = sections_out src (decl_all src s (declared T)) T
 
 -- the sections of a source that can be read, from where a reading begins
-abbrev pub attempt_of : Admission → List ℕ → ℕ → AllTables → Run
-attempt_of Fit src kind T = sections_all src (fresh kind) T
-attempt_of (Unfit f) src kind T = record { answer = Refused f; state = fresh kind; tables = T }
+abbrev pub attempt_of : Result (Unit {0}) Refusal → List ℕ → ℕ → AllTables → Run
+attempt_of (Ok _) src kind T = sections_all src (fresh kind) T
+attempt_of (Err f) src kind T = record { answer = Refused f; state = fresh kind; tables = T }
 
 unfoldable pub attempted : List ℕ → ℕ → Bool → AllTables → Run
 attempted src kind fit T = attempt_of (admitted src kind fit) src kind T

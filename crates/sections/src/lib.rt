@@ -7,17 +7,7 @@ ghost use Rattle.declarations.specs.Declarations.{Givens};
 ghost use Rattle.rules.specs.Rules.{Ruled};
 ghost use Rattle.sections.specs.Sections.{Run, Short, sizes_fit, admitted, rest_all, sections_all, attempted};
 
-use grammar::{
-    Answer, Cause, Counts, Expect, Param, Part, PosixCounts, Refusal, Singles, State, Step,
-};
-use whole::Checked;
-
-// Whether a source can be read at all.
-#[derive(Clone, Copy)]
-pub enum Admission {
-    Fit,
-    Unfit(Refusal),
-}
+use grammar::{Answer, Cause, Counts, PosixCounts, Refusal, Singles, State, Step};
 
 // Whether both indexes have a right size for their tables: slots for cells.
 pub fn sizes_fit(m1: usize, n1: usize, m7: usize, n7: usize) -> bool
@@ -26,23 +16,23 @@ pub fn sizes_fit(m1: usize, n1: usize, m7: usize, n7: usize) -> bool
     index::size_sound(m1, n1, tables::TOKEN_WIDTH) & index::size_sound(m7, n7, tables::RULE_WIDTH)
 }
 
-// 43, 45, 41 and 40, in that order.
-pub fn admit(src: &[u8], kind: u32, sized: bool) -> Admission
+// Whether a source can be read at all: 43, 45, 41 and 40, in that order.
+pub fn admit(src: &[u8], kind: u32, sized: bool) -> Result<(), Refusal>
     ensures is { result ≡ admitted src.now kind sized }
     ensures short { Short src.now result }
 {
     if (kind < 1) | (4 < kind) {
-        return Admission::Unfit(Refusal::BadKind);
+        return Err(Refusal::BadKind);
     }
     if !sized {
-        return Admission::Unfit(Refusal::BadIndex);
+        return Err(Refusal::BadIndex);
     }
     if 65536 < src.len() {
-        return Admission::Unfit(Refusal::TooLong);
+        return Err(Refusal::TooLong);
     }
     match whole::check(src) {
-        Checked::Good => Admission::Fit,
-        Checked::BadAt(i) => Admission::Unfit(Refusal::Fault(Cause::NotUtf8, i as u32)),
+        Ok(()) => Ok(()),
+        Err(i) => Err(Refusal::Fault(Cause::NotUtf8, i as u32)),
     }
 }
 
@@ -50,12 +40,12 @@ pub fn no_singles() -> Singles
     ensures { result ≡ no_singles }
 {
     Singles {
-        start: Part::Absent,
-        expect: Expect::NotExpected,
-        expect_rr: Expect::NotExpected,
-        param: Param::NoParam,
-        generics: Part::Absent,
-        programs: Part::Absent,
+        start: None,
+        expect: None,
+        expect_rr: None,
+        param: None,
+        generics: None,
+        programs: None,
     }
 }
 
@@ -72,7 +62,7 @@ pub fn begin(kind: u32) -> State
         },
         posix: PosixCounts { n: [0, 0, 0] },
         singles: no_singles(),
-        actiontype: Part::Absent,
+        actiontype: None,
     }
 }
 
@@ -130,7 +120,7 @@ pub fn sections(
     fx: &mut [u16],
 ) -> Step
     requires { Here src.now s.at × Tokens src.now s.counts t1.old f1.old × Rules src.now s.counts t7.old f7.old × Givens src.now s.counts t2.old t3.old t4.old t5.old fx.old }
-    ensures is { ◌≡◌ {A = Run} (record { answer = result.answer; state = result.state; tables = record { t1 = t1.exit.now; t2 = t2.new; t3 = t3.new; t4 = t4.new; t5 = t5.new; t6 = t6.new; t7 = t7.new; t8 = t8.new; t9 = t9.new; t10 = t10.new; t15 = t15.new; t16 = t16.new; t17 = t17.new } }) (sections_all src.now s (record { t1 = t1.entry.now; t2 = t2.old; t3 = t3.old; t4 = t4.old; t5 = t5.old; t6 = t6.old; t7 = t7.old; t8 = t8.old; t9 = t9.old; t10 = t10.old; t15 = t15.old; t16 = t16.old; t17 = t17.old })) }
+    ensures is { ◌≡◌ {A = Run} (record { answer = result.answer; state = result.state; tables = record { t1 = t1.new; t2 = t2.new; t3 = t3.new; t4 = t4.new; t5 = t5.new; t6 = t6.new; t7 = t7.new; t8 = t8.new; t9 = t9.new; t10 = t10.new; t15 = t15.new; t16 = t16.new; t17 = t17.new } }) (sections_all src.now s (record { t1 = t1.old; t2 = t2.old; t3 = t3.old; t4 = t4.old; t5 = t5.old; t6 = t6.old; t7 = t7.old; t8 = t8.old; t9 = t9.old; t10 = t10.old; t15 = t15.old; t16 = t16.old; t17 = t17.old })) }
     ensures moved { Passed src.now s.at result.state.at }
     ensures indexed { Tokens src.now result.state.counts t1.new f1.new × Rules src.now result.state.counts t7.new f7.new }
 {
@@ -172,17 +162,17 @@ pub fn attempt(
     f7: &mut [u16],
     fx: &mut [u16],
 ) -> Step
-    ensures is { ◌≡◌ {A = Run} (record { answer = result.answer; state = result.state; tables = record { t1 = t1.exit.now; t2 = t2.new; t3 = t3.new; t4 = t4.new; t5 = t5.new; t6 = t6.new; t7 = t7.new; t8 = t8.new; t9 = t9.new; t10 = t10.new; t15 = t15.new; t16 = t16.new; t17 = t17.new } }) (attempted src.now kind sized (record { t1 = t1.entry.now; t2 = t2.old; t3 = t3.old; t4 = t4.old; t5 = t5.old; t6 = t6.old; t7 = t7.old; t8 = t8.old; t9 = t9.old; t10 = t10.old; t15 = t15.old; t16 = t16.old; t17 = t17.old })) }
+    ensures is { ◌≡◌ {A = Run} (record { answer = result.answer; state = result.state; tables = record { t1 = t1.new; t2 = t2.new; t3 = t3.new; t4 = t4.new; t5 = t5.new; t6 = t6.new; t7 = t7.new; t8 = t8.new; t9 = t9.new; t10 = t10.new; t15 = t15.new; t16 = t16.new; t17 = t17.new } }) (attempted src.now kind sized (record { t1 = t1.old; t2 = t2.old; t3 = t3.old; t4 = t4.old; t5 = t5.old; t6 = t6.old; t7 = t7.old; t8 = t8.old; t9 = t9.old; t10 = t10.old; t15 = t15.old; t16 = t16.old; t17 = t17.old })) }
     ensures near { result.state.at ≤ 65536 }
     ensures indexed { Tokens src.now result.state.counts t1.new f1.new × Rules src.now result.state.counts t7.new f7.new }
 {
     let s = begin(kind);
     let a = admit(src, kind, sized);
     match a {
-        Admission::Fit => sections(
+        Ok(()) => sections(
             src, s, t1, t2, t3, t4, t5, t6, t7, t8, t9, t10, t15, t16, t17, f1, f7, fx,
         ),
-        Admission::Unfit(f) => Step {
+        Err(f) => Step {
             answer: Answer::Refused(f),
             state: s,
         },

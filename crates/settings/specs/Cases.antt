@@ -1,5 +1,5 @@
 -- Small inputs of the declarations that give one thing, under one statement: each from behind its keyword.
-use Rattle.std.specs.Prelude.{ℕ, ◌*◌, ◌≡◌, refl, true, false, List, [], ◌∷◌, take, replicate}
+use Rattle.std.specs.Prelude.{ℕ, ◌*◌, ◌≡◌, refl, true, false, List, [], ◌∷◌, take, replicate, Option, Some, None}
 use Rattle.scan.specs.Scan.{is_letter, is_digit, is_eol, in_class, run_end, run_end_at}
 use Rattle.scan.specs.Loop.{turns}
 use Rattle.scan.specs.Table.{Case, same, all}
@@ -13,12 +13,6 @@ use Rattle.texts.specs.Line.{line_end_at}
 use Rattle.texts.specs.Colon.{single, single_from, colon_text, colon_text_at}
 use Rattle.tables.specs.Layout.{repeats}
 use Rattle.tables.specs.Table.{room, add_row}
-use Rattle.grammar.specs.declared.Part.{Part}
-use Rattle.grammar.specs.declared.Part.TheVariants.{Absent, At}
-use Rattle.grammar.specs.declared.Expect.{Expect}
-use Rattle.grammar.specs.declared.Expect.TheVariants.{NotExpected, Expected}
-use Rattle.grammar.specs.declared.Param.{Param}
-use Rattle.grammar.specs.declared.Param.TheVariants.{NoParam, ParamAt}
 use Rattle.grammar.specs.declared.Singles.{Singles}
 use Rattle.grammar.specs.declared.State.{State}
 use Rattle.grammar.specs.declared.Answer.{Answer}
@@ -36,22 +30,22 @@ abbrev having : Singles → ℕ → State
 having g i = with_singles (stand i) g
 
 abbrev given_start : ℕ → State
-given_start i = having (with_start no_singles (At 0 1)) i
+given_start i = having (with_start no_singles (Some (0, 1))) i
 
 abbrev given_expect : ℕ → State
-given_expect i = having (with_expected no_singles false (Expected 5 0 1)) i
+given_expect i = having (with_expected no_singles false (Some (5, 0, 1))) i
 
 abbrev given_rr : ℕ → State
-given_rr i = having (with_expected no_singles true (Expected 6 1 2)) i
+given_rr i = having (with_expected no_singles true (Some (6, 1, 2))) i
 
 abbrev given_param : ℕ → State
-given_param i = having (with_param no_singles (ParamAt 0 1 2 3)) i
+given_param i = having (with_param no_singles (Some (0, 1, 2, 3))) i
 
 abbrev given_generics : ℕ → State
-given_generics i = having (with_generics no_singles (At 0 1)) i
+given_generics i = having (with_generics no_singles (Some (0, 1))) i
 
 abbrev given_type : ℕ → State
-given_type i = with_actiontype (stand i) (At 0 1)
+given_type i = with_actiontype (stand i) (Some (0, 1))
 
 -- room for one row of table 10
 abbrev space : List ℕ
@@ -64,17 +58,17 @@ answer_of Done at rest = 0 ∷ at ∷ rest
 answer_of (Refused f) at rest = (told f).number ∷ (told f).from ∷ (told f).to ∷ (told f).table ∷ rest
 
 -- then what is given, each behind its number: 1 start, 2 expect, 3 expect_rr, 4 parse-param, 5 generics, 6 actiontype
-abbrev part_of : ℕ → Part → List ℕ → List ℕ
-part_of n Absent rest = rest
-part_of n (At a b) rest = n ∷ a ∷ b ∷ rest
+abbrev part_of : ℕ → Option (ℕ × ℕ) → List ℕ → List ℕ
+part_of n None rest = rest
+part_of n (Some (a, b)) rest = n ∷ a ∷ b ∷ rest
 
-abbrev expect_of : ℕ → Expect → List ℕ → List ℕ
-expect_of n NotExpected rest = rest
-expect_of n (Expected v a b) rest = n ∷ v ∷ a ∷ b ∷ rest
+abbrev expect_of : ℕ → Option (ℕ × ℕ × ℕ) → List ℕ → List ℕ
+expect_of n None rest = rest
+expect_of n (Some (v, a, b)) rest = n ∷ v ∷ a ∷ b ∷ rest
 
-abbrev param_of : Param → List ℕ → List ℕ
-param_of NoParam rest = rest
-param_of (ParamAt a b c d) rest = 4 ∷ a ∷ b ∷ c ∷ d ∷ rest
+abbrev param_of : Option (ℕ × ℕ × ℕ × ℕ) → List ℕ → List ℕ
+param_of None rest = rest
+param_of (Some (a, b, c, d)) rest = 4 ∷ a ∷ b ∷ c ∷ d ∷ rest
 
 abbrev given_of : State → List ℕ → List ℕ
 given_of s rest =

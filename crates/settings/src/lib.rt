@@ -7,11 +7,10 @@ ghost use Rattle.grammar.specs.State.{Out0, Out1, Here, Passed, Onward};
 ghost use Rattle.settings.specs.Singles.{with_start, with_expected, with_param, with_generics};
 ghost use Rattle.settings.specs.Settings.{start_named, start_decl, expect_given, expect_decl, actiontype_named, actiontype_decl, param_decl, param_typed, generics_decl};
 
-use grammar::{Answer, Cause, Expect, Gap, Param, Part, Refusal, Repeat, Singles, State, Step};
-use texts::ColonText;
-use words::{Int, Name};
+use grammar::{Answer, Cause, Refusal, Repeat, Singles, State, Step};
+use words::IntError;
 
-pub fn with_start(g: Singles, p: Part) -> Singles
+pub fn with_start(g: Singles, p: Option<(u32, u32)>) -> Singles
     ensures { result ≡ with_start g p }
 {
     let expect = g.expect;
@@ -30,7 +29,7 @@ pub fn with_start(g: Singles, p: Part) -> Singles
 }
 
 // `%expect-rr` or `%expect`.
-pub fn with_expected(g: Singles, rr: bool, e: Expect) -> Singles
+pub fn with_expected(g: Singles, rr: bool, e: Option<(u64, u32, u32)>) -> Singles
     ensures { result ≡ with_expected g rr e }
 {
     let start = g.start;
@@ -59,7 +58,7 @@ pub fn with_expected(g: Singles, rr: bool, e: Expect) -> Singles
     }
 }
 
-pub fn with_param(g: Singles, p: Param) -> Singles
+pub fn with_param(g: Singles, p: Option<(u32, u32, u32, u32)>) -> Singles
     ensures { result ≡ with_param g p }
 {
     let start = g.start;
@@ -77,7 +76,7 @@ pub fn with_param(g: Singles, p: Param) -> Singles
     }
 }
 
-pub fn with_generics(g: Singles, p: Part) -> Singles
+pub fn with_generics(g: Singles, p: Option<(u32, u32)>) -> Singles
     ensures { result ≡ with_generics g p }
 {
     let start = g.start;
@@ -103,15 +102,15 @@ pub fn start_named(s: State, i: u32, j: u32, t10: &mut [u32]) -> Step
     let g = s.singles;
     let p = g.start;
     match p {
-        Part::Absent => {
+        None => {
             let mut next = s;
-            next.singles = with_start(g, Part::At(i, j));
+            next.singles = with_start(g, Some((i, j)));
             Step {
                 answer: Answer::Going,
                 state: next,
             }
         }
-        Part::At(a, b) => grammar::list_repeat(s, Repeat::RepeatedStart, a, b, i, j, t10),
+        Some((a, b)) => grammar::list_repeat(s, Repeat::RepeatedStart, a, b, i, j, t10),
     }
 }
 
@@ -122,17 +121,17 @@ pub fn start_decl(src: &[u8], s: State, t10: &mut [u32]) -> Step
 {
     let at = s.at;
     match grammar::pass_gap(src, s.kind, at, false) {
-        Gap::GapTo(i, _) => match words::parse_name(src, i) {
-            Name::NameTo(j) => {
+        Ok((i, _)) => match words::parse_name(src, i) {
+            Ok(j) => {
                 let r = start_named(s, i as u32, j as u32, t10);
                 grammar::pass_on(src, r, j, false)
             }
-            Name::NoName(k) => Step {
+            Err(k) => Step {
                 answer: Answer::Refused(Refusal::Fault(Cause::IllegalName, k as u32)),
                 state: s,
             },
         },
-        Gap::GapRefused(f) => Step {
+        Err(f) => Step {
             answer: Answer::Refused(f),
             state: s,
         },
@@ -147,15 +146,15 @@ pub fn expect_given(s: State, rr: bool, v: u64, i: u32, j: u32, t10: &mut [u32])
     let g = s.singles;
     let e = if rr { g.expect_rr } else { g.expect };
     match e {
-        Expect::NotExpected => {
+        None => {
             let mut next = s;
-            next.singles = with_expected(g, rr, Expect::Expected(v, i, j));
+            next.singles = with_expected(g, rr, Some((v, i, j)));
             Step {
                 answer: Answer::Going,
                 state: next,
             }
         }
-        Expect::Expected(_, a, b) => {
+        Some((_, a, b)) => {
             let what = if rr {
                 Repeat::RepeatedExpectRr
             } else {
@@ -173,21 +172,21 @@ pub fn expect_decl(src: &[u8], s: State, rr: bool, t10: &mut [u32]) -> Step
 {
     let at = s.at;
     match grammar::pass_gap(src, s.kind, at, false) {
-        Gap::GapTo(i, _) => match words::parse_int(src, i) {
-            Int::Value(v, j) => {
+        Ok((i, _)) => match words::parse_int(src, i) {
+            Ok((v, j)) => {
                 let r = expect_given(s, rr, v, i as u32, j as u32, t10);
                 grammar::pass_on(src, r, j, false)
             }
-            Int::NoDigits(k) => Step {
+            Err(IntError::NoDigits(k)) => Step {
                 answer: Answer::Refused(Refusal::Fault(Cause::IntegerEmpty, k as u32)),
                 state: s,
             },
-            Int::TooLarge(k) => Step {
+            Err(IntError::TooLarge(k)) => Step {
                 answer: Answer::Refused(Refusal::Fault(Cause::IntegerTooLarge, k as u32)),
                 state: s,
             },
         },
-        Gap::GapRefused(f) => Step {
+        Err(f) => Step {
             answer: Answer::Refused(f),
             state: s,
         },
@@ -201,7 +200,7 @@ pub fn actiontype_named(s: State, i: u32, j: u32, t10: &mut [u32]) -> Step
 {
     let p = s.actiontype;
     match p {
-        Part::Absent => {
+        None => {
             let c = s.counts;
             let x = s.posix;
             let g = s.singles;
@@ -214,11 +213,11 @@ pub fn actiontype_named(s: State, i: u32, j: u32, t10: &mut [u32]) -> Step
                     counts: c,
                     posix: x,
                     singles: g,
-                    actiontype: Part::At(i, j),
+                    actiontype: Some((i, j)),
                 },
             }
         }
-        Part::At(a, b) => grammar::list_repeat(s, Repeat::RepeatedActiontype, a, b, i, j, t10),
+        Some((a, b)) => grammar::list_repeat(s, Repeat::RepeatedActiontype, a, b, i, j, t10),
     }
 }
 
@@ -229,12 +228,12 @@ pub fn actiontype_decl(src: &[u8], s: State, t10: &mut [u32]) -> Step
 {
     let at = s.at;
     match grammar::pass_gap(src, s.kind, at, false) {
-        Gap::GapTo(i, _) => {
+        Ok((i, _)) => {
             let j = texts::parse_to_eol(src, i);
             let r = actiontype_named(s, i as u32, j as u32, t10);
             grammar::pass_on(src, r, j, false)
         }
-        Gap::GapRefused(f) => Step {
+        Err(f) => Step {
             answer: Answer::Refused(f),
             state: s,
         },
@@ -248,14 +247,14 @@ pub fn param_typed(src: &[u8], s: State, a: u32, b: u32, k: usize) -> Step
     ensures moved { Onward src.now k s.at result.answer result.state.at }
 {
     match grammar::pass_gap(src, s.kind, k, false) {
-        Gap::GapTo(i, _) => {
+        Ok((i, _)) => {
             let j = texts::parse_to_eol(src, i);
             let g = s.singles;
             let mut next = s;
-            next.singles = with_param(g, Param::ParamAt(a, b, i as u32, j as u32));
+            next.singles = with_param(g, Some((a, b, i as u32, j as u32)));
             grammar::past_gap(src, next, j, false)
         }
-        Gap::GapRefused(f) => Step {
+        Err(f) => Step {
             answer: Answer::Refused(f),
             state: s,
         },
@@ -269,14 +268,14 @@ pub fn param_decl(src: &[u8], s: State) -> Step
 {
     let at = s.at;
     match grammar::pass_gap(src, s.kind, at, false) {
-        Gap::GapTo(i, _) => match texts::parse_to_single_colon(src, i) {
-            ColonText::Upto(j, _, p) => param_typed(src, s, p.from as u32, p.to as u32, j + 1),
-            ColonText::NoColon(k) => Step {
+        Ok((i, _)) => match texts::parse_to_single_colon(src, i) {
+            Ok((j, _, p)) => param_typed(src, s, p.from as u32, p.to as u32, j + 1),
+            Err(k) => Step {
                 answer: Answer::Refused(Refusal::Fault(Cause::ReachedEnd, k as u32)),
                 state: s,
             },
         },
-        Gap::GapRefused(f) => Step {
+        Err(f) => Step {
             answer: Answer::Refused(f),
             state: s,
         },
@@ -290,14 +289,14 @@ pub fn generics_decl(src: &[u8], s: State) -> Step
 {
     let at = s.at;
     match grammar::pass_gap(src, s.kind, at, false) {
-        Gap::GapTo(i, _) => {
+        Ok((i, _)) => {
             let j = texts::parse_to_eol(src, i);
             let g = s.singles;
             let mut next = s;
-            next.singles = with_generics(g, Part::At(i as u32, j as u32));
+            next.singles = with_generics(g, Some((i as u32, j as u32)));
             grammar::past_gap(src, next, j, false)
         }
-        Gap::GapRefused(f) => Step {
+        Err(f) => Step {
             answer: Answer::Refused(f),
             state: s,
         },

@@ -1,4 +1,5 @@
 -- What is shipped of declarations is the same declarations, for any source that they stand in. Assumes nothing.
+use Rattle.std.specs.Prelude.{None}
 use Prim.Native.Nat.{ℕ, ◌+◌, ◌≤◌}
 use mathlib.Core.Path.{◌≡◌, refl, sym, ◌∙◌, ap}
 use mathlib.Core.List.{List, ◌∷◌, ◌++◌}
@@ -6,7 +7,6 @@ use mathlib.Core.Bool.{true, false}
 use lib.ListN.{length, drop}
 use Rattle.keywords.specs.declared.Keyword.{Keyword}
 use Rattle.keywords.specs.declared.Keyword.TheVariants.{TypeWord, ActiontypeWord, StartWord, ExpectRrWord, ExpectWord, AvoidInsertWord, ParseParamWord, ParseGenericsWord, ImplicitTokensWord, LeftWord, RightWord, NonassocWord, NoKeyword}
-use Rattle.grammar.specs.declared.Part.TheVariants.{Absent}
 use Rattle.marks.specs.Worded.{headless}
 use Rattle.lists.specs.declared.WordList.{WordList}
 use Rattle.lists.specs.declared.WordList.TheVariants.{TokenList, UnusedList, TypeList}
@@ -19,7 +19,7 @@ use Rattle.alike.proofs.Front.{percent_solid}
 use Rattle.alike.proofs.Agree.{clash}
 use Rattle.printed.specs.Print.{words}
 use Rattle.printed.specs.Stands.{Spelled, Lined, Single, name, integer, line, Given, Epped, Params}
-use Rattle.printed.specs.Decls.{Decl, listed, lined, single, spell, keyword_of, body_text, decl_text, decls_text, left, right, nonassoc, avoid_insert, implicit_tokens, Some, SeenTo, Decl1, listed1, prec1, names1, start1, expect1, actiontype1, generics1, epp1, param1, Decls1, end1, skip1, decl1, Section1}
+use Rattle.printed.specs.Decls.{Decl, listed, lined, single, spell, keyword_of, body_text, decl_text, decls_text, left, right, nonassoc, avoid_insert, implicit_tokens, NonEmpty, SeenTo, Decl1, listed1, prec1, names1, start1, expect1, actiontype1, generics1, epp1, param1, Decls1, end1, skip1, decl1, Section1}
 use Rattle.printed.proofs.Seen.{seen_word, seen_percents, known, seen_fits}
 use Rattle.printed.proofs.Arms.{list_space, row_some}
 use Rattle.printed.proofs.Ships.{decls_front}
@@ -36,13 +36,13 @@ module _ (kind : ℕ) (kinds : Kind kind) (src out : List ℕ) where
     there : P to
     left : drop to out ≡ rest
 
-  lead_none : (what : WordList) (i : ℕ) → Leads what kind out i i Absent
+  lead_none : (what : WordList) (i : ℕ) → Leads what kind out i i None
   lead_none TokenList i = headless (not_four kinds)
   lead_none UnusedList i = (refl, refl)
   lead_none TypeList i = headless (not_four kinds)
 
   -- behind its keyword: a list, a line, one thing
-  list_stood : (what : WordList) (j k : ℕ) (xs : List (List ℕ)) → Some xs → Spelled what kind src j k xs → (cs : List ℕ) (f : ℕ) → drop f out ≡ words xs ++ (10 ∷ (37 ∷ cs)) → Stood (λ t. Spelled what kind out f t xs) (37 ∷ cs)
+  list_stood : (what : WordList) (j k : ℕ) (xs : List (List ℕ)) → NonEmpty xs → Spelled what kind src j k xs → (cs : List ℕ) (f : ℕ) → drop f out ≡ words xs ++ (10 ∷ (37 ∷ cs)) → Stood (λ t. Spelled what kind out f t xs) (37 ∷ cs)
   list_stood what j k xs s l cs f q =
       let b = back what kind src out cs l.words f q in
       record { to = b.to; there = record { from = b.at; lines = b.lines; head = b.at; gap = b.first s; lead = lead_none what b.at; words = there_written what kind src out b.pairs }; left = b.left }
@@ -73,7 +73,7 @@ module _ (kind : ℕ) (kinds : Kind kind) (src out : List ℕ) where
     }
 
   module _ (i k : ℕ) where
-    list_shown : (what : WordList) (j : ℕ) (xs : List (List ℕ)) (s : Some xs) → let d = listed what xs in SeenTo kind src i (keyword_of d) j → (keyword_of d ≡ NoKeyword → ⊥) → ((rest : List ℕ) → (c : List ℕ) × (decl_text d rest ≡ 37 ∷ c)) → Spelled what kind src j k xs → Shown d
+    list_shown : (what : WordList) (j : ℕ) (xs : List (List ℕ)) (s : NonEmpty xs) → let d = listed what xs in SeenTo kind src i (keyword_of d) j → (keyword_of d ≡ NoKeyword → ⊥) → ((rest : List ℕ) → (c : List ℕ) × (decl_text d rest ≡ 37 ∷ c)) → Spelled what kind src j k xs → Shown d
     list_shown what j xs s e n f l = shown i j (listed what xs) e n f (λ cs. list_space xs (10 ∷ (37 ∷ cs)) s) (λ g t. Spelled what kind out g t xs) (λ f g t h z. listed1 what g h s z) (list_stood what j k xs s l)
 
     module _ (w : Keyword) (j : ℕ) (e : SeenTo kind src i w j) (n : w ≡ NoKeyword → ⊥) (f : (rest : List ℕ) → (c : List ℕ) × (spell w ++ rest ≡ 37 ∷ c)) where

@@ -1,4 +1,5 @@
 -- Declarations that stand in a source are what the pass writes. Assumes nothing.
+use Rattle.std.specs.Prelude.{None, Result, Ok}
 use Prim.Native.Nat.{ℕ, zero, suc, ◌+◌, ◌-◌, ◌≤◌, ◌<◌}
 use mathlib.Core.Path.{◌≡◌, refl, sym, ◌∙◌, ap}
 use mathlib.Core.List.{List, [], ◌∷◌, ◌++◌, append_assoc, append-nil}
@@ -9,22 +10,16 @@ use lib.Seq.{slice}
 use borrow.Author.Tests.{le-leb}
 use Rattle.scan.specs.Loop.{more, turns}
 use Rattle.scan.proofs.Bytes.{told}
-use Rattle.words.specs.declared.Name.TheVariants.{NameTo}
-use Rattle.words.specs.declared.Int.{Int}
-use Rattle.words.specs.declared.Int.TheVariants.{Value}
-use Rattle.words.specs.declared.Quote.{Quote}
-use Rattle.words.specs.declared.Quote.TheVariants.{Closed}
+use Rattle.words.specs.declared.IntError.{IntError}
+use Rattle.words.specs.declared.QuoteError.{QuoteError}
 use Rattle.words.specs.Words.{name_at, Named}
 use Rattle.words.specs.Numbers.{int_at, Counted}
 use Rattle.words.specs.Strings.{string_at, Stringed}
 use Rattle.words.proofs.Words.{name_placed}
 use Rattle.words.proofs.Numbers.{int_placed}
 use Rattle.words.proofs.Strings.{string_placed}
-use Rattle.texts.specs.declared.Colon.{Colon}
 use Rattle.texts.specs.Colon.{colon_text, colon_text_at}
 use Rattle.trim.specs.Trim.{trimmed}
-use Rattle.grammar.specs.declared.Part.TheVariants.{Absent}
-use Rattle.grammar.specs.declared.Gap.TheVariants.{GapTo}
 use Rattle.grammar.specs.State.{Gapped, gap_at}
 use Rattle.grammar.proofs.Kept.{gapped}
 use Rattle.keywords.specs.declared.Keyword.{Keyword}
@@ -43,7 +38,7 @@ use Rattle.alike.proofs.Moved.{colon_lies}
 use Rattle.alike.proofs.Agree.{clash}
 use Rattle.printed.specs.Print.{words}
 use Rattle.printed.specs.Stands.{WordAt, Spelled, Row1, end1 as row-end, more1, Lined, Single, name, integer, line, SingleAt, Given, Epped, Params}
-use Rattle.printed.specs.Decls.{Decl, listed, lined, single, paired, param, spell, list_keyword, keyword_of, body_text, decl_text, decls_text, left, right, nonassoc, avoid_insert, implicit_tokens, Some, SeenTo, Decl1, listed1, prec1, names1, start1, expect1, actiontype1, generics1, epp1, param1, Decls1, end1, skip1, decl1}
+use Rattle.printed.specs.Decls.{Decl, listed, lined, single, paired, param, spell, list_keyword, keyword_of, body_text, decl_text, decls_text, left, right, nonassoc, avoid_insert, implicit_tokens, NonEmpty, SeenTo, Decl1, listed1, prec1, names1, start1, expect1, actiontype1, generics1, epp1, param1, Decls1, end1, skip1, decl1}
 use Rattle.printed.proofs.Words.{word_lies, word_further}
 use Rattle.printed.proofs.Seen.{known, seen_fits}
 use Rattle.shipper.specs.declared.Piece.{Piece}
@@ -94,8 +89,8 @@ module _ (kind : ℕ) (src : List ℕ) where
   then : {i j k : ℕ} → Onward i j → Onward j k → Onward i k
   then f g h = let x = f h in let y = g x.1 in let a = x.0 in let b = y.0 in (omega arith, y.1)
 
-  gap_on : (ok : Bool) (i j n : ℕ) → gap_at kind ok src i ≡ GapTo j n → Onward i j
-  gap_on ok i j n g h = let z : Gapped src i (GapTo j n) = told (Gapped src i) g (gapped kind ok src i h) in let a = z.0 in (omega arith, z.1)
+  gap_on : (ok : Bool) (i j n : ℕ) → gap_at kind ok src i ≡ Ok (j, n) → Onward i j
+  gap_on ok i j n g h = let z : Gapped src i (Ok (j, n)) = told (Gapped src i) g (gapped kind ok src i h) in let a = z.0 in (omega arith, z.1)
 
   unused_end : (i e : ℕ) (row : List ℕ) → UnusedWord src i e row → piece_end SpelledPiece src i ≡ e
   unfolding piece_end spelled_at
@@ -111,16 +106,16 @@ module _ (kind : ℕ) (src : List ℕ) where
   single_end : (w : Single) (i e : ℕ) → SingleAt w src i e → piece_end (single_piece w) src i ≡ e
   unfolding piece_end
   single_end name i e h = name_end_lem kind src i e h
-  single_end (integer v) i e h = ap (λ (x : Int). int_end x i) h
+  single_end (integer v) i e h = ap (λ (x : Result (ℕ × ℕ) IntError). int_end x i) h
   single_end line i e h = h.0
 
-  string_end_lem : (i e : ℕ) → string_at src i ≡ Closed e → piece_end StringPiece src i ≡ e
+  string_end_lem : (i e : ℕ) → string_at src i ≡ Ok e → piece_end StringPiece src i ≡ e
   unfolding piece_end
-  string_end_lem i e h = ap (λ (x : Quote). string_end x i) h
+  string_end_lem i e h = ap (λ (x : Result ℕ QuoteError). string_end x i) h
 
   single_on : (w : Single) (i e : ℕ) → SingleAt w src i e → Onward i e
-  single_on name i e h l = let y : Named src i (NameTo e) = told (Named src i) h (name_placed src i (name_at src i) refl).1 in let a = y.0 in (omega arith, y.1)
-  single_on (integer v) i e h l = let y : Counted src i (Value v e) = told (Counted src i) h (int_placed src i l (int_at src i) refl).1 in let a = y.0 in (omega arith, y.1)
+  single_on name i e h l = let y : Named src i (Ok e) = told (Named src i) h (name_placed src i (name_at src i) refl).1 in let a = y.0 in (omega arith, y.1)
+  single_on (integer v) i e h l = let y : Counted src i (Ok (v, e)) = told (Counted src i) h (int_placed src i l (int_at src i) refl).1 in let a = y.0 in (omega arith, y.1)
   single_on line i e h l = let a = h.1 in let b = h.2 in (omega arith, omega arith)
 
   -- ---- lists
@@ -144,7 +139,7 @@ module _ (kind : ℕ) (src : List ℕ) where
   words_onward what (word {i} {end} {k = m} {n = c} {x = x} e w g l) h = let f = word_further what kind src i end m c x w g in let y = words_onward what l f.1 in let a = f.0 in let b = y.0 in (omega arith, y.1)
 
   -- in kinds 1 to 3 no tag stands in front
-  lead_is : (what : WordList) {i j : ℕ} → Leads what kind src i j Absent → j ≡ i
+  lead_is : (what : WordList) {i j : ℕ} → Leads what kind src i j None → j ≡ i
   lead_is TokenList (headless e) = refl
   lead_is TokenList (bare z w q) = refl
   lead_is UnusedList l = l.0
@@ -152,7 +147,7 @@ module _ (kind : ℕ) (src : List ℕ) where
   lead_is TypeList (bare z w q) = refl
 
   module _ (what : WordList) (head : List ℕ) where
-    written_shipped : {i k : ℕ} {xs : List (List ℕ)} → Some xs → Written kind (WordAt what src) src i k xs → ship_list kind head (piece_of what) src i ≡ made (head ++ (words xs ++ (10 ∷ []))) k
+    written_shipped : {i k : ℕ} {xs : List (List ℕ)} → NonEmpty xs → Written kind (WordAt what src) src i k xs → ship_list kind head (piece_of what) src i ≡ made (head ++ (words xs ++ (10 ∷ []))) k
     unfolding ship_list ship_words
     written_shipped s (over e) = absurd s
     written_shipped s (word e w g l) = rw (e, ship_list) (ap (λ (o : Shipped). made (head ++ (o.text ++ (10 ∷ []))) o.at) (words_from what (suc (length src)) [] (word e w g l) (omega arith)))
@@ -172,7 +167,7 @@ module _ (kind : ℕ) (src : List ℕ) where
       list_onward = then (gap_on false at l.from l.lines l.gap) (words_onward what (told (λ (i : ℕ). Written kind (WordAt what src) src i k xs) (lead_is what l.lead) l.words))
 
       -- A list with a word in it is shipped; one with none is left out.
-      pub list_shipped : Some xs → ship_list kind head (piece_of what) src (passed kind false src at) ≡ record { text = head ++ (words xs ++ (10 ∷ [])); at = k }
+      pub list_shipped : NonEmpty xs → ship_list kind head (piece_of what) src (passed kind false src at) ≡ record { text = head ++ (words xs ++ (10 ∷ [])); at = k }
       list_shipped s = written_shipped s list_words
 
     pub list_none : (at k : ℕ) → Spelled what kind src at k [] → ship_list kind head (piece_of what) src (passed kind false src at) ≡ record { text = []; at = k }
@@ -184,14 +179,14 @@ module _ (kind : ℕ) (src : List ℕ) where
   unfolding words
   line_from zero t w h = absurd (omega arith)
   line_from (suc n) t (row-end {i} {e} {k} {n = c} {x} w g z) h =
-      turns_stop (line_turn kind src) n _ _ (line_ends_lem kind src i e (sym (token_end_lem kind src i e x w)) (word_lies TokenList src i e x w).0 (GapTo k c) (sym g) k c refl (λ q. omega arith) t)
+      turns_stop (line_turn kind src) n _ _ (line_ends_lem kind src i e (sym (token_end_lem kind src i e x w)) (word_lies TokenList src i e x w).0 (Ok (k, c)) (sym g) k c refl (λ q. omega arith) t)
       ∙ ap (λ (y : List ℕ). made (t ++ (32 ∷ y)) k) (w.spelled ∙ sym (append-nil x))
   line_from (suc n) t (more1 {i} {e} {m} {k} {n = c} {x} {xs} w g z l) h =
       let f = word_further TokenList kind src i e m c x w g in
       let a = f.0 in
       let b = f.1 in
       let o : line_turn kind src (made t i) ≡ more (made (t ++ (32 ∷ x)) m) =
-      line_more kind src i e (sym (token_end_lem kind src i e x w)) (word_lies TokenList src i e x w).0 (GapTo m c) (sym g) m c refl z t ∙ ap (λ (y : List ℕ). more (made (t ++ (32 ∷ y)) m)) w.spelled in
+      line_more kind src i e (sym (token_end_lem kind src i e x w)) (word_lies TokenList src i e x w).0 (Ok (m, c)) (sym g) m c refl z t ∙ ap (λ (y : List ℕ). more (made (t ++ (32 ∷ y)) m)) w.spelled in
       turns_more (line_turn kind src) n _ _ o ∙ line_from n (t ++ (32 ∷ x)) l (omega arith) ∙ ap (λ (y : List ℕ). made y k) (append_assoc t (32 ∷ x) (words xs))
 
   row_onward : {i k : ℕ} {xs : List (List ℕ)} → Row1 kind src i k xs → Onward i k
@@ -232,7 +227,7 @@ module _ (kind : ℕ) (src : List ℕ) where
         let t = g.type in
         rw (
           passed_is kind src false at g.from g.lines g.gap,
-          colon_end_lem kind src g.from g.colon g.counted (trimmed src g.from g.colon) (ap (λ (z : Colon). colon_text src g.from z) g.is),
+          colon_end_lem kind src g.from g.colon g.counted (trimmed src g.from g.colon) (ap (λ (z : Result (ℕ × ℕ) ℕ). colon_text src g.from z) g.is),
           g.spelled,
           past_colon_lem kind src g.colon c.2,
           passed_is kind src false (g.colon + 1) t.from t.lines t.gap,
@@ -256,7 +251,7 @@ module _ (kind : ℕ) (src : List ℕ) where
       key z h = let a = z.0 in (omega arith, z.1)
 
       text : Onward g.value g.end
-      text h = let z : Stringed src g.value (Closed g.end) = told (Stringed src g.value) g.text (string_placed src g.value (string_at src g.value) refl).1 in let a = z.0 in (omega arith, z.1)
+      text h = let z : Stringed src g.value (Ok g.end) = told (Stringed src g.value) g.text (string_placed src g.value (string_at src g.value) refl).1 in let a = z.0 in (omega arith, z.1)
 
   param_onward : (at k : ℕ) (x y : List ℕ) → Params kind src at k x y → Onward at k
   param_onward at k x y g = then (gap_on false at g.from g.lines g.gap) (then text (one_onward line (g.colon + 1) k y g.type))

@@ -1,4 +1,5 @@
 -- Where the names of two readings are alike, their symbols know the same rows and their indexes hold the same slots. Assumes nothing.
+use Rattle.std.specs.Prelude.{Option}
 use Prim.Native.Nat.{ℕ, zero, suc, ◌+◌, ◌*◌, ◌%◌, ◌≤◌, ◌<◌}
 use mathlib.Core.Path.{◌≡◌, refl, sym, ◌∙◌, ap, ap₂}
 use mathlib.Core.List.{List}
@@ -7,7 +8,6 @@ use native.Mathlib.Omega.{arith}
 use lib.Dec.{eqb}
 use lib.ListN.{length, get_or, set}
 use Rattle.scan.proofs.Bytes.{within_yes}
-use Rattle.tables.specs.declared.Found.{Found}
 use Rattle.tables.specs.Layout.{tokens, rules, symbols, kind_name, known_row, width}
 use Rattle.tables.specs.Table.{cell}
 use Rattle.tables.specs.Rows.{row_at}
@@ -91,7 +91,7 @@ module _ (src out : List ℕ) (c : Counts) (T W : AllTables) (tables : (k : ℕ)
   named_like : (kind a b e f : ℕ) → Same src out a b e f → named_row here kind a b ≡ named_row there kind e f
   unfolding named_row
   named_like kind a b e f x =
-      ap₂ (λ (p q : Found). elim (eqb kind 1) [ true ↦ row_number p | false ↦ row_number q ])
+      ap₂ (λ (p q : Option ℕ). elim (eqb kind 1) [ true ↦ row_number p | false ↦ row_number q ])
       (find_like src out (width rules) 0 (get_or c.n rules 0) T.t7 W.t7 (omega arith) rule_names a b e f x)
       (find_like src out (width tokens) 0 (get_or c.n tokens 0) T.t1 W.t1 (omega arith) token_names a b e f x)
 

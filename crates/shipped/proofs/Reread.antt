@@ -1,4 +1,5 @@
 -- Document 02, request Eleven: reading what an accepted source is shipped as gives the same tables, singles and indexes, places aside; it ships as itself, and is a text. Assumes nothing.
+use Rattle.std.specs.Prelude.{Ok}
 use Prim.Native.Nat.{ℕ, ◌≤◌, ◌<◌}
 use mathlib.Core.Path.{◌≡◌, refl, sym, ◌∙◌, ap}
 use mathlib.Core.List.{List}
@@ -14,7 +15,6 @@ use Rattle.grammar.specs.Sound.{AllTables, cells_of, set_tab, zero_all, Indexes}
 use Rattle.grammar.specs.State.{fresh}
 use Rattle.grammar.proofs.Counting.{count_low}
 use Rattle.sections.specs.Sections.{sized, with_declared, with_ruled}
-use Rattle.reader.specs.declared.Verdict.TheVariants.{Accepted}
 use Rattle.reader.specs.Read.{Outcome, indexed, read_names, filled_in, read_all}
 use Rattle.alike.specs.Like.{Kind, Table, Near}
 use Rattle.alike.proofs.Steps.{same_count}
@@ -54,7 +54,7 @@ module _ (src out : List ℕ) (s u : State) where
     ended_like : (X : Indexes) → u.at ≡ length out → Reread src out (filled_in src (indexed src X (accepted_as s T))) (filled_in out (indexed out X (accepted_as u W)))
     ended_like X e =
         record {
-          accepted = ap Accepted e;
+          accepted = ap Ok e;
           counts = n.like.counts;
           posix = n.like.posix;
           singles = n.like.singles;
@@ -62,7 +62,7 @@ module _ (src out : List ℕ) (s u : State) where
           indexes = indexes_like src out s.counts T W (ten_like T W n) X ∙ ap (λ (c : Counts). indexes_of out c W X) n.like.counts;
         }
 
-module _ (src : List ℕ) (kind : ℕ) (T : AllTables) (X : Indexes) (e : ℕ) (k : Kind kind) (h : (read_all src kind T X).answer ≡ Accepted e) where
+module _ (src : List ℕ) (kind : ℕ) (T : AllTables) (X : Indexes) (e : ℕ) (k : Kind kind) (h : (read_all src kind T X).answer ≡ Ok e) where
   -- what the read went through, and what stands in its source
   gone : Went src kind (sized T X) T
   unfolding read_all read_names

@@ -1,4 +1,5 @@
 -- Items, rules and programs that stand in a source are what the pass writes. Assumes nothing.
+use Rattle.std.specs.Prelude.{Result, Ok}
 use Prim.Native.Nat.{ℕ, zero, suc, ◌+◌, ◌-◌, ◌<◌}
 use mathlib.Core.Path.{◌≡◌, refl, sym, ◌∙◌, ap}
 use mathlib.Core.List.{List, [], ◌∷◌, ◌++◌, append_assoc, append-nil}
@@ -14,20 +15,12 @@ use Rattle.scan.specs.Scan.{is_eol, starts_at}
 use Rattle.scan.specs.Loop.{Turn, more, stop, turns}
 use Rattle.scan.proofs.Bytes.{told, drop_key, byte_below, at_yes, starts_byte}
 use Rattle.spacing.specs.Spacing.{is_blank}
-use Rattle.words.specs.declared.Name.{Name}
-use Rattle.words.specs.declared.Name.TheVariants.{NameTo}
-use Rattle.words.specs.declared.Token.{Token}
 use Rattle.words.specs.Words.{name_at, Named}
 use Rattle.words.proofs.Words.{name_placed}
-use Rattle.texts.specs.declared.ColonText.{ColonText}
-use Rattle.texts.specs.declared.ColonText.TheVariants.{Upto}
-use Rattle.texts.specs.declared.Action.{Action}
-use Rattle.texts.specs.declared.Action.TheVariants.{Body}
 use Rattle.texts.specs.Colon.{colon_text_at, ColonTexts}
 use Rattle.texts.specs.Action.{action_at}
 use Rattle.texts.proofs.Laws.{colon_placed}
-use Rattle.grammar.specs.declared.Gap.{Gap}
-use Rattle.grammar.specs.declared.Gap.TheVariants.{GapTo}
+use Rattle.grammar.specs.declared.Refusal.{Refusal}
 use Rattle.grammar.specs.State.{gap_at}
 use Rattle.items.specs.declared.Sort.{Sort}
 use Rattle.items.specs.declared.Sort.TheVariants.{BarSort, EndSort, QuotedSort, PrecSort, ActionSort, EmptySort, BareSort}
@@ -58,28 +51,28 @@ onward_more f t x i k p e q h = e ∙ ap (λ (y : Shipped). onward (made t i) y)
 
 module _ (kind : ℕ) (src : List ℕ) where
   -- where spacing, words and texts end, as the pass has it
-  pub passed_is : (ok : Bool) (i k m : ℕ) → gap_at kind ok src i ≡ GapTo k m → passed kind ok src i ≡ k
+  pub passed_is : (ok : Bool) (i k m : ℕ) → gap_at kind ok src i ≡ Ok (k, m) → passed kind ok src i ≡ k
   unfolding passed
-  passed_is ok i k m g = ap (λ (x : Gap). gap_end x i) g
+  passed_is ok i k m g = ap (λ (x : Result (ℕ × ℕ) Refusal). gap_end x i) g
 
-  pub name_end_lem : (i e : ℕ) → name_at src i ≡ NameTo e → piece_end NamePiece src i ≡ e
+  pub name_end_lem : (i e : ℕ) → name_at src i ≡ Ok e → piece_end NamePiece src i ≡ e
   unfolding piece_end
-  name_end_lem i e h = ap (λ (x : Name). name_end x i) h
+  name_end_lem i e h = ap (λ (x : Result ℕ ℕ). name_end x i) h
 
   pub token_end_lem : (i e : ℕ) (x : List ℕ) → TokenAt src i e x → piece_end TokenPiece src i ≡ e
   unfolding piece_end
-  token_end_lem i e x w = ap (λ (t : Token). token_end t i) w.is
+  token_end_lem i e x w = ap (λ (t : Result (Place × ℕ × Bool) ℕ). token_end t i) w.is
 
-  pub colon_end_lem : (i e n : ℕ) (p : Place) → colon_text_at src i ≡ Upto e n p → piece_end ColonPiece src i ≡ e
+  pub colon_end_lem : (i e n : ℕ) (p : Place) → colon_text_at src i ≡ Ok (e, n, p) → piece_end ColonPiece src i ≡ e
   unfolding piece_end
-  colon_end_lem i e n p h = ap (λ (x : ColonText). colon_end x i) h
+  colon_end_lem i e n p h = ap (λ (x : Result (ℕ × ℕ × Place) ℕ). colon_end x i) h
 
-  action_end_lem : (i e n : ℕ) (p q : Place) → i < length src → action_at src i ≡ Body e n p q → piece_end ActionPiece src i ≡ e
+  action_end_lem : (i e n : ℕ) (p q : Place) → i < length src → action_at src i ≡ Ok (e, n, p, q) → piece_end ActionPiece src i ≡ e
   unfolding piece_end
-  action_end_lem i e n p q l h = rw (lt-leb (length src) i l, piece_end) (ap (λ (x : Action). action_end x i) h)
+  action_end_lem i e n p q l h = rw (lt-leb (length src) i l, piece_end) (ap (λ (x : Result (ℕ × ℕ × Place × Place) ℕ). action_end x i) h)
 
   -- a piece with a space before it and spacing behind it
-  piece_is : (what : Piece) (i e k m : ℕ) (x : List ℕ) → piece_end what src i ≡ e → slice i e src ≡ x → gap_at kind true src e ≡ GapTo k m
+  piece_is : (what : Piece) (i e k m : ℕ) (x : List ℕ) → piece_end what src i ≡ e → slice i e src ≡ x → gap_at kind true src e ≡ Ok (k, m)
       → made (spaced src i (piece_end what src i)) (passed kind true src (piece_end what src i)) ≡ made (32 ∷ x) k
   piece_is what i e k m x h is g = rw (h, is, passed_is true e k m g)
 
@@ -97,7 +90,7 @@ module _ (kind : ℕ) (src : List ℕ) where
   item_is i a x s = ap (λ (y : Spotted). item_of y.sort kind src i y.end) s
 
   -- An item that stands in the source is what the pass writes for it,
-  pub item_shipped : {i e k m : ℕ} {x : Item} → Item1 kind src i e x → gap_at kind true src e ≡ GapTo k m → ship_item kind src i ≡ record { text = apart x ∷ shown x; at = k }
+  pub item_shipped : {i e k m : ℕ} {x : Item} → Item1 kind src i e x → gap_at kind true src e ≡ Ok (k, m) → ship_item kind src i ≡ record { text = apart x ∷ shown x; at = k }
   item_shipped {i} {e} {k} {m} (quoted1 {x = x} s w) g = item_is i _ QuotedSort s ∙ piece_is TokenPiece i e k m x (token_end_lem i e x w) w.spelled g
   item_shipped {i} {e} {k} {m} (bare1 {x = x} s w) g = item_is i _ BareSort s ∙ piece_is TokenPiece i e k m x (token_end_lem i e x w) w.spelled g
   item_shipped {i} {e} {k} {m} (named1 {a = a} {c = c} {m = n} {x = x} s g' w) g =
@@ -116,7 +109,7 @@ module _ (kind : ℕ) (src : List ℕ) where
   not_end (bar1 s) = ap (λ (y : Spotted). is_end y.sort) s
 
   -- the loop behind the text so far, with turns enough
-  items_from : (n : ℕ) (t : List ℕ) (i e k m : ℕ) (xs : List Item) → Items1 kind src i e xs → gap_at kind true src e ≡ GapTo k m → length src - i < n
+  items_from : (n : ℕ) (t : List ℕ) (i e k m : ℕ) (xs : List Item) → Items1 kind src i e xs → gap_at kind true src e ≡ Ok (k, m) → length src - i < n
       → turns n (items_turn kind src) (made t i) ≡ made (t ++ items_text xs) k
   unfolding items_text
   items_from zero t i e k m xs w g h = absurd (omega arith)
@@ -132,7 +125,7 @@ module _ (kind : ℕ) (src : List ℕ) where
       ∙ ap (λ (y : List ℕ). made y k) (append_assoc t (apart x ∷ shown x) (items_text ys))
 
   -- and so are the items of a rule up to its `;`,
-  pub items_shipped : {i e k m : ℕ} {xs : List Item} → Items1 kind src i e xs → gap_at kind true src e ≡ GapTo k m → ship_items kind src i ≡ record { text = items_text xs; at = k }
+  pub items_shipped : {i e k m : ℕ} {xs : List Item} → Items1 kind src i e xs → gap_at kind true src e ≡ Ok (k, m) → ship_items kind src i ≡ record { text = items_text xs; at = k }
   unfolding ship_items
   items_shipped {i} {e} {k} {m} {xs} w g = items_from (suc (length src)) [] i e k m xs w g (omega arith)
 
@@ -167,16 +160,16 @@ module _ (kind : ℕ) (src : List ℕ) where
   colon_passed : (i j : ℕ) (m : MarkAt kind src (58 ∷ []) i j) → passed kind true src (past_colon src m.at) ≡ j
   colon_passed i j m = ap (λ (y : ℕ). passed kind true src y) (past_colon_lem m.at (first_byte 58 [] m.at m.is)) ∙ passed_is true (m.at + 1) j m.after m.next
 
-  head_is : {to head : ℕ} {x : List ℕ} → Type1 kind src to head x → (i from : ℕ) (name : List ℕ) → name_at src i ≡ NameTo to → slice i to src ≡ name → MarkAt kind src (58 ∷ []) head from
+  head_is : {to head : ℕ} {x : List ℕ} → Type1 kind src to head x → (i from : ℕ) (name : List ℕ) → name_at src i ≡ Ok to → slice i to src ≡ name → MarkAt kind src (58 ∷ []) head from
       → ship_head kind src i ≡ made (name ++ (type_text kind x ++ (58 ∷ []))) from
   unfolding is_blank is_eol
   head_is (untyped1 {i = to} k) i from name n is c =
       head_plain i to c.at (name_end_lem i to n) (passed_is true to c.at c.before c.gap) (arrow_no c.at k)
       ∙ rw (is, untyped_text kind [] k, colon_passed to from c)
   head_is (typed1 {i = to} {from = a} {to = head} {p = p} {x = x} k t y) i from name n is c =
-      let u : Named src i (NameTo to) = told (Named src i) n (name_placed src i (name_at src i) refl).1 in
+      let u : Named src i (Ok to) = told (Named src i) n (name_placed src i (name_at src i) refl).1 in
       let f = mark_forth kind src (45 ∷ 62 ∷ []) to a (omega arith) u.1 t.arrow in
-      let v : ColonTexts src a (Upto head t.lines p) = told (ColonTexts src a) t.text (colon_placed src a f.1 (colon_text_at src a) refl).1 in
+      let v : ColonTexts src a (Ok (head, t.lines, p)) = told (ColonTexts src a) t.text (colon_placed src a f.1 (colon_text_at src a) refl).1 in
       let z : c.at ≡ head = mark_here (58 ∷ []) head from 58 (omega arith) v.2 refl refl refl c in
       let q : passed kind true src (past_colon src head) ≡ from = told (λ (l : ℕ). passed kind true src (past_colon src l) ≡ from) z (colon_passed head from c) in
       let m = t.arrow in
@@ -188,7 +181,7 @@ module _ (kind : ℕ) (src : List ℕ) where
   head_shipped {i} {e} {r} w = head_is w.typed i w.from r.name w.named w.spelled w.colon
 
   -- a rule,
-  pub rule_shipped : {i e k m : ℕ} {r : Rule} → Rule1 kind src i e r → gap_at kind true src e ≡ GapTo k m → ship_rule kind src i ≡ record { text = rule_text kind r; at = k }
+  pub rule_shipped : {i e k m : ℕ} {r : Rule} → Rule1 kind src i e r → gap_at kind true src e ≡ Ok (k, m) → ship_rule kind src i ≡ record { text = rule_text kind r; at = k }
   unfolding ship_rule rule_text
   rule_shipped {i} {e} {k} {m} {r} w g =
       ap (λ (o : Shipped). joined o (ship_items kind src o.at)) (head_shipped w)
@@ -242,7 +235,7 @@ module _ (kind : ℕ) (src : List ℕ) where
   unfolding rules_from is_blank is_eol
   rules_at i j s m =
       let z : m.at ≡ i = mark_here percents i j 37 (omega arith) (first_byte 37 (37 ∷ []) i s) refl refl refl m in
-      rw (s, rules_from) (passed_is true (i + 2) j m.after (told (λ (y : ℕ). gap_at kind true src (y + 2) ≡ GapTo j m.after) z m.next))
+      rw (s, rules_from) (passed_is true (i + 2) j m.after (told (λ (y : ℕ). gap_at kind true src (y + 2) ≡ Ok (j, m.after)) z m.next))
 
   -- and all that stands behind the declarations, from the `%%` at which they end.
   pub rest_shipped : {i : ℕ} {rs : List Rule} {p : Programs} → Rest1 kind src i rs p → starts_at percents src i ≡ true

@@ -1,4 +1,5 @@
 -- An accepted read of kinds 1 to 3: what it went through, and what stands in its source. Assumes nothing.
+use Rattle.std.specs.Prelude.{Option, Some, None, Result, Ok, Err}
 use Prim.Native.Nat.{ℕ, suc, ◌+◌, ◌≤◌}
 use mathlib.Core.Path.{◌≡◌, refl, sym, ◌∙◌, ap}
 use mathlib.Core.List.{List, [], ◌∷◌}
@@ -9,30 +10,21 @@ use lib.ListN.{length}
 use Rattle.scan.specs.Scan.{starts_at}
 use Rattle.scan.proofs.Bytes.{told, on_test}
 use Rattle.scan.proofs.Loop.{Either, turns_keep}
-use Rattle.whole.specs.declared.Checked.{Checked}
-use Rattle.whole.specs.declared.Checked.TheVariants.{Good, BadAt}
 use Rattle.whole.specs.Whole.{check_at}
 use Rattle.whole.specs.Encode.{Text}
 use Rattle.whole.proofs.Theorems.{good_text, text_good}
-use Rattle.words.specs.declared.Name.{Name}
-use Rattle.words.specs.declared.Name.TheVariants.{NameTo, NoName}
 use Rattle.words.specs.Words.{name_at}
-use Rattle.texts.specs.declared.ColonText.{ColonText}
-use Rattle.texts.specs.declared.ColonText.TheVariants.{Upto, NoColon}
+use Rattle.scan.specs.declared.Place.{Place}
 use Rattle.texts.specs.Colon.{colon_text_at}
-use Rattle.tables.specs.declared.Found.{Found}
-use Rattle.tables.specs.declared.Found.TheVariants.{RowAt, NoRow}
 use Rattle.tables.specs.Layout.{rules, symbols, repeats, width}
 use Rattle.tables.specs.Table.{find_name}
 use Rattle.grammar.specs.declared.State.{State}
-use Rattle.grammar.specs.declared.Part.{Part}
 use Rattle.grammar.specs.declared.Cause.{Cause}
 use Rattle.grammar.specs.declared.Cause.TheVariants.{MissingColon, MissingRightArrow, UnknownDeclaration}
 use Rattle.grammar.specs.declared.Refusal.TheVariants.{Fault}
 use Rattle.grammar.specs.declared.Answer.{Answer}
 use Rattle.grammar.specs.declared.Answer.TheVariants.{Going, Done, Refused}
-use Rattle.grammar.specs.declared.Gap.{Gap}
-use Rattle.grammar.specs.declared.Gap.TheVariants.{GapTo, GapRefused}
+use Rattle.grammar.specs.declared.Refusal.{Refusal}
 use Rattle.grammar.specs.Cells.{rule_cells}
 use Rattle.grammar.specs.Sound.{AllTables, zero_all}
 use Rattle.grammar.specs.State.{Out0, count, with_at, gap_at, past_gap, refused, fresh}
@@ -43,11 +35,8 @@ use Rattle.items.proofs.Far.{items_undone}
 use Rattle.declarations.specs.Declarations.{Out, decl_all}
 use Rattle.declarations.proofs.Posix.{posix_arms}
 use Rattle.rules.specs.Rules.{Typing, Heading, Ruled, mark_gap, pass_mark, first_start, colon_given, colon_type, arrow_passed, arrow_type, rule_type, rule_found, enter_rule, typed_head, named_head, head_found, rule_head, body_passed, rule_body, rule_headed, rule_step, next_rule, percents, rule_or_end, rules_turn, rules_run, rules_passed, rules_all, programs_gap, programs_from}
-use Rattle.sections.specs.declared.Admission.{Admission}
-use Rattle.sections.specs.declared.Admission.TheVariants.{Fit, Unfit}
 use Rattle.sections.specs.Sections.{as_text, sized_text, admitted, rest_from, rest_all, declared, with_ruled, sections_from, sections_all, attempt_of, attempted}
 use Rattle.sections.proofs.Laws.{is_text}
-use Rattle.reader.specs.declared.Verdict.TheVariants.{Accepted}
 use Rattle.reader.specs.declared.Reading.{Reading}
 use Rattle.reader.specs.Read.{Outcome, ended_at, result, finished, finished_run}
 use Rattle.reader.proofs.Laws.{accepted}
@@ -73,11 +62,11 @@ module _ (src : List ℕ) (s : State) where
   unfolding pass_mark
   mark_open word cause = go (gap_at s.kind true src s.at)
     where
-      go : (g : Gap) → Open (mark_gap g src s word cause).answer
-      go (GapTo i n) =
+      go : (g : Result (ℕ × ℕ) Refusal) → Open (mark_gap g src s word cause).answer
+      go (Ok (i, n)) =
           on_test (λ (o : Out0). Open o.answer) (starts_at word src i) (past_gap src false (i + length word) s) (refused (Fault cause i) s)
           (λ e. pass_open src (i + length word) Going s tt) (λ e. tt)
-      go (GapRefused f) = tt
+      go (Err f) = tt
 
   -- the type of a rule,
   type_open : Open (rule_type src s).answer
@@ -87,9 +76,9 @@ module _ (src : List ℕ) (s : State) where
       on_test (λ (o : Typing). Open o.answer) (eqb s.kind 2) (arrow_type src s) (record { answer = Going; state = s; given = s.actiontype })
       (λ e. go o.answer o.state (mark_open (45 ∷ 62 ∷ []) MissingRightArrow)) (λ e. tt)
     where
-      colon : (c : ColonText) (u : State) → Open (colon_given c u).answer
-      colon (Upto to n p) u = tt
-      colon (NoColon i) u = tt
+      colon : (c : Result (ℕ × ℕ × Place) ℕ) (u : State) → Open (colon_given c u).answer
+      colon (Ok (to, n, p)) u = tt
+      colon (Err i) u = tt
 
       go : (a : Answer) (u : State) → Open a → Open (arrow_passed a src u).answer
       go Going u h = colon (colon_text_at src u.at) u
@@ -97,13 +86,13 @@ module _ (src : List ℕ) (s : State) where
       go (Refused f) u h = h
 
   -- its row,
-  row_open : (from to : ℕ) (part : Part) (t7 : List ℕ) → Open (enter_rule src s from to part t7).answer
+  row_open : (from to : ℕ) (part : Option (ℕ × ℕ)) (t7 : List ℕ) → Open (enter_rule src s from to part t7).answer
   unfolding enter_rule
   row_open from to part t7 = go (find_name src (width rules) 0 (count s rules) t7 from to)
     where
-      go : (f : Found) → Open (rule_found f s from to part t7).answer
-      go (RowAt r) = tt
-      go NoRow = push_open s rules (rule_cells from to part) t7
+      go : (f : Option ℕ) → Open (rule_found f s from to part t7).answer
+      go (Some r) = tt
+      go None = push_open s rules (rule_cells from to part) t7
 
   -- programs,
   programs_open : Open (programs_from src s).answer
@@ -112,9 +101,9 @@ module _ (src : List ℕ) (s : State) where
       on_test (λ (o : Out0). Open o.answer) (starts_at percents src s.at) (programs_gap (gap_at s.kind true src (s.at + 2)) src s) (record { answer = Going; state = s })
       (λ e. go (gap_at s.kind true src (s.at + 2))) (λ e. tt)
     where
-      go : (g : Gap) → Open (programs_gap g src s).answer
-      go (GapTo i n) = tt
-      go (GapRefused f) = tt
+      go : (g : Result (ℕ × ℕ) Refusal) → Open (programs_gap g src s).answer
+      go (Ok (i, n)) = tt
+      go (Err f) = tt
 
 module _ (src : List ℕ) (s : State) where
   -- a rule's head,
@@ -122,17 +111,17 @@ module _ (src : List ℕ) (s : State) where
   unfolding rule_head named_head
   head_open t7 = go (name_at src s.at)
     where
-      typed : (a : Answer) (u : State) (part : Part) (j : ℕ) → Open a → Open (typed_head a src u part s.at j t7).answer
+      typed : (a : Answer) (u : State) (part : Option (ℕ × ℕ)) (j : ℕ) → Open a → Open (typed_head a src u part s.at j t7).answer
       typed Going u part j h = row_open src u s.at j part t7
       typed Done u part j h = h
       typed (Refused f) u part j h = h
 
-      go : (n : Name) → Open (head_found n src s t7).answer
-      go (NameTo j) =
+      go : (n : Result ℕ ℕ) → Open (head_found n src s t7).answer
+      go (Ok j) =
           let u = with_at (first_start s s.at j) j in
           let o = rule_type src u in
           typed o.answer o.state o.given j (type_open src u)
-      go (NoName k) = tt
+      go (Err k) = tt
 
   -- its body,
   body_open : (row : ℕ) (t1 t8 t9 : List ℕ) → Open (rule_body src s row t1 t8 t9).answer
@@ -194,24 +183,24 @@ module _ (src : List ℕ) where
       rest (Refused f) r h = h
 
 -- A source that can be read: its indexes have right sizes, it is not too long, and it is a text;
-abbrev Admits : List ℕ → Bool → Admission → Type 0
-Admits src fit Fit = (fit ≡ true) × (length src ≤ 65536) × Text src
-Admits src fit (Unfit f) = Unit {0}
+abbrev Admits : List ℕ → Bool → Result (Unit {0}) Refusal → Type 0
+Admits src fit (Ok _) = (fit ≡ true) × (length src ≤ 65536) × Text src
+Admits src fit (Err f) = Unit {0}
 
 admits : (src : List ℕ) (kind : ℕ) (fit : Bool) → Admits src fit (admitted src kind fit)
 unfolding admitted
 admits src kind fit = on_test (Admits src fit) (ltb kind 1 || ltb 4 kind) _ _ (λ e. tt) (λ e. by fit refl)
   where
-    go : fit ≡ true → length src ≤ 65536 → (c : Checked) → check_at src 0 ≡ c → Admits src fit (as_text c)
-    go f h Good e = (f, h, good_text src e)
-    go f h (BadAt i) e = tt
+    go : fit ≡ true → length src ≤ 65536 → (c : Result (Unit {0}) ℕ) → check_at src 0 ≡ c → Admits src fit (as_text c)
+    go f h (Ok _) e = (f, h, good_text src e)
+    go f h (Err i) e = tt
 
     by : (b : Bool) → fit ≡ b → Admits src fit (sized_text b src)
     by true e = on_test (Admits src fit) (ltb 65536 (length src)) _ _ (λ h. tt) (λ h. go e (ltb-false _ _ h) (check_at src 0) refl)
     by false e = tt
 
 -- and one that is all that, of a kind that is shipped, can be read.
-pub admit : (src : List ℕ) {kind : ℕ} (fit : Bool) → Kind kind → fit ≡ true → length src ≤ 65536 → Text src → admitted src kind fit ≡ Fit
+pub admit : (src : List ℕ) {kind : ℕ} (fit : Bool) → Kind kind → fit ≡ true → length src ≤ 65536 → Text src → admitted src kind fit ≡ Ok tt
 admit src {kind} fit k f h t = sym (is_text src kind fit (known k) (rw f) h (check_at src 0) refl (text_good src t))
   where
     known : {kind : ℕ} → Kind kind → (ltb kind 1 || ltb 4 kind) ≡ false
@@ -228,12 +217,12 @@ rest_of src kind T = rest_all src (decls_of src kind T).state (decls_of src kind
 
 -- what is accepted of them
 abbrev pub accepted_as : State → AllTables → Outcome
-accepted_as s T = record { answer = Accepted s.at; counts = s.counts; posix = s.posix; singles = s.singles; tables = T }
+accepted_as s T = record { answer = Ok s.at; counts = s.counts; posix = s.posix; singles = s.singles; tables = T }
 
 -- a reading that ended and was accepted met no repeat
-none_repeated : (s : State) (t10 : List ℕ) (e : ℕ) → (ended_at s t10).answer ≡ Accepted e → count s repeats ≡ 0
+none_repeated : (s : State) (t10 : List ℕ) (e : ℕ) → (ended_at s t10).answer ≡ Ok e → count s repeats ≡ 0
 unfolding ended_at
-none_repeated s t10 e = on_test (λ (r : Reading). r.answer ≡ Accepted e → count s repeats ≡ 0) (eqb (count s repeats) 0) _ _ (λ q h. eqb-true _ _ q) (λ q h. absurd (clash cc))
+none_repeated s t10 e = on_test (λ (r : Reading). r.answer ≡ Ok e → count s repeats ≡ 0) (eqb (count s repeats) 0) _ _ (λ q h. eqb-true _ _ q) (λ q h. absurd (clash cc))
 
 module _ (src : List ℕ) (kind : ℕ) (fit : Bool) (T : AllTables) where
   -- what a read that is accepted goes through
@@ -241,32 +230,32 @@ module _ (src : List ℕ) (kind : ℕ) (fit : Bool) (T : AllTables) where
     pub fits : fit ≡ true
     pub short : length src ≤ 65536
     pub text : Text src
-    pub admits : admitted src kind fit ≡ Fit
+    pub admits : admitted src kind fit ≡ Ok tt
     pub done : (decls_of src kind T).answer ≡ Done
     pub going : (rest_of src kind T).answer ≡ Going
     pub none : count (rest_of src kind T).state repeats ≡ 0
 
   -- A read that was accepted went through it,
-  pub went : (e : ℕ) → (finished_run (attempted src kind fit (zero_all T))).answer ≡ Accepted e → Went
+  pub went : (e : ℕ) → (finished_run (attempted src kind fit (zero_all T))).answer ≡ Ok e → Went
   unfolding attempted sections_all
   went e = go (admitted src kind fit) refl (admits src kind fit)
     where
       r : Ruled
       r = rest_of src kind T
 
-      rest : admitted src kind fit ≡ Fit → Admits src fit Fit → (decls_of src kind T).answer ≡ Done → (a : Answer) → r.answer ≡ a → (finished a r.state (with_ruled (decls_of src kind T).tables r).tables).answer ≡ Accepted e → Went
+      rest : admitted src kind fit ≡ Ok tt → Admits src fit (Ok tt) → (decls_of src kind T).answer ≡ Done → (a : Answer) → r.answer ≡ a → (finished a r.state (with_ruled (decls_of src kind T).tables r).tables).answer ≡ Ok e → Went
       rest m x d Going q h = record { fits = x.0; short = x.1; text = x.2; admits = m; done = d; going = q; none = none_repeated r.state _ e h }
       rest m x d Done q h = absurd (told Open q (rest_open src (decls_of src kind T).state (decls_of src kind T).tables.t1 (zero_all T).t7 (zero_all T).t8 (zero_all T).t9))
       rest m x d (Refused f) q h = absurd (clash cc)
 
-      section : admitted src kind fit ≡ Fit → Admits src fit Fit → (a : Answer) → (decls_of src kind T).answer ≡ a → (finished_run (sections_from a src (decls_of src kind T) (zero_all T))).answer ≡ Accepted e → Went
+      section : admitted src kind fit ≡ Ok tt → Admits src fit (Ok tt) → (a : Answer) → (decls_of src kind T).answer ≡ a → (finished_run (sections_from a src (decls_of src kind T) (zero_all T))).answer ≡ Ok e → Went
       section m x Going q h = absurd (clash cc)
       section m x Done q h = rest m x q r.answer refl h
       section m x (Refused f) q h = absurd (clash cc)
 
-      go : (m : Admission) → admitted src kind fit ≡ m → Admits src fit m → (finished_run (attempt_of m src kind (zero_all T))).answer ≡ Accepted e → Went
-      go Fit m x h = section m x (decls_of src kind T).answer refl h
-      go (Unfit f) m x h = absurd (clash cc)
+      go : (m : Result (Unit {0}) Refusal) → admitted src kind fit ≡ m → Admits src fit m → (finished_run (attempt_of m src kind (zero_all T))).answer ≡ Ok e → Went
+      go (Ok _) m x h = section m x (decls_of src kind T).answer refl h
+      go (Err f) m x h = absurd (clash cc)
 
   -- and one that goes through it comes to this.
   pub went_is : Went → finished_run (attempted src kind fit (zero_all T)) ≡ accepted_as (rest_of src kind T).state (with_ruled (decls_of src kind T).tables (rest_of src kind T)).tables
@@ -275,7 +264,7 @@ module _ (src : List ℕ) (kind : ℕ) (fit : Bool) (T : AllTables) where
       let o = decls_of src kind T in
       let r = rest_of src kind T in
       let U = (with_ruled o.tables r).tables in
-      ap (λ (m : Admission). finished_run (attempt_of m src kind (zero_all T))) w.admits
+      ap (λ (m : Result (Unit {0}) Refusal). finished_run (attempt_of m src kind (zero_all T))) w.admits
       ∙ ap (λ (a : Answer). finished_run (sections_from a src o (zero_all T))) w.done
       ∙ ap (λ (a : Answer). finished a r.state U) w.going
       ∙ ap (λ (x : Reading). result x U) (sym (accepted r.state U.t10 (count r.state repeats) refl w.none))

@@ -1,4 +1,5 @@
 -- A source in which declarations, rules and programs stand ships as their text, which is a text in which the same stand and which ships as itself. Assumes nothing.
+use Rattle.std.specs.Prelude.{Ok}
 use Prim.Native.Nat.{ℕ}
 use mathlib.Core.Path.{◌≡◌, refl, sym, ◌∙◌, ap}
 use mathlib.Core.List.{List, [], ◌∷◌, ◌++◌}
@@ -11,7 +12,6 @@ use Rattle.whole.specs.Encode.{Text}
 use Rattle.keywords.specs.declared.Keyword.TheVariants.{Percents}
 use Rattle.keywords.specs.declared.Seen.{Seen}
 use Rattle.keywords.specs.Keywords.{seen_at}
-use Rattle.grammar.specs.declared.Gap.TheVariants.{GapTo}
 use Rattle.grammar.specs.State.{Gapped}
 use Rattle.grammar.proofs.Kept.{gapped}
 use Rattle.rules.specs.Rules.{percents}
@@ -51,7 +51,7 @@ module _ (kind : ℕ) (src : List ℕ) where
   pub all_shipped : Kind kind → (k : ℕ) (ds : List Decl) (rs : List Rule) (p : Programs) → Section1 kind src 0 k ds → Rest1 kind src k rs p → ship_all kind src ≡ decls_text ds (rest_text kind rs p)
   unfolding ship_all rest_text
   all_shipped kinds k ds rs p w r =
-      let z : Gapped src 0 (GapTo w.from w.lines) = told (Gapped src 0) w.gap (gapped kind true src 0 (omega arith)) in
+      let z : Gapped src 0 (Ok (w.from, w.lines)) = told (Gapped src 0) w.gap (gapped kind true src 0 (omega arith)) in
       let d : ship_decls kind src (passed kind true src 0) ≡ made (decls_text ds []) k = ap (λ (i : ℕ). ship_decls kind src i) (passed_is kind src true 0 w.from w.lines w.gap) ∙ decls_shipped kind src kinds z.1 w.decls in
       ap (λ (o : Shipped). o.text ++ (37 ∷ 37 ∷ 10 ∷ ((ship_rules kind src (rules_from kind src o.at)).text ++ (ship_programs kind src (ship_rules kind src (rules_from kind src o.at)).at).text))) d
       ∙ ap (λ (y : List ℕ). decls_text ds [] ++ (37 ∷ 37 ∷ 10 ∷ y)) (rest_shipped kind src r (decls_end w.decls))

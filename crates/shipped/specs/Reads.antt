@@ -1,9 +1,8 @@
 -- Document 02, request Eleven: "Reading the result gives the same tables and singles, places aside".
-use Rattle.std.specs.Prelude.{ℕ, ◌+◌, ◌<◌, ◌≡◌, List, length, get_or}
+use Rattle.std.specs.Prelude.{ℕ, ◌+◌, ◌<◌, ◌≡◌, List, length, get_or, Ok}
 use Rattle.tables.specs.Layout.{repeats}
 use Rattle.grammar.specs.Sound.{cells_of}
-use Rattle.reader.specs.declared.Verdict.TheVariants.{Accepted}
-use Rattle.reader.specs.Read.{Result}
+use Rattle.reader.specs.Read.{ReadResult}
 use Rattle.alike.specs.Like.{Table, LikeSingles}
 use Rattle.printed.specs.Decls.{Decl, Section1}
 use Rattle.printed_rules.specs.Rules.{Rule, Programs, Rest1}
@@ -20,8 +19,8 @@ pub record Specified (kind : ℕ) (src : List ℕ) : Type 0 where
 
 -- What two reads came to, one of a source and one of what it is shipped as: the second is accepted and reaches its end; counts, singles and all tables are the same, each place taken for the bytes that it denotes, but for a
 -- production's own place, which runs over spacing; and so are the indexes, slot by slot.
-pub record Reread (src out : List ℕ) (a b : Result) : Type 0 where
-  pub accepted : b.answer ≡ Accepted (length out)
+pub record Reread (src out : List ℕ) (a b : ReadResult) : Type 0 where
+  pub accepted : b.answer ≡ Ok (length out)
   pub counts : a.counts ≡ b.counts
   pub posix : a.posix ≡ b.posix
   pub singles : LikeSingles src out a.singles b.singles

@@ -1,4 +1,5 @@
 -- What the functions' proofs cite. Assumes nothing.
+use Rattle.std.specs.Prelude.{Result, Ok, Err}
 use Prim.Native.Nat.{ℕ, zero, suc, ◌+◌, ◌≤◌, ◌<◌}
 use mathlib.Core.Path.{◌≡◌, refl, sym, ◌∙◌, ap}
 use mathlib.Core.List.{List, [], ◌∷◌, ◌++◌}
@@ -13,20 +14,15 @@ use Rattle.scan.specs.Scan.{is_at, starts_at}
 use Rattle.scan.specs.Loop.{Turn, more, stop, turns, Left}
 use Rattle.scan.proofs.Bytes.{told, starts_fits}
 use Rattle.scan.proofs.Loop.{left_start, left_more, left_stop}
-use Rattle.words.specs.declared.Name.{Name}
-use Rattle.words.specs.declared.Token.{Token}
-use Rattle.words.specs.declared.Int.{Int}
-use Rattle.words.specs.declared.Quote.{Quote}
+use Rattle.scan.specs.declared.Place.{Place}
+use Rattle.words.specs.declared.IntError.{IntError}
+use Rattle.words.specs.declared.QuoteError.{QuoteError}
 use Rattle.words.specs.Words.{name_at, token_at}
 use Rattle.words.specs.Numbers.{int_at}
 use Rattle.words.specs.Strings.{string_at}
-use Rattle.texts.specs.declared.ColonText.{ColonText}
-use Rattle.texts.specs.declared.Action.{Action}
 use Rattle.texts.specs.Line.{line_end_at}
 use Rattle.texts.specs.Colon.{colon_text_at}
 use Rattle.texts.specs.Action.{action_at}
-use Rattle.grammar.specs.declared.Gap.{Gap}
-use Rattle.grammar.specs.declared.Gap.TheVariants.{GapTo, GapRefused}
 use Rattle.grammar.specs.declared.Refusal.{Refusal}
 use Rattle.grammar.specs.State.{Passed, gap_at}
 use Rattle.keywords.specs.declared.Keyword.{Keyword}
@@ -35,7 +31,6 @@ use Rattle.keywords.specs.Keywords.{seen_at}
 use Rattle.items.specs.declared.Sort.{Sort}
 use Rattle.items.specs.declared.Spotted.{Spotted}
 use Rattle.items.specs.Items.{sort_at}
-use Rattle.lists.specs.declared.Spelling.{Spelling}
 use Rattle.lists.specs.Lists.{spelled_at, ends}
 use Rattle.shipper.specs.declared.Piece.{Piece}
 use Rattle.shipper.specs.declared.Piece.TheVariants.{NamePiece, TokenPiece, SpelledPiece, IntPiece, StringPiece, LinePiece, ColonPiece, ActionPiece}
@@ -126,45 +121,45 @@ passed_from src i j k h p = let l = p.onward in record { onward = omega arith; i
 -- ---- ends, by what the callee answered
 
 module _ (src : List ℕ) (at : ℕ) where
-  pub gap_is : (kind : ℕ) (ok : Bool) (t u : Gap) → t ≡ gap_at kind ok src at → t ≡ u → gap_end u at ≡ passed kind ok src at
+  pub gap_is : (kind : ℕ) (ok : Bool) (t u : Result (ℕ × ℕ) Refusal) → t ≡ gap_at kind ok src at → t ≡ u → gap_end u at ≡ passed kind ok src at
   unfolding passed
-  gap_is kind ok t u e f = ap (λ (x : Gap). gap_end x at) (sym f ∙ e)
+  gap_is kind ok t u e f = ap (λ (x : Result (ℕ × ℕ) Refusal). gap_end x at) (sym f ∙ e)
 
-  pub name_is : (t u : Name) → t ≡ name_at src at → t ≡ u → name_end u at ≡ piece_end NamePiece src at
+  pub name_is : (t u : Result ℕ ℕ) → t ≡ name_at src at → t ≡ u → name_end u at ≡ piece_end NamePiece src at
   unfolding piece_end
-  name_is t u e f = ap (λ (x : Name). name_end x at) (sym f ∙ e)
+  name_is t u e f = ap (λ (x : Result ℕ ℕ). name_end x at) (sym f ∙ e)
 
-  pub token_is : (t u : Token) → t ≡ token_at src at → t ≡ u → token_end u at ≡ piece_end TokenPiece src at
+  pub token_is : (t u : Result (Place × ℕ × Bool) ℕ) → t ≡ token_at src at → t ≡ u → token_end u at ≡ piece_end TokenPiece src at
   unfolding piece_end
-  token_is t u e f = ap (λ (x : Token). token_end x at) (sym f ∙ e)
+  token_is t u e f = ap (λ (x : Result (Place × ℕ × Bool) ℕ). token_end x at) (sym f ∙ e)
 
-  pub spelled_is : (t u : Spelling) → t ≡ spelled_at src at → t ≡ u → spelling_end u at ≡ piece_end SpelledPiece src at
+  pub spelled_is : (t u : Result (ℕ × ℕ × ℕ × ℕ) ℕ) → t ≡ spelled_at src at → t ≡ u → spelling_end u at ≡ piece_end SpelledPiece src at
   unfolding piece_end
-  spelled_is t u e f = ap (λ (x : Spelling). spelling_end x at) (sym f ∙ e)
+  spelled_is t u e f = ap (λ (x : Result (ℕ × ℕ × ℕ × ℕ) ℕ). spelling_end x at) (sym f ∙ e)
 
-  pub int_is : (t u : Int) → t ≡ int_at src at → t ≡ u → int_end u at ≡ piece_end IntPiece src at
+  pub int_is : (t u : Result (ℕ × ℕ) IntError) → t ≡ int_at src at → t ≡ u → int_end u at ≡ piece_end IntPiece src at
   unfolding piece_end
-  int_is t u e f = ap (λ (x : Int). int_end x at) (sym f ∙ e)
+  int_is t u e f = ap (λ (x : Result (ℕ × ℕ) IntError). int_end x at) (sym f ∙ e)
 
-  pub string_is : (t u : Quote) → t ≡ string_at src at → t ≡ u → string_end u at ≡ piece_end StringPiece src at
+  pub string_is : (t u : Result ℕ QuoteError) → t ≡ string_at src at → t ≡ u → string_end u at ≡ piece_end StringPiece src at
   unfolding piece_end
-  string_is t u e f = ap (λ (x : Quote). string_end x at) (sym f ∙ e)
+  string_is t u e f = ap (λ (x : Result ℕ QuoteError). string_end x at) (sym f ∙ e)
 
   pub line_is : (e : ℕ) → e ≡ line_end_at src at → e ≡ piece_end LinePiece src at
   unfolding piece_end
   line_is e h = h
 
-  pub colon_is : (t u : ColonText) → t ≡ colon_text_at src at → t ≡ u → colon_end u at ≡ piece_end ColonPiece src at
+  pub colon_is : (t u : Result (ℕ × ℕ × Place) ℕ) → t ≡ colon_text_at src at → t ≡ u → colon_end u at ≡ piece_end ColonPiece src at
   unfolding piece_end
-  colon_is t u e f = ap (λ (x : ColonText). colon_end x at) (sym f ∙ e)
+  colon_is t u e f = ap (λ (x : Result (ℕ × ℕ × Place) ℕ). colon_end x at) (sym f ∙ e)
 
   pub action_none : length src ≤ at → at ≡ piece_end ActionPiece src at
   unfolding piece_end
   action_none h = rw (le-leb (length src) at h, piece_end)
 
-  pub action_is : at < length src → (t u : Action) → t ≡ action_at src at → t ≡ u → action_end u at ≡ piece_end ActionPiece src at
+  pub action_is : at < length src → (t u : Result (ℕ × ℕ × Place × Place) ℕ) → t ≡ action_at src at → t ≡ u → action_end u at ≡ piece_end ActionPiece src at
   unfolding piece_end
-  action_is h t u e f = rw (lt-leb (length src) at h, piece_end) (ap (λ (x : Action). action_end x at) (sym f ∙ e))
+  action_is h t u e f = rw (lt-leb (length src) at h, piece_end) (ap (λ (x : Result (ℕ × ℕ × Place × Place) ℕ). action_end x at) (sym f ∙ e))
 
   pub colon_past : (q : Bool) → q ≡ is_at 58 src at → q ≡ true → at + 1 ≡ past_colon src at
   unfolding past_colon
@@ -452,19 +447,19 @@ module _ (kind : ℕ) (src : List ℕ) (i : ℕ) where
     unfolding line_turn
     line_none l t = rw (line_turn, ← w, le-leb e i l)
 
-    module _ (l : i < e) (g : Gap) (r : g ≡ gap_at kind true src e) where
-      line_gap_lem : (u : Gap) → g ≡ u → (t : List ℕ) → line_turn kind src (record { text = t; at = i }) ≡ line_gap u (t ++ spaced src i e) e
+    module _ (l : i < e) (g : Result (ℕ × ℕ) Refusal) (r : g ≡ gap_at kind true src e) where
+      line_gap_lem : (u : Result (ℕ × ℕ) Refusal) → g ≡ u → (t : List ℕ) → line_turn kind src (record { text = t; at = i }) ≡ line_gap u (t ++ spaced src i e) e
       unfolding line_turn
       line_gap_lem u f t = rw (line_turn, ← w, lt-leb e i l, ← w, ← r, f)
 
-      pub line_more : (j lines : ℕ) → g ≡ GapTo j lines → lines ≡ 0 → Goes (line_turn kind src) e j
+      pub line_more : (j lines : ℕ) → g ≡ Ok (j, lines) → lines ≡ 0 → Goes (line_turn kind src) e j
       line_more j lines f z t = line_gap_lem _ (rw z at f) t
 
-      pub line_ends_lem : (j lines : ℕ) → g ≡ GapTo j lines → (lines ≡ 0 → ⊥) → Lasts (line_turn kind src) e j
+      pub line_ends_lem : (j lines : ℕ) → g ≡ Ok (j, lines) → (lines ≡ 0 → ⊥) → Lasts (line_turn kind src) e j
       line_ends_lem j zero f z t = absurd (z refl)
       line_ends_lem j (suc n) f z t = line_gap_lem _ f t
 
-      pub line_refused : (x : Refusal) → g ≡ GapRefused x → Lasts (line_turn kind src) e e
+      pub line_refused : (x : Refusal) → g ≡ Err x → Lasts (line_turn kind src) e e
       line_refused x f t = line_gap_lem _ f t
 
   pub decls_end : length src ≤ i → Stops (decls_turn kind src)

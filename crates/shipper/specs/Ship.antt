@@ -1,35 +1,25 @@
 -- Document 02, request Eleven: "write a text of the same kind: one declaration a line, one production a line, single spaces, all items in source order and spelled as in the source." The text goes by the source's bytes
 -- alone. Every step says where it comes to stand; one that could not be read, which does not come up in a source that was read, stays where it is, and the text ends there.
-use Rattle.std.specs.Prelude.{ℕ, zero, suc, ◌+◌, List, [], ◌∷◌, ◌++◌, Bool, true, false, ◌&&◌, ◌||◌, eqb, leb, length}
+use Rattle.std.specs.Prelude.{ℕ, zero, suc, ◌+◌, List, [], ◌∷◌, ◌++◌, Bool, true, false, ◌&&◌, ◌||◌, eqb, leb, length, Result, Ok, Err}
 use Rattle.std.proofs.Math.Seq.{slice}
 use Rattle.scan.specs.Scan.{is_at, starts_at}
 use Rattle.scan.specs.Loop.{Turn, more, stop, turns}
-use Rattle.words.specs.declared.Name.{Name}
-use Rattle.words.specs.declared.Name.TheVariants.{NameTo, NoName}
-use Rattle.words.specs.declared.Token.{Token}
-use Rattle.words.specs.declared.Token.TheVariants.{Found, NoToken}
-use Rattle.words.specs.declared.Int.{Int}
-use Rattle.words.specs.declared.Int.TheVariants.{Value, NoDigits, TooLarge}
-use Rattle.words.specs.declared.Quote.{Quote}
-use Rattle.words.specs.declared.Quote.TheVariants.{Closed, NotOpened, LineInside, BadEscape, NotClosed}
+use Rattle.scan.specs.declared.Place.{Place}
+use Rattle.words.specs.declared.IntError.{IntError}
+use Rattle.words.specs.declared.IntError.TheVariants.{NoDigits, TooLarge}
+use Rattle.words.specs.declared.QuoteError.{QuoteError}
+use Rattle.words.specs.declared.QuoteError.TheVariants.{NotOpened, LineInside, BadEscape, NotClosed}
 use Rattle.words.specs.Words.{name_at, token_at}
 use Rattle.words.specs.Numbers.{int_at}
 use Rattle.words.specs.Strings.{string_at}
-use Rattle.texts.specs.declared.ColonText.{ColonText}
-use Rattle.texts.specs.declared.ColonText.TheVariants.{Upto, NoColon}
-use Rattle.texts.specs.declared.Action.{Action}
-use Rattle.texts.specs.declared.Action.TheVariants.{Body, OpenAction}
 use Rattle.texts.specs.Line.{line_end_at}
 use Rattle.texts.specs.Colon.{colon_text_at}
 use Rattle.texts.specs.Action.{action_at}
-use Rattle.grammar.specs.declared.Gap.{Gap}
-use Rattle.grammar.specs.declared.Gap.TheVariants.{GapTo, GapRefused}
+use Rattle.grammar.specs.declared.Refusal.{Refusal}
 use Rattle.grammar.specs.State.{gap_at}
 use Rattle.keywords.specs.declared.Keyword.{Keyword}
 use Rattle.keywords.specs.declared.Keyword.TheVariants.{Percents, TokenWord, ActiontypeWord, StartWord, EppWord, ExpectRrWord, ExpectUnusedWord, ExpectWord, AvoidInsertWord, ParseParamWord, ParseGenericsWord, ImplicitTokensWord, LeftWord, RightWord, NonassocWord, PrologueWord, UnionWord, TypeWord, NoKeyword}
 use Rattle.keywords.specs.Keywords.{seen_at}
-use Rattle.lists.specs.declared.Spelling.{Spelling}
-use Rattle.lists.specs.declared.Spelling.TheVariants.{Spelled, Unspelled}
 use Rattle.lists.specs.Lists.{spelled_at, ends}
 use Rattle.items.specs.declared.Sort.{Sort}
 use Rattle.items.specs.declared.Sort.TheVariants.{BarSort, EndSort, QuotedSort, PrecSort, ActionSort, EmptySort, BareSort}
@@ -48,45 +38,45 @@ joined o p = record { text = o.text ++ p.text; at = p.at }
 
 -- ---- where spacing, words and texts end
 
-abbrev pub gap_end : Gap → ℕ → ℕ
-gap_end (GapTo j n) i = j
-gap_end (GapRefused f) i = i
+abbrev pub gap_end : Result (ℕ × ℕ) Refusal → ℕ → ℕ
+gap_end (Ok (j, n)) i = j
+gap_end (Err f) i = i
 
 unfoldable pub passed : ℕ → Bool → List ℕ → ℕ → ℕ
 passed kind ok src i = gap_end (gap_at kind ok src i) i
 
-abbrev pub name_end : Name → ℕ → ℕ
-name_end (NameTo j) i = j
-name_end (NoName k) i = i
+abbrev pub name_end : Result ℕ ℕ → ℕ → ℕ
+name_end (Ok j) i = j
+name_end (Err k) i = i
 
-abbrev pub token_end : Token → ℕ → ℕ
-token_end (Found p e q) i = e
-token_end (NoToken k) i = i
+abbrev pub token_end : Result (Place × ℕ × Bool) ℕ → ℕ → ℕ
+token_end (Ok (p, e, q)) i = e
+token_end (Err k) i = i
 
-abbrev pub spelling_end : Spelling → ℕ → ℕ
-spelling_end (Spelled k a b e) i = e
-spelling_end (Unspelled k) i = i
+abbrev pub spelling_end : Result (ℕ × ℕ × ℕ × ℕ) ℕ → ℕ → ℕ
+spelling_end (Ok (k, a, b, e)) i = e
+spelling_end (Err k) i = i
 
-abbrev pub int_end : Int → ℕ → ℕ
-int_end (Value v e) i = e
-int_end (NoDigits k) i = i
-int_end (TooLarge k) i = i
+abbrev pub int_end : Result (ℕ × ℕ) IntError → ℕ → ℕ
+int_end (Ok (v, e)) i = e
+int_end (Err (NoDigits k)) i = i
+int_end (Err (TooLarge k)) i = i
 
-abbrev pub string_end : Quote → ℕ → ℕ
-string_end (Closed e) i = e
-string_end (NotOpened k) i = i
-string_end (LineInside k) i = i
-string_end (BadEscape k) i = i
-string_end (NotClosed k) i = i
+abbrev pub string_end : Result ℕ QuoteError → ℕ → ℕ
+string_end (Ok e) i = e
+string_end (Err (NotOpened k)) i = i
+string_end (Err (LineInside k)) i = i
+string_end (Err (BadEscape k)) i = i
+string_end (Err (NotClosed k)) i = i
 
 -- a text to a single colon ends at it
-abbrev pub colon_end : ColonText → ℕ → ℕ
-colon_end (Upto j n p) i = j
-colon_end (NoColon k) i = i
+abbrev pub colon_end : Result (ℕ × ℕ × Place) ℕ → ℕ → ℕ
+colon_end (Ok (j, n, p)) i = j
+colon_end (Err k) i = i
 
-abbrev pub action_end : Action → ℕ → ℕ
-action_end (Body e n p q) i = e
-action_end (OpenAction k) i = i
+abbrev pub action_end : Result (ℕ × ℕ × Place × Place) ℕ → ℕ → ℕ
+action_end (Ok (e, n, p, q)) i = e
+action_end (Err k) i = i
 
 unfoldable pub piece_end : Piece → List ℕ → ℕ → ℕ
 piece_end NamePiece src i = name_end (name_at src i) i
@@ -129,10 +119,10 @@ ship_list kind word what src i =
     elim (ends src i) [ true ↦ record { text = []; at = i } | false ↦ record { text = word ++ ((ship_words kind what src i).text ++ (10 ∷ [])); at = (ship_words kind what src i).at } ]
 
 -- a precedence, avoid or implicit list ends where the spacing behind a word counted a line end
-abbrev pub line_gap : Gap → List ℕ → ℕ → Turn Shipped
-line_gap (GapTo j zero) text e = more (record { text = text; at = j })
-line_gap (GapTo j (suc n)) text e = stop (record { text = text; at = j })
-line_gap (GapRefused f) text e = stop (record { text = text; at = e })
+abbrev pub line_gap : Result (ℕ × ℕ) Refusal → List ℕ → ℕ → Turn Shipped
+line_gap (Ok (j, zero)) text e = more (record { text = text; at = j })
+line_gap (Ok (j, suc n)) text e = stop (record { text = text; at = j })
+line_gap (Err f) text e = stop (record { text = text; at = e })
 
 unfoldable pub line_turn : ℕ → List ℕ → Shipped → Turn Shipped
 line_turn kind src o =

@@ -8,12 +8,9 @@ ghost use Rattle.lists.specs.Lists.{ends};
 ghost use Rattle.shipper.specs.Ship.{passed, piece_end, past_colon, spaced, ship_words, ship_list, line_words, ship_line, ship_one, ship_param, ship_epp, ship_word, ship_decl, ship_decls, item_of, is_end, ship_items, has_arrow, ship_head, ship_rule, ship_rules, ship_programs, rules_from, ship_all};
 ghost use Rattle.shipper.specs.Emit.{Emitted, emit, next_count, Wrote, wrote};
 
-use grammar::Gap;
 use items::Sort;
 use keywords::Keyword;
-use lists::Spelling;
-use texts::{Action, ColonText};
-use words::{Int, Name, Quote, Token};
+use words::{IntError, QuoteError};
 
 // Where the pass stands in the source, and how many bytes it has written.
 #[derive(Clone, Copy)]
@@ -72,11 +69,8 @@ fn put_part(out: &mut [u8], n: u32, s: &[u8], from: usize, to: usize) -> u32
     ensures { ◌≡◌ {A = Emitted} (record { n = result; cells = out.new }) (emit (slice from to s.now) n out.old) }
 {
     let mut m = n;
-    let mut i = from;
-    while i < to {
-        let c = s[i];
-        m = put_byte(out, m, c);
-        i += 1;
+    for i in from..to {
+        m = put_byte(out, m, s[i]);
     }
     m
 }
@@ -106,8 +100,8 @@ fn gap_end(src: &[u8], kind: u32, at: usize, ends_allowed: bool) -> usize
     ensures moved { Passed src.now at result }
 {
     match grammar::pass_gap(src, kind, at, ends_allowed) {
-        Gap::GapTo(i, _) => i,
-        Gap::GapRefused(_) => at,
+        Ok((i, _)) => i,
+        Err(_) => at,
     }
 }
 
@@ -117,8 +111,8 @@ fn name_end(src: &[u8], at: usize) -> usize
     ensures moved { Passed src.now at result }
 {
     match words::parse_name(src, at) {
-        Name::NameTo(j) => j,
-        Name::NoName(_) => at,
+        Ok(j) => j,
+        Err(_) => at,
     }
 }
 
@@ -128,8 +122,8 @@ fn token_end(src: &[u8], at: usize) -> usize
     ensures moved { Passed src.now at result }
 {
     match words::parse_token(src, at) {
-        Token::Found(_, end, _) => end,
-        Token::NoToken(_) => at,
+        Ok((_, end, _)) => end,
+        Err(_) => at,
     }
 }
 
@@ -139,8 +133,8 @@ fn spelled_end(src: &[u8], at: usize) -> usize
     ensures moved { Passed src.now at result }
 {
     match lists::spelled(src, at) {
-        Spelling::Spelled(_, _, _, end) => end,
-        Spelling::Unspelled(_) => at,
+        Ok((_, _, _, end)) => end,
+        Err(_) => at,
     }
 }
 
@@ -150,9 +144,9 @@ fn int_end(src: &[u8], at: usize) -> usize
     ensures moved { Passed src.now at result }
 {
     match words::parse_int(src, at) {
-        Int::Value(_, end) => end,
-        Int::NoDigits(_) => at,
-        Int::TooLarge(_) => at,
+        Ok((_, end)) => end,
+        Err(IntError::NoDigits(_)) => at,
+        Err(IntError::TooLarge(_)) => at,
     }
 }
 
@@ -162,11 +156,11 @@ fn string_end(src: &[u8], at: usize) -> usize
     ensures moved { Passed src.now at result }
 {
     match words::parse_string(src, at) {
-        Quote::Closed(end) => end,
-        Quote::NotOpened(_) => at,
-        Quote::LineInside(_) => at,
-        Quote::BadEscape(_) => at,
-        Quote::NotClosed(_) => at,
+        Ok(end) => end,
+        Err(QuoteError::NotOpened(_)) => at,
+        Err(QuoteError::LineInside(_)) => at,
+        Err(QuoteError::BadEscape(_)) => at,
+        Err(QuoteError::NotClosed(_)) => at,
     }
 }
 
@@ -176,8 +170,8 @@ fn colon_end(src: &[u8], at: usize) -> usize
     ensures moved { Passed src.now at result }
 {
     match texts::parse_to_single_colon(src, at) {
-        ColonText::Upto(j, _, _) => j,
-        ColonText::NoColon(_) => at,
+        Ok((j, _, _)) => j,
+        Err(_) => at,
     }
 }
 
@@ -190,8 +184,8 @@ fn action_end(src: &[u8], at: usize) -> usize
         return at;
     }
     match texts::parse_action(src, at) {
-        Action::Body(end, _, _, _) => end,
-        Action::OpenAction(_) => at,
+        Ok((end, _, _, _)) => end,
+        Err(_) => at,
     }
 }
 
@@ -297,13 +291,13 @@ fn line_words(src: &[u8], kind: u32, at: usize, out: &mut [u8], n: u32) -> Mark
         }
         m = put_spaced(out, m, src, i, e);
         match grammar::pass_gap(src, kind, e, true) {
-            Gap::GapTo(j, lines) => {
+            Ok((j, lines)) => {
                 if lines != 0 {
                     return Mark { at: j, n: m };
                 }
                 i = j;
             }
-            Gap::GapRefused(_) => {
+            Err(_) => {
                 return Mark { at: e, n: m };
             }
         }
@@ -469,7 +463,7 @@ fn ship_declarations(src: &[u8], kind: u32, at: usize, out: &mut [u8], n: u32) -
 // A text and the spacing behind `e`.
 fn ship_mark(src: &[u8], kind: u32, e: usize, text: &[u8], out: &mut [u8], n: u32) -> Mark
     requires { Here src.now e }
-    ensures is { ◌≡◌ {A = Wrote} (record { at = result.at; n = result.n; cells = out.new }) (wrote (record { text = text.entry.now; at = passed kind true src.now e }) n out.old) }
+    ensures is { ◌≡◌ {A = Wrote} (record { at = result.at; n = result.n; cells = out.new }) (wrote (record { text = text.now; at = passed kind true src.now e }) n out.old) }
     ensures moved { Passed src.now e result.at }
 {
     let m = put_text(out, n, text);

@@ -1,4 +1,5 @@
 -- What the operation's proofs cite: a law for each way that a shipping ends. Assumes nothing.
+use Rattle.std.specs.Prelude.{Ok, Err, Result}
 use Prim.Native.Nat.{ℕ, ◌≤◌, ◌<◌, min}
 use mathlib.Core.Path.{◌≡◌, refl, sym, ap, ◌∙◌}
 use mathlib.Core.List.{List, ◌++◌}
@@ -12,15 +13,12 @@ use Rattle.grammar.specs.declared.Refusal.{Refusal}
 use Rattle.grammar.specs.declared.Refusal.TheVariants.{NoRoom, TooLong}
 use Rattle.grammar.specs.State.{Here}
 use Rattle.grammar.specs.Sound.{Tables, AllTables, Indexes}
-use Rattle.reader.specs.declared.Verdict.{Verdict}
-use Rattle.reader.specs.declared.Verdict.TheVariants.{Accepted, Rejected}
-use Rattle.reader.specs.Read.{Result, read_all}
+use Rattle.reader.specs.Read.{ReadResult, read_all}
 use Rattle.reader.specs.Allowed.{Full}
 use Rattle.reader.proofs.Sound.{read_sound}
 use Rattle.shipper.specs.Emit.{Emitted, emit}
 use Rattle.shipper.specs.Ship.{ship_all}
 use Rattle.shipper.proofs.Text.{text_count, text_fits}
-use Rattle.shipping.specs.declared.Shipment.TheVariants.{Sent, Unsent}
 use Rattle.shipping.specs.Shipping.{Mailed, mailed_text, mailed, shipped_kind, lent_ten, with_mailed, shipped_read, shipping, text_out, Readable}
 
 -- a text written into zeros, n being its count and cells what was left
@@ -33,32 +31,32 @@ module _ (text out zeros : List ℕ) (z : zeros ≡ zeroed out) (cells : List �
   whole h = omega (arith, counted)
 
   -- too long,
-  pub send_long : 65536 < n → (left : List ℕ) → left ≡ zeroed cells → length cells ≡ length out → ◌≡◌ {A = Mailed} (record { answer = Unsent TooLong; out = left }) (mailed_text (ltb 65536 (length text)) text out)
+  pub send_long : 65536 < n → (left : List ℕ) → left ≡ zeroed cells → length cells ≡ length out → ◌≡◌ {A = Mailed} (record { answer = Err TooLong; out = left }) (mailed_text (ltb 65536 (length text)) text out)
   send_long h left y l =
       let m : 65536 < length text = omega (arith, counted) in
-      rw (lt-ltb 65536 (length text) m) (ap (λ (x : List ℕ). record { answer = Unsent TooLong; out = x }) (y ∙ ap (λ (k : ℕ). replicate k 0) l))
+      rw (lt-ltb 65536 (length text) m) (ap (λ (x : List ℕ). record { answer = Err TooLong; out = x }) (y ∙ ap (λ (k : ℕ). replicate k 0) l))
 
   -- no room,
-  pub send_full : n ≤ 65536 → length cells < n → (left : List ℕ) → left ≡ zeroed cells → length cells ≡ length out → ◌≡◌ {A = Mailed} (record { answer = Unsent (NoRoom text_out 0 0); out = left }) (mailed_text (ltb 65536 (length text)) text out)
+  pub send_full : n ≤ 65536 → length cells < n → (left : List ℕ) → left ≡ zeroed cells → length cells ≡ length out → ◌≡◌ {A = Mailed} (record { answer = Err (NoRoom text_out 0 0); out = left }) (mailed_text (ltb 65536 (length text)) text out)
   send_full h k left y l =
       let w = whole h in
-      rw (le-ltb 65536 (length text) (omega arith), lt-leb (length text) (length out) (omega arith)) (ap (λ (x : List ℕ). record { answer = Unsent (NoRoom text_out 0 0); out = x }) (y ∙ ap (λ (k : ℕ). replicate k 0) l))
+      rw (le-ltb 65536 (length text) (omega arith), lt-leb (length text) (length out) (omega arith)) (ap (λ (x : List ℕ). record { answer = Err (NoRoom text_out 0 0); out = x }) (y ∙ ap (λ (k : ℕ). replicate k 0) l))
 
   -- or sent
-  pub send_right : n ≤ 65536 → n ≤ length cells → length cells ≡ length out → ◌≡◌ {A = Mailed} (record { answer = Sent n; out = cells }) (mailed_text (ltb 65536 (length text)) text out)
+  pub send_right : n ≤ 65536 → n ≤ length cells → length cells ≡ length out → ◌≡◌ {A = Mailed} (record { answer = Ok n; out = cells }) (mailed_text (ltb 65536 (length text)) text out)
   send_right h k l =
       let w = whole h in
       let r = length-replicate {A = ℕ} (length out) 0 in
       let c : cells ≡ text ++ drop (length text) (zeroed out) = ap (λ (x : Emitted). x.cells) e ∙ ap (λ (y : List ℕ). (emit text 0 y).cells) z ∙ text_fits text (zeroed out) (omega arith) (omega arith) in
-      rw (le-ltb 65536 (length text) (omega arith), le-leb (length text) (length out) (omega arith)) (ap (λ (m : ℕ). record { answer = Sent m; out = cells }) (sym w) ∙ ap (λ (x : List ℕ). record { answer = Sent (length text); out = x }) c)
+      rw (le-ltb 65536 (length text) (omega arith), le-leb (length text) (length out) (omega arith)) (ap (λ (m : ℕ). record { answer = Ok m; out = cells }) (sym w) ∙ ap (λ (x : List ℕ). record { answer = Ok (length text); out = x }) c)
 
 -- an accepted source can be shipped
-pub read_readable : (src : List ℕ) (kind : ℕ) (T : AllTables) (X : Indexes) (o : Result) → o ≡ read_all src kind T X → Readable src o.answer
-read_readable src kind T X o e = told (λ (r : Result). Readable src r.answer) (sym e) (go (read_all src kind T X).answer refl)
+pub read_readable : (src : List ℕ) (kind : ℕ) (T : AllTables) (X : Indexes) (o : ReadResult) → o ≡ read_all src kind T X → Readable src o.answer
+read_readable src kind T X o e = told (λ (r : ReadResult). Readable src r.answer) (sym e) (go (read_all src kind T X).answer refl)
   where
-    go : (v : Verdict) → (read_all src kind T X).answer ≡ v → Readable src v
-    go (Accepted i) q = (read_sound src kind T X (told Full (sym q) tt)).short
-    go (Rejected f) q = tt
+    go : (v : Result ℕ Refusal) → (read_all src kind T X).answer ≡ v → Readable src v
+    go (Ok i) q = (read_sound src kind T X (told Full (sym q) tt)).short
+    go (Err f) q = tt
 
 -- kinds 1 to 3 as they are, any other as none
 pub kind_none : (kind : ℕ) → 3 < kind → 0 ≡ shipped_kind kind
@@ -70,18 +68,18 @@ unfolding shipped_kind
 kind_same kind h = rw (shipped_kind, le-ltb 3 kind h)
 
 -- by the verdict
-pub mailed_accepted : (v : Verdict) (i : ℕ) (text out : List ℕ) (m : Mailed) → v ≡ Accepted i → m ≡ mailed_text (ltb 65536 (length text)) text out → m ≡ mailed v text out
-mailed_accepted v i text out m e h = h ∙ ap (λ (x : Verdict). mailed x text out) (sym e)
+pub mailed_accepted : (v : Result ℕ Refusal) (i : ℕ) (text out : List ℕ) (m : Mailed) → v ≡ Ok i → m ≡ mailed_text (ltb 65536 (length text)) text out → m ≡ mailed v text out
+mailed_accepted v i text out m e h = h ∙ ap (λ (x : Result ℕ Refusal). mailed x text out) (sym e)
 
-pub mailed_rejected : (v : Verdict) (f : Refusal) (text out left : List ℕ) → v ≡ Rejected f → left ≡ zeroed out → ◌≡◌ {A = Mailed} (record { answer = Unsent f; out = left }) (mailed v text out)
-mailed_rejected v f text out left e h = ap (λ (x : List ℕ). record { answer = Unsent f; out = x }) h ∙ ap (λ (x : Verdict). mailed x text out) (sym e)
+pub mailed_rejected : (v : Result ℕ Refusal) (f : Refusal) (text out left : List ℕ) → v ≡ Err f → left ≡ zeroed out → ◌≡◌ {A = Mailed} (record { answer = Err f; out = left }) (mailed v text out)
+mailed_rejected v f text out left e h = ap (λ (x : List ℕ). record { answer = Err f; out = x }) h ∙ ap (λ (x : Result ℕ Refusal). mailed x text out) (sym e)
 
-pub accepted_here : (src : List ℕ) (v : Verdict) (i : ℕ) → Readable src v → v ≡ Accepted i → Here src 0
+pub accepted_here : (src : List ℕ) (v : Result ℕ Refusal) (i : ℕ) → Readable src v → v ≡ Ok i → Here src 0
 accepted_here src v i h e = record { within = omega arith; short = told (Readable src) e h }
 
 -- the read, and what becomes of the text
-pub ship_whole : (src : List ℕ) (kind : ℕ) (T : Tables) (X : Indexes) (out : List ℕ) (k : ℕ) (o : Result) (m : Mailed) → k ≡ shipped_kind kind → o ≡ read_all src k (lent_ten T) X → m ≡ mailed o.answer (ship_all k src) out
+pub ship_whole : (src : List ℕ) (kind : ℕ) (T : Tables) (X : Indexes) (out : List ℕ) (k : ℕ) (o : ReadResult) (m : Mailed) → k ≡ shipped_kind kind → o ≡ read_all src k (lent_ten T) X → m ≡ mailed o.answer (ship_all k src) out
     → with_mailed o m ≡ shipping src kind T X out
 unfolding shipping
 ship_whole src kind T X out k o m hk ho hm =
-    ap (with_mailed o) hm ∙ ap (λ (r : Result). shipped_read r (ship_all k src) out) ho ∙ ap (λ (j : ℕ). shipped_read (read_all src j (lent_ten T) X) (ship_all j src) out) hk
+    ap (with_mailed o) hm ∙ ap (λ (r : ReadResult). shipped_read r (ship_all k src) out) ho ∙ ap (λ (j : ℕ). shipped_read (read_all src j (lent_ten T) X) (ship_all j src) out) hk

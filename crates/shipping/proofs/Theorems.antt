@@ -1,4 +1,5 @@
 -- What a shipping answers and leaves, in terms of the read and of the shipping form; that what was sent reads alike and ships as itself; one outcome. Assumes nothing.
+use Rattle.std.specs.Prelude.{Ok, Err, Result}
 use Prim.Native.Nat.{ℕ, zero, suc, ◌≤◌, ◌<◌}
 use mathlib.Core.Path.{◌≡◌, refl, sym, ap, ◌∙◌}
 use mathlib.Core.Bool.{Bool, true, false}
@@ -18,10 +19,8 @@ use Rattle.grammar.specs.declared.Refusal.TheVariants.{NoRoom, TooLong, BadKind}
 use Rattle.grammar.specs.State.{no_counts}
 use Rattle.grammar.specs.Sound.{Tables, AllTables, Indexes, tab, ten_of, cells_of}
 use Rattle.grammar.proofs.Far.{ten_tab}
-use Rattle.reader.specs.declared.Verdict.{Verdict}
-use Rattle.reader.specs.declared.Verdict.TheVariants.{Accepted, Rejected}
 use Rattle.sections.specs.Sections.{admitted, attempted}
-use Rattle.reader.specs.Read.{Result, read_names, read_all}
+use Rattle.reader.specs.Read.{ReadResult, read_names, read_all}
 use Rattle.reader.specs.Allowed.{Cleared}
 use Rattle.reader.proofs.Sound.{stopped_clean}
 use Rattle.alike.specs.Like.{Kind, original, grmtools, eco}
@@ -29,7 +28,6 @@ use Rattle.alike.proofs.Agree.{clash}
 use Rattle.shipper.specs.Ship.{ship_all}
 use Rattle.shipped.specs.Reads.{Reread}
 use Rattle.shipped.proofs.Reread.{ship_reads, ship_again}
-use Rattle.shipping.specs.declared.Shipment.TheVariants.{Sent, Unsent}
 use Rattle.shipping.specs.Shipping.{ShipResult, Mailed, text_out, mailed_room, mailed_text, mailed, shipped_kind, lent_ten, shipped_read, shipping, Ships, Shippable, Sendable, AllZero, AsRead}
 use Rattle.shipping.proofs.Laws.{kind_none, kind_same}
 
@@ -38,42 +36,42 @@ pub one_shipping : (src : List ℕ) (kind : ℕ) (T : Tables) (X : Indexes) (out
 one_shipping src kind T X out o p h k = h ∙ sym k
 
 -- an answer that is sent is no refusal
-unsent_not : {f : Refusal} {n : ℕ} → Unsent f ≡ Sent n → ⊥
+unsent_not : {f : Refusal} {n : ℕ} → ◌≡◌ {A = Result ℕ Refusal} (Err f) (Ok n) → ⊥
 unsent_not e = clash cc
 
-sent_not : {f : Refusal} {n : ℕ} → Sent n ≡ Unsent f → ⊥
+sent_not : {f : Refusal} {n : ℕ} → ◌≡◌ {A = Result ℕ Refusal} (Ok n) (Err f) → ⊥
 sent_not e = clash cc
 
 -- ---- what becomes of a text
 
 module _ (text out : List ℕ) where
   -- after every refusal the text out is zero
-  mailed_refused : (v : Verdict) (f : Refusal) → (mailed v text out).answer ≡ Unsent f → (mailed v text out).out ≡ zeroed out
-  mailed_refused (Rejected g) f h = refl
-  mailed_refused (Accepted i) f h = long (ltb 65536 (length text)) h
+  mailed_refused : (v : Result ℕ Refusal) (f : Refusal) → (mailed v text out).answer ≡ Err f → (mailed v text out).out ≡ zeroed out
+  mailed_refused (Err g) f h = refl
+  mailed_refused (Ok i) f h = long (ltb 65536 (length text)) h
     where
-      room : (b : Bool) → (mailed_room b text out).answer ≡ Unsent f → (mailed_room b text out).out ≡ zeroed out
+      room : (b : Bool) → (mailed_room b text out).answer ≡ Err f → (mailed_room b text out).out ≡ zeroed out
       room true e = absurd (sent_not e)
       room false e = refl
 
-      long : (b : Bool) → (mailed_text b text out).answer ≡ Unsent f → (mailed_text b text out).out ≡ zeroed out
+      long : (b : Bool) → (mailed_text b text out).answer ≡ Err f → (mailed_text b text out).out ≡ zeroed out
       long true e = refl
       long false e = room (leb (length text) (length out)) e
 
   -- what was sent is the text, which is not too long and has room, of a source that was accepted
-  record Mails (v : Verdict) (n : ℕ) : Type 0 where
+  record Mails (v : Result ℕ Refusal) (n : ℕ) : Type 0 where
     end : ℕ
-    accepted : v ≡ Accepted end
+    accepted : v ≡ Ok end
     count : n ≡ length text
     short : n ≤ 65536
     room : n ≤ length out
     stands : (mailed v text out).out ≡ text ++ drop (length text) (zeroed out)
 
-  mailed_sent : (v : Verdict) (n : ℕ) → (mailed v text out).answer ≡ Sent n → Mails v n
-  mailed_sent (Rejected f) n h = absurd (unsent_not h)
-  mailed_sent (Accepted i) n h = long (ltb 65536 (length text)) refl h
+  mailed_sent : (v : Result ℕ Refusal) (n : ℕ) → (mailed v text out).answer ≡ Ok n → Mails v n
+  mailed_sent (Err f) n h = absurd (unsent_not h)
+  mailed_sent (Ok i) n h = long (ltb 65536 (length text)) refl h
     where
-      room : ltb 65536 (length text) ≡ false → (b : Bool) → leb (length text) (length out) ≡ b → (mailed_room b text out).answer ≡ Sent n → Mails (Accepted i) n
+      room : ltb 65536 (length text) ≡ false → (b : Bool) → leb (length text) (length out) ≡ b → (mailed_room b text out).answer ≡ Ok n → Mails (Ok i) n
       room s true e q =
           let c : length text ≡ n = cc in
           let l = ltb-false 65536 (length text) s in
@@ -81,14 +79,14 @@ module _ (text out : List ℕ) where
           record { end = i; accepted = refl; count = sym c; short = omega arith; room = omega arith; stands = ap (λ (x : Bool). (mailed_text x text out).out) s ∙ ap (λ (x : Bool). (mailed_room x text out).out) e }
       room s false e q = absurd (unsent_not q)
 
-      long : (b : Bool) → ltb 65536 (length text) ≡ b → (mailed_text b text out).answer ≡ Sent n → Mails (Accepted i) n
+      long : (b : Bool) → ltb 65536 (length text) ≡ b → (mailed_text b text out).answer ≡ Ok n → Mails (Ok i) n
       long true e q = absurd (unsent_not q)
       long false e q = room e (leb (length text) (length out)) refl q
 
   -- and such a text is sent
-  mailed_right : (v : Verdict) (i : ℕ) → v ≡ Accepted i → length text ≤ 65536 → length text ≤ length out → mailed v text out ≡ record { answer = Sent (length text); out = text ++ drop (length text) (zeroed out) }
+  mailed_right : (v : Result ℕ Refusal) (i : ℕ) → v ≡ Ok i → length text ≤ 65536 → length text ≤ length out → mailed v text out ≡ record { answer = Ok (length text); out = text ++ drop (length text) (zeroed out) }
   mailed_right v i e s r =
-      ap (λ (x : Verdict). mailed x text out) e ∙ ap (λ (b : Bool). mailed_text b text out) (le-ltb 65536 (length text) s) ∙ ap (λ (b : Bool). mailed_room b text out) (le-leb (length text) (length out) r)
+      ap (λ (x : Result ℕ Refusal). mailed x text out) e ∙ ap (λ (b : Bool). mailed_text b text out) (le-ltb 65536 (length text) s) ∙ ap (λ (b : Bool). mailed_room b text out) (le-leb (length text) (length out) r)
 
 -- ---- a shipping of a kind that is shipped
 
@@ -115,7 +113,7 @@ no_kind (suc (suc (suc (suc k)))) n = sym (kind_none (suc (suc (suc (suc k)))) (
 
 -- a read of no kind is refused and leaves everything zero
 module _ (src : List ℕ) (T : AllTables) (X : Indexes) where
-  none_answer : (read_all src 0 T X).answer ≡ Rejected BadKind
+  none_answer : (read_all src 0 T X).answer ≡ Err BadKind
   unfolding read_all read_names attempted admitted
   none_answer = refl
 
@@ -134,7 +132,7 @@ module _ (src : List ℕ) (kind : ℕ) (T : Tables) (X : Indexes) (out : List �
   abbrev text : List ℕ
   text = ship_all kind src
 
-  abbrev reading : Result
+  abbrev reading : ReadResult
   reading = read_all src kind (lent_ten T) X
 
   -- it is that of its read,
@@ -155,13 +153,13 @@ module _ (src : List ℕ) (kind : ℕ) (T : Tables) (X : Indexes) (out : List �
   ship_tables h = told (AsRead reading) (sym (known h.1)) (record { tables = refl; indexes = refl; counts = refl; singles = refl })
 
   -- "text out is zero after each" refusal;
-  pub ship_refused : (f : Refusal) → shipped.answer ≡ Unsent f → shipped.out ≡ zeroed out
+  pub ship_refused : (f : Refusal) → shipped.answer ≡ Err f → shipped.out ≡ zeroed out
   unfolding shipping
   ship_refused f h = mailed_refused (ship_all (shipped_kind kind) src) out (read_all src (shipped_kind kind) (lent_ten T) X).answer f h
 
   -- "43 for any kind but 1 to 3 with the tables zero";
-  pub ship_kind : (Shippable kind → ⊥) → (shipped.answer ≡ Unsent BadKind) × AllZero T X shipped
-  ship_kind n = told (λ (o : ShipResult). (o.answer ≡ Unsent BadKind) × AllZero T X o) (sym (unknown n)) (ap (λ (v : Verdict). (mailed v (ship_all 0 src) out).answer) (none_answer src (lent_ten T) X), cleared)
+  pub ship_kind : (Shippable kind → ⊥) → (shipped.answer ≡ Err BadKind) × AllZero T X shipped
+  ship_kind n = told (λ (o : ShipResult). (o.answer ≡ Err BadKind) × AllZero T X o) (sym (unknown n)) (ap (λ (v : Result ℕ Refusal). (mailed v (ship_all 0 src) out).answer) (none_answer src (lent_ten T) X), cleared)
     where
       c : Cleared (lent_ten T) X (read_all src 0 (lent_ten T) X)
       c = none_clear src (lent_ten T) X
@@ -183,24 +181,24 @@ module _ (src : List ℕ) (kind : ℕ) (T : Tables) (X : Indexes) (out : List �
           }
 
   -- "then the read's number",
-  pub ship_unread : Shippable kind → (f : Refusal) → reading.answer ≡ Rejected f → shipped.answer ≡ Unsent f
-  ship_unread h f e = ap (λ (o : ShipResult). o.answer) (known h.1) ∙ ap (λ (v : Verdict). (mailed v text out).answer) e
+  pub ship_unread : Shippable kind → (f : Refusal) → reading.answer ≡ Err f → shipped.answer ≡ Err f
+  ship_unread h f e = ap (λ (o : ShipResult). o.answer) (known h.1) ∙ ap (λ (v : Result ℕ Refusal). (mailed v text out).answer) e
 
   -- "then 41 if the text would pass 65,536 bytes",
-  pub ship_long : Shippable kind → (i : ℕ) → reading.answer ≡ Accepted i → 65536 < length text → shipped.answer ≡ Unsent TooLong
-  ship_long h i e l = ap (λ (o : ShipResult). o.answer) (known h.1) ∙ ap (λ (v : Verdict). (mailed v text out).answer) e ∙ ap (λ (b : Bool). (mailed_text b text out).answer) (lt-ltb 65536 (length text) l)
+  pub ship_long : Shippable kind → (i : ℕ) → reading.answer ≡ Ok i → 65536 < length text → shipped.answer ≡ Err TooLong
+  ship_long h i e l = ap (λ (o : ShipResult). o.answer) (known h.1) ∙ ap (λ (v : Result ℕ Refusal). (mailed v text out).answer) e ∙ ap (λ (b : Bool). (mailed_text b text out).answer) (lt-ltb 65536 (length text) l)
 
   -- "then 42 with table 13".
-  pub ship_full : Shippable kind → (i : ℕ) → reading.answer ≡ Accepted i → length text ≤ 65536 → length out < length text → shipped.answer ≡ Unsent (NoRoom text_out 0 0)
+  pub ship_full : Shippable kind → (i : ℕ) → reading.answer ≡ Ok i → length text ≤ 65536 → length out < length text → shipped.answer ≡ Err (NoRoom text_out 0 0)
   ship_full h i e l r =
-      ap (λ (o : ShipResult). o.answer) (known h.1) ∙ ap (λ (v : Verdict). (mailed v text out).answer) e
+      ap (λ (o : ShipResult). o.answer) (known h.1) ∙ ap (λ (v : Result ℕ Refusal). (mailed v text out).answer) e
       ∙ ap (λ (b : Bool). (mailed_text b text out).answer) (le-ltb 65536 (length text) l) ∙ ap (λ (b : Bool). (mailed_room b text out).answer) (lt-leb (length text) (length out) r)
 
   -- What is sent: of a source that was accepted a text that is not too long and has room, with its length; it stands in the text out, and behind it zeros.
-  pub ship_sent : (n : ℕ) → (shipped.answer ≡ Sent n) ↔ Sendable src kind T X out n
+  pub ship_sent : (n : ℕ) → (shipped.answer ≡ Ok n) ↔ Sendable src kind T X out n
   ship_sent n = (to, from)
     where
-      to : shipped.answer ≡ Sent n → Sendable src kind T X out n
+      to : shipped.answer ≡ Ok n → Sendable src kind T X out n
       to e =
           ⊎_elim
           (λ h.
@@ -209,14 +207,14 @@ module _ (src : List ℕ) (kind : ℕ) (T : Tables) (X : Indexes) (out : List �
           (λ h. absurd (unsent_not (sym (ship_kind h).0 ∙ e)))
           (shippable_or kind)
 
-      from : Sendable src kind T X out n → shipped.answer ≡ Sent n
+      from : Sendable src kind T X out n → shipped.answer ≡ Ok n
       from s =
           let c = s.count in
           let a = s.short in
           let b = s.room in
-          ap (λ (o : ShipResult). o.answer) (known s.kinds.1) ∙ ap (λ (m : Mailed). m.answer) (mailed_right text out reading.answer s.end s.accepted (omega arith) (omega arith)) ∙ ap Sent (sym c)
+          ap (λ (o : ShipResult). o.answer) (known s.kinds.1) ∙ ap (λ (m : Mailed). m.answer) (mailed_right text out reading.answer s.end s.accepted (omega arith) (omega arith)) ∙ ap Ok (sym c)
 
-  module _ (n : ℕ) (e : shipped.answer ≡ Sent n) where
+  module _ (n : ℕ) (e : shipped.answer ≡ Ok n) where
     sendable : Sendable src kind T X out n
     sendable = (ship_sent n).0 e
 
@@ -241,15 +239,15 @@ module _ (src : List ℕ) (kind : ℕ) (T : Tables) (X : Indexes) (out : List �
         told (λ (t : List ℕ). Reread src t reading (read_all t kind (lent_ten T) X)) (sym sent_text) (ship_reads src kind (lent_ten T) X s.end (kind_of kind s.kinds) s.accepted (omega arith))
 
 -- "and shipping it again gives the same bytes", into the same memory.
-pub sent_again : (src : List ℕ) (kind : ℕ) (T : Tables) (X : Indexes) (out : List ℕ) (n : ℕ) → (shipping src kind T X out).answer ≡ Sent n
-    → let again = shipping (take n (shipping src kind T X out).out) kind T X out in (again.answer ≡ Sent n) × (again.out ≡ (shipping src kind T X out).out)
+pub sent_again : (src : List ℕ) (kind : ℕ) (T : Tables) (X : Indexes) (out : List ℕ) (n : ℕ) → (shipping src kind T X out).answer ≡ Ok n
+    → let again = shipping (take n (shipping src kind T X out).out) kind T X out in (again.answer ≡ Ok n) × (again.out ≡ (shipping src kind T X out).out)
 sent_again src kind T X out n e = told (λ (t : List ℕ). Again t) (sym (sent_text src kind T X out n e)) (there, sent_out text kind T X out n there ∙ ap (λ (x : List ℕ). x ++ drop n (zeroed out)) same ∙ sym (sent_out src kind T X out n e))
   where
     text : List ℕ
     text = ship_all kind src
 
     Again : List ℕ → Type 0
-    Again t = ((shipping t kind T X out).answer ≡ Sent n) × ((shipping t kind T X out).out ≡ (shipping src kind T X out).out)
+    Again t = ((shipping t kind T X out).answer ≡ Ok n) × ((shipping t kind T X out).out ≡ (shipping src kind T X out).out)
 
     s : Sendable src kind T X out n
     s = (ship_sent src kind T X out n).0 e
@@ -260,7 +258,7 @@ sent_again src kind T X out n e = told (λ (t : List ℕ). Again t) (sym (sent_t
     short : length text ≤ 65536
     short = let a = s.short in let c = s.count in omega arith
 
-    there : (shipping text kind T X out).answer ≡ Sent n
+    there : (shipping text kind T X out).answer ≡ Ok n
     there =
         (ship_sent text kind T X out n).1
         (record { kinds = s.kinds; end = length text; accepted = (ship_reads src kind (lent_ten T) X s.end (kind_of kind s.kinds) s.accepted short).accepted; count = s.count ∙ ap length (sym same); short = s.short; room = s.room })

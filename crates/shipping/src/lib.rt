@@ -7,7 +7,6 @@ ghost use Rattle.shipper.specs.Ship.{ship_all};
 ghost use Rattle.shipping.specs.Shipping.{Mailed, mailed_text, mailed, shipped_kind, ShipResult, shipping, Readable};
 
 use grammar::{Counts, Refusal, Singles};
-use reader::Verdict;
 
 // The longest text that is sent, and the number of the text out among the tables.
 const LONGEST_TEXT: u32 = 65536;
@@ -15,15 +14,8 @@ const LONGEST_TEXT: u32 = 65536;
 const TEXT_OUT: u32 = 13;
 
 #[derive(Clone, Copy)]
-pub enum Shipment {
-    // How many bytes the text has.
-    Sent(u32),
-    Unsent(Refusal),
-}
-
-#[derive(Clone, Copy)]
 pub struct Shipping {
-    pub answer: Shipment,
+    pub answer: Result<u32, Refusal>,
     pub counts: Counts,
     pub singles: Singles,
 }
@@ -39,7 +31,7 @@ fn shipped_kind(kind: u32) -> u32
 }
 
 // The text of a source that was read, if it is not too long and there is room for it.
-fn send(src: &[u8], kind: u32, out: &mut [u8]) -> Shipment
+fn send(src: &[u8], kind: u32, out: &mut [u8]) -> Result<u32, Refusal>
     requires { Here src.now 0 }
     ensures { ◌≡◌ {A = Mailed} (record { answer = result; out = out.new }) (mailed_text (ltb 65536 (length (ship_all kind src.now))) (ship_all kind src.now) out.old) }
 {
@@ -47,25 +39,25 @@ fn send(src: &[u8], kind: u32, out: &mut [u8]) -> Shipment
     let n = shipper::ship_all(src, kind, out);
     if LONGEST_TEXT < n {
         values::zero(out);
-        return Shipment::Unsent(Refusal::TooLong);
+        return Err(Refusal::TooLong);
     }
     if out.len() < n as usize {
         values::zero(out);
-        return Shipment::Unsent(Refusal::NoRoom(TEXT_OUT, 0, 0));
+        return Err(Refusal::NoRoom(TEXT_OUT, 0, 0));
     }
-    Shipment::Sent(n)
+    Ok(n)
 }
 
 // What becomes of the text, by what the read came to.
-fn send_read(src: &[u8], kind: u32, v: Verdict, out: &mut [u8]) -> Shipment
+fn send_read(src: &[u8], kind: u32, v: Result<u32, Refusal>, out: &mut [u8]) -> Result<u32, Refusal>
     requires { Readable src.now v }
     ensures { ◌≡◌ {A = Mailed} (record { answer = result; out = out.new }) (mailed v (ship_all kind src.now) out.old) }
 {
     match v {
-        Verdict::Accepted(_) => send(src, kind, out),
-        Verdict::Rejected(f) => {
+        Ok(_) => send(src, kind, out),
+        Err(f) => {
             values::zero(out);
-            Shipment::Unsent(f)
+            Err(f)
         }
     }
 }
@@ -88,7 +80,7 @@ pub fn ship(
     i7: &mut [u32],
     out: &mut [u8],
 ) -> Shipping
-    ensures { ◌≡◌ {A = ShipResult} (record { answer = result.answer; counts = result.counts; singles = result.singles; tables = record { t1 = t1.exit.now; t2 = t2.new; t3 = t3.new; t4 = t4.new; t5 = t5.new; t6 = t6.new; t7 = t7.new; t8 = t8.new; t9 = t9.new; t10 = t10.new }; indexes = record { tokens = i1.new; rules = i7.new }; out = out.new }) (shipping src.now kind (record { t1 = t1.entry.now; t2 = t2.old; t3 = t3.old; t4 = t4.old; t5 = t5.old; t6 = t6.old; t7 = t7.old; t8 = t8.old; t9 = t9.old; t10 = t10.old }) (record { tokens = i1.old; rules = i7.old }) out.old) }
+    ensures { ◌≡◌ {A = ShipResult} (record { answer = result.answer; counts = result.counts; singles = result.singles; tables = record { t1 = t1.new; t2 = t2.new; t3 = t3.new; t4 = t4.new; t5 = t5.new; t6 = t6.new; t7 = t7.new; t8 = t8.new; t9 = t9.new; t10 = t10.new }; indexes = record { tokens = i1.new; rules = i7.new }; out = out.new }) (shipping src.now kind (record { t1 = t1.old; t2 = t2.old; t3 = t3.old; t4 = t4.old; t5 = t5.old; t6 = t6.old; t7 = t7.old; t8 = t8.old; t9 = t9.old; t10 = t10.old }) (record { tokens = i1.old; rules = i7.old }) out.old) }
 {
     let known = shipped_kind(kind);
     let mut t15 = [0u32; 0];

@@ -1,20 +1,19 @@
 -- Cells stored one behind the other, as far as there is room; the singles as cells, and back. Assumes nothing.
+use Rattle.std.specs.Prelude.{Option, Some, None}
 use Prim.Native.Nat.{ℕ, zero, suc, ◌+◌, ◌*◌, ◌≤◌, ◌<◌}
 use mathlib.Core.Path.{◌≡◌, refl, sym, ap, ◌∙◌}
-use mathlib.Core.List.{List, [], ◌∷◌, ◌++◌}
+use mathlib.Core.List.{List, [], ◌∷◌, ◌++◌, append_assoc}
 use native.Mathlib.Omega.{arith}
 use native.Mathlib.Nat.{div-add-mod'}
 use native.Mathlib.Numerals.{add-one}
 use borrow.Author.Tests.{eq-eqb, ne_eqb}
-use lib.ListN.{length, get_or, set, take, replicate, length-set}
-use lib.Seq.{set_out}
+use native.Mathlib.Decide.{dec_lt}
+use lib.ListN.{length, get_or, set, take, drop, replicate, length-set}
+use lib.Seq.{set_out, take_all, length-take-le}
+use borrow.Rule.Slice.PartMut.{put_mid}
+use Rattle.std.proofs.lemmas.List.{drop-drop}
 use Rattle.tables.specs.Table.{put}
-use Rattle.grammar.specs.declared.Part.{Part}
-use Rattle.grammar.specs.declared.Part.TheVariants.{Absent, At}
-use Rattle.grammar.specs.declared.Expect.{Expect}
-use Rattle.grammar.specs.declared.Expect.TheVariants.{NotExpected, Expected}
-use Rattle.grammar.specs.declared.Param.{Param}
-use Rattle.grammar.specs.declared.Param.TheVariants.{NoParam, ParamAt}
+use Rattle.tables.proofs.Rows.{put_eq}
 use Rattle.grammar.specs.declared.Singles.{Singles}
 use Rattle.grammar.specs.Numbers.{part_numbers, param_numbers}
 use Rattle.singles.specs.Singles.{expect_cells, singles_cells, part_from, expect_from, param_from, singles_of}
@@ -25,11 +24,19 @@ put_past [] t at h = refl
 put_past (v ∷ vs) t at h = rw (set_out t at v h) (put_past vs t (at + 1) (omega arith))
 
 -- where the room ends with the first i values, the others are not stored
-pub put_front : (vs t : List ℕ) (at i : ℕ) → length t ≤ at + i → put t at (take i vs) ≡ put t at vs
+put_front : (vs t : List ℕ) (at i : ℕ) → length t ≤ at + i → put t at (take i vs) ≡ put t at vs
 put_front [] t at zero h = refl
 put_front [] t at (suc i) h = refl
 put_front (v ∷ vs) t at zero h = sym (put_past (v ∷ vs) t at (omega arith))
 put_front (v ∷ vs) t at (suc i) h = put_front vs (set t at v) (at + 1) i (let e = length-set t at v in omega arith)
+
+-- the first i values all at once, where i is their number or the room ends with them
+pub put_room : (vs t : List ℕ) (at i k : ℕ) → at + i ≤ length t → i ≤ length vs → (i < length vs → length t ≤ at + i) → k ≡ i → put_mid at k t (take i vs) ≡ put t at vs
+put_room vs t at i k h l m e =
+    let n : length (take i vs) ≡ i = length-take-le i vs l in
+    let p = sym (put_eq (take i vs) t at (rw n h)) in
+    let q : put_mid at k t (take i vs) ≡ put t at (take i vs) = rw (e, drop-drop) (sym (append_assoc (take at t) (take i vs) (drop (at + i) t)) ∙ (rw n at p)) in
+    q ∙ elim (dec_lt i (length vs)) [ yes x ↦ put_front vs t at i (m x) | no x ↦ ap (put t at) (take_all i vs (omega arith)) ]
 
 -- cells before the first that is stored stay
 pub put_cons : (x : ℕ) (vs t : List ℕ) (at : ℕ) → put (x ∷ t) (at + 1) vs ≡ x ∷ put t at vs
@@ -50,17 +57,17 @@ three l = get_or l 0 0 ∷ get_or l 1 0 ∷ get_or l 2 0 ∷ []
 abbrev pub five : List ℕ → List ℕ
 five l = get_or l 0 0 ∷ get_or l 1 0 ∷ get_or l 2 0 ∷ get_or l 3 0 ∷ get_or l 4 0 ∷ []
 
-pub part_three : (p : Part) → part_numbers p ≡ three (part_numbers p)
-part_three Absent = refl
-part_three (At a b) = refl
+pub part_three : (p : Option (ℕ × ℕ)) → part_numbers p ≡ three (part_numbers p)
+part_three None = refl
+part_three (Some (a, b)) = refl
 
-pub expect_five : (e : Expect) → expect_cells e ≡ five (expect_cells e)
-expect_five NotExpected = refl
-expect_five (Expected v a b) = refl
+pub expect_five : (e : Option (ℕ × ℕ × ℕ)) → expect_cells e ≡ five (expect_cells e)
+expect_five None = refl
+expect_five (Some (v, a, b)) = refl
 
-pub param_five : (p : Param) → param_numbers p ≡ five (param_numbers p)
-param_five NoParam = refl
-param_five (ParamAt a b c d) = refl
+pub param_five : (p : Option (ℕ × ℕ × ℕ × ℕ)) → param_numbers p ≡ five (param_numbers p)
+param_five None = refl
+param_five (Some (a, b, c, d)) = refl
 
 -- six lists stored one behind the other
 six : (a e r p n q : List ℕ) → a ≡ three a → e ≡ five e → r ≡ five r → p ≡ five p → n ≡ three n → q ≡ three q
@@ -87,53 +94,53 @@ put_behind (x ∷ pre) t vs = rw (← add-one (length pre)) (put_cons x vs (pre 
 
 -- a single by its flag
 module _ (f a b : ℕ) where
-  pub part_absent : f ≡ 0 → Absent ≡ part_from f a b
+  pub part_absent : f ≡ 0 → None ≡ part_from f a b
   unfolding part_from
   part_absent h = rw (part_from, eq-eqb f 0 h)
 
-  pub part_given : (f ≡ 0 → ⊥) → At a b ≡ part_from f a b
+  pub part_given : (f ≡ 0 → ⊥) → Some (a, b) ≡ part_from f a b
   unfolding part_from
   part_given h = rw (part_from, ne_eqb f 0 h)
 
 module _ (f low high a b : ℕ) where
-  pub expect_absent : f ≡ 0 → NotExpected ≡ expect_from f low high a b
+  pub expect_absent : f ≡ 0 → None ≡ expect_from f low high a b
   unfolding expect_from
   expect_absent h = rw (expect_from, eq-eqb f 0 h)
 
-  pub expect_given_lem : (f ≡ 0 → ⊥) → Expected (high * 4294967296 + low) a b ≡ expect_from f low high a b
+  pub expect_given_lem : (f ≡ 0 → ⊥) → Some (high * 4294967296 + low, a, b) ≡ expect_from f low high a b
   unfolding expect_from
   expect_given_lem h = rw (expect_from, ne_eqb f 0 h)
 
 module _ (f a b c d : ℕ) where
-  pub param_absent : f ≡ 0 → NoParam ≡ param_from f a b c d
+  pub param_absent : f ≡ 0 → None ≡ param_from f a b c d
   unfolding param_from
   param_absent h = rw (param_from, eq-eqb f 0 h)
 
-  pub param_given_lem : (f ≡ 0 → ⊥) → ParamAt a b c d ≡ param_from f a b c d
+  pub param_given_lem : (f ≡ 0 → ⊥) → Some (a, b, c, d) ≡ param_from f a b c d
   unfolding param_from
   param_given_lem h = rw (param_from, ne_eqb f 0 h)
 
 -- all singles
-module _ (m : List ℕ) (s n r : Part) (e f : Expect) (p : Param) where
+module _ (m : List ℕ) (s n r : Option (ℕ × ℕ)) (e f : Option (ℕ × ℕ × ℕ)) (p : Option (ℕ × ℕ × ℕ × ℕ)) where
   pub singles_are : s ≡ (singles_of m).start → e ≡ (singles_of m).expect → f ≡ (singles_of m).expect_rr → p ≡ (singles_of m).param → n ≡ (singles_of m).generics → r ≡ (singles_of m).programs
       → ◌≡◌ {A = Singles} (record { start = s; expect = e; expect_rr = f; param = p; generics = n; programs = r }) (singles_of m)
   singles_are hs he hf hp hn hr = rw (hs, he, hf, hp, hn, hr)
 
 -- each single by itself
-part_back : (p : Part) → let l = part_numbers p in part_from (get_or l 0 0) (get_or l 1 0) (get_or l 2 0) ≡ p
+part_back : (p : Option (ℕ × ℕ)) → let l = part_numbers p in part_from (get_or l 0 0) (get_or l 1 0) (get_or l 2 0) ≡ p
 unfolding part_from
-part_back Absent = refl
-part_back (At a b) = refl
+part_back None = refl
+part_back (Some (a, b)) = refl
 
-expect_back : (e : Expect) → let l = expect_cells e in expect_from (get_or l 0 0) (get_or l 1 0) (get_or l 2 0) (get_or l 3 0) (get_or l 4 0) ≡ e
+expect_back : (e : Option (ℕ × ℕ × ℕ)) → let l = expect_cells e in expect_from (get_or l 0 0) (get_or l 1 0) (get_or l 2 0) (get_or l 3 0) (get_or l 4 0) ≡ e
 unfolding expect_from
-expect_back NotExpected = refl
-expect_back (Expected v a b) = ap (λ (x : ℕ). Expected x a b) (div-add-mod' v 4294967296)
+expect_back None = refl
+expect_back (Some (v, a, b)) = ap (λ (x : ℕ). Some (x, a, b)) (div-add-mod' v 4294967296)
 
-param_back : (p : Param) → let l = param_numbers p in param_from (get_or l 0 0) (get_or l 1 0) (get_or l 2 0) (get_or l 3 0) (get_or l 4 0) ≡ p
+param_back : (p : Option (ℕ × ℕ × ℕ × ℕ)) → let l = param_numbers p in param_from (get_or l 0 0) (get_or l 1 0) (get_or l 2 0) (get_or l 3 0) (get_or l 4 0) ≡ p
 unfolding param_from
-param_back NoParam = refl
-param_back (ParamAt a b c d) = refl
+param_back None = refl
+param_back (Some (a, b, c, d)) = refl
 
 -- behind fourteen cells, and whatever stands behind them, the singles' cells are the singles
 abbrev pub fourteen : List ℕ → List ℕ

@@ -1,20 +1,14 @@
 -- The singles and counts of a reading as cells, in the order of the C names: document 01, "start, `%expect`, `%expect_rr`, parse parameter, generics and programs, each absent or given".
-use Rattle.std.specs.Prelude.{ℕ, ◌+◌, ◌*◌, ◌/◌, ◌%◌, true, false, List, [], ◌∷◌, ◌++◌, eqb, get_or}
-use Rattle.grammar.specs.declared.Part.{Part}
-use Rattle.grammar.specs.declared.Part.TheVariants.{Absent, At}
-use Rattle.grammar.specs.declared.Expect.{Expect}
-use Rattle.grammar.specs.declared.Expect.TheVariants.{NotExpected, Expected}
-use Rattle.grammar.specs.declared.Param.{Param}
-use Rattle.grammar.specs.declared.Param.TheVariants.{NoParam, ParamAt}
+use Rattle.std.specs.Prelude.{ℕ, ◌+◌, ◌*◌, ◌/◌, ◌%◌, true, false, List, [], ◌∷◌, ◌++◌, eqb, get_or, Option, Some, None}
 use Rattle.grammar.specs.declared.Counts.{Counts}
 use Rattle.grammar.specs.declared.PosixCounts.{PosixCounts}
 use Rattle.grammar.specs.declared.Singles.{Singles}
 use Rattle.grammar.specs.Numbers.{part_numbers, param_numbers}
 
 -- each single is led by 0 or 1; `%expect` and `%expect_rr` are five numbers: the value in halves, and the place
-abbrev pub expect_cells : Expect → List ℕ
-expect_cells NotExpected = 0 ∷ 0 ∷ 0 ∷ 0 ∷ 0 ∷ []
-expect_cells (Expected v a b) = 1 ∷ v % 4294967296 ∷ v / 4294967296 ∷ a ∷ b ∷ []
+abbrev pub expect_cells : Option (ℕ × ℕ × ℕ) → List ℕ
+expect_cells None = 0 ∷ 0 ∷ 0 ∷ 0 ∷ 0 ∷ []
+expect_cells (Some (v, a, b)) = 1 ∷ v % 4294967296 ∷ v / 4294967296 ∷ a ∷ b ∷ []
 
 -- start three numbers, `%expect` and `%expect_rr` five each, parse parameter five, generics three, programs three
 abbrev pub singles_cells : Singles → List ℕ
@@ -31,14 +25,14 @@ abbrev pub posix_cells : PosixCounts → List ℕ
 posix_cells p = get_or p.n 0 0 ∷ get_or p.n 1 0 ∷ get_or p.n 2 0 ∷ []
 
 -- a single is absent where its flag is 0, and given where it is any other number
-unfoldable pub part_from : ℕ → ℕ → ℕ → Part
-part_from f a b = elim (eqb f 0) [ true ↦ Absent | false ↦ At a b ]
+unfoldable pub part_from : ℕ → ℕ → ℕ → Option (ℕ × ℕ)
+part_from f a b = elim (eqb f 0) [ true ↦ None | false ↦ Some (a, b) ]
 
-unfoldable pub expect_from : ℕ → ℕ → ℕ → ℕ → ℕ → Expect
-expect_from f low high a b = elim (eqb f 0) [ true ↦ NotExpected | false ↦ Expected (high * 4294967296 + low) a b ]
+unfoldable pub expect_from : ℕ → ℕ → ℕ → ℕ → ℕ → Option (ℕ × ℕ × ℕ)
+expect_from f low high a b = elim (eqb f 0) [ true ↦ None | false ↦ Some (high * 4294967296 + low, a, b) ]
 
-unfoldable pub param_from : ℕ → ℕ → ℕ → ℕ → ℕ → Param
-param_from f a b c d = elim (eqb f 0) [ true ↦ NoParam | false ↦ ParamAt a b c d ]
+unfoldable pub param_from : ℕ → ℕ → ℕ → ℕ → ℕ → Option (ℕ × ℕ × ℕ × ℕ)
+param_from f a b c d = elim (eqb f 0) [ true ↦ None | false ↦ Some (a, b, c, d) ]
 
 -- among the cells of a reading they stand from cell 14 on: behind its answer and ten counts in the C names' array, behind its counts and its source's length in the catalogue
 abbrev pub singles_of : List ℕ → Singles

@@ -6,38 +6,35 @@ ghost use Rattle.tables.specs.Table.{put};
 ghost use Rattle.grammar.specs.Numbers.{param_numbers};
 ghost use Rattle.singles.specs.Singles.{expect_cells, singles_cells, part_from, expect_from, param_from, singles_of, counts_of, posix_of};
 
-use grammar::{Counts, Expect, Param, Part, PosixCounts, Singles};
+use grammar::{Counts, PosixCounts, Singles};
 
 // Stores `cells` into `out` from cell `at` on, as far as there is room.
 pub fn put_cells(out: &mut [u32], at: usize, cells: &[u32])
     ensures { out.new ≡ put out.old at cells.now }
 {
-    let mut i = 0;
-    let mut k = at;
-    while i < cells.len() && k < out.len() {
-        out[k] = cells[i];
-        i += 1;
-        k += 1;
+    if at < out.len() {
+        let n = cells.len().min(out.len() - at);
+        out[at..at + n].copy_from_slice(&cells[..n]);
     }
 }
 
 // `%expect` or `%expect-rr`: a flag, the value's low and high half, and the place.
-fn expect_cells(e: Expect) -> [u32; 5]
+fn expect_cells(e: Option<(u64, u32, u32)>) -> [u32; 5]
     ensures { result ≡ expect_cells e }
 {
     match e {
-        Expect::NotExpected => [0, 0, 0, 0, 0],
-        Expect::Expected(v, a, b) => [1, (v % 4294967296) as u32, (v / 4294967296) as u32, a, b],
+        None => [0, 0, 0, 0, 0],
+        Some((v, a, b)) => [1, (v % 4294967296) as u32, (v / 4294967296) as u32, a, b],
     }
 }
 
 // The parse parameter: a flag, and the places of its name and its type.
-fn param_cells(p: Param) -> [u32; 5]
+fn param_cells(p: Option<(u32, u32, u32, u32)>) -> [u32; 5]
     ensures { result ≡ param_numbers p }
 {
     match p {
-        Param::NoParam => [0, 0, 0, 0, 0],
-        Param::ParamAt(a, b, c, d) => [1, a, b, c, d],
+        None => [0, 0, 0, 0, 0],
+        Some((a, b, c, d)) => [1, a, b, c, d],
     }
 }
 
@@ -61,31 +58,31 @@ pub fn single_cells(g: Singles) -> [u32; 24]
 }
 
 // A single that stands in the numbers of a reading: absent where its flag is 0.
-fn part_from(f: u32, a: u32, b: u32) -> Part
+fn part_from(f: u32, a: u32, b: u32) -> Option<(u32, u32)>
     ensures { result ≡ part_from f a b }
 {
     if f == 0 {
-        return Part::Absent;
+        return None;
     }
-    Part::At(a, b)
+    Some((a, b))
 }
 
-fn expect_from(f: u32, low: u32, high: u32, a: u32, b: u32) -> Expect
+fn expect_from(f: u32, low: u32, high: u32, a: u32, b: u32) -> Option<(u64, u32, u32)>
     ensures { result ≡ expect_from f low high a b }
 {
     if f == 0 {
-        return Expect::NotExpected;
+        return None;
     }
-    Expect::Expected((high as u64) * 4294967296 + (low as u64), a, b)
+    Some(((high as u64) * 4294967296 + (low as u64), a, b))
 }
 
-fn param_from(f: u32, a: u32, b: u32, c: u32, d: u32) -> Param
+fn param_from(f: u32, a: u32, b: u32, c: u32, d: u32) -> Option<(u32, u32, u32, u32)>
     ensures { result ≡ param_from f a b c d }
 {
     if f == 0 {
-        return Param::NoParam;
+        return None;
     }
-    Param::ParamAt(a, b, c, d)
+    Some((a, b, c, d))
 }
 
 // The singles among the cells of a reading, from cell 14 on.

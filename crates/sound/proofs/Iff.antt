@@ -1,4 +1,5 @@
 -- The test says yes exactly where the tables are sound. Assumes nothing.
+use Rattle.std.specs.Prelude.{Option, Some, None}
 use Prim.Native.Nat.{ℕ, zero, suc, ◌+◌, ◌*◌, ◌≤◌, ◌<◌}
 use mathlib.Core.Path.{◌≡◌, refl, sym, ap, ◌∙◌}
 use mathlib.Core.List.{List, []}
@@ -8,8 +9,6 @@ use mathlib.Core.Logic.{◌↔◌}
 use native.Mathlib.Omega.{arith}
 use lib.Dec.{eqb}
 use lib.ListN.{length, get_or}
-use Rattle.tables.specs.declared.Found.{Found}
-use Rattle.tables.specs.declared.Found.TheVariants.{RowAt, NoRow}
 use Rattle.tables.specs.Table.{cell, has_name, find_name, same_part}
 use Rattle.tables.specs.Rows.{row_at, end_before, Chained}
 use Rattle.tables.specs.Layout.{tokens, rules, productions, symbols, symbols_from, symbols_to, posix_from, tags, token_numbers, bodies, width, known_row}
@@ -17,12 +16,6 @@ use Rattle.tables.proofs.Cases.{none_iff}
 use Rattle.tables.proofs.Rows.{row_cell}
 use Rattle.grammar.specs.declared.Counts.{Counts}
 use Rattle.grammar.specs.declared.PosixCounts.{PosixCounts}
-use Rattle.grammar.specs.declared.Part.{Part}
-use Rattle.grammar.specs.declared.Part.TheVariants.{Absent, At}
-use Rattle.grammar.specs.declared.Expect.{Expect}
-use Rattle.grammar.specs.declared.Expect.TheVariants.{NotExpected, Expected}
-use Rattle.grammar.specs.declared.Param.{Param}
-use Rattle.grammar.specs.declared.Param.TheVariants.{NoParam, ParamAt}
 use Rattle.grammar.specs.declared.Singles.{Singles}
 use Rattle.grammar.specs.Sound.{Tables, Indexes, lexicon_of, tab, Differ, Each, Pairs, Table, AllTables, cells_of, PosixSound, Lies, LiesExpected, LiesParam, Lie, sound_view, Sound}
 use Rattle.sound.specs.Test.{row_test, names_test, table_test, before, range_test, ranges_test, part_test, expect_test, param_test, singles_test, count_at, known_test, tables_test, posix_test, sound_test}
@@ -36,9 +29,9 @@ use Rattle.sound.proofs.RowTests.{each_iff}
 use Rattle.sound.proofs.Indexes.{indexes_iff}
 
 -- "names in 1 and in 7 are pairwise different"
-unfound_iff : (f : Found) → (unfound f ≡ true) ↔ (f ≡ NoRow)
-unfound_iff (RowAt r) = (λ e. absurd (false≢true e), ap unfound)
-unfound_iff NoRow = (λ e. refl, λ e. refl)
+unfound_iff : (f : Option ℕ) → (unfound f ≡ true) ↔ (f ≡ None)
+unfound_iff (Some r) = (λ e. absurd (false≢true e), ap unfound)
+unfound_iff None = (λ e. refl, λ e. refl)
 
 module _ (src : List ℕ) (w : ℕ) (t : List ℕ) where
   differ_iff : 1 < w → (q r : ℕ) → (has_name src w 0 t (cell w t r 0) (cell w t r 1) q ≡ false) ↔ Differ src (row_at w t q) (row_at w t r)
@@ -139,17 +132,17 @@ module _ (t : List ℕ) where
 
 -- "Each place, singles' too"
 module _ (src : List ℕ) where
-  part_iff : (p : Part) → (part_test src p ≡ true) ↔ Lies src p
-  part_iff Absent = (λ e. tt, λ x. refl)
-  part_iff (At a b) = lies_iff src a b
+  part_iff : (p : Option (ℕ × ℕ)) → (part_test src p ≡ true) ↔ Lies src p
+  part_iff None = (λ e. tt, λ x. refl)
+  part_iff (Some (a, b)) = lies_iff src a b
 
-  expect_iff : (p : Expect) → (expect_test src p ≡ true) ↔ LiesExpected src p
-  expect_iff NotExpected = (λ e. tt, λ x. refl)
-  expect_iff (Expected v a b) = lies_iff src a b
+  expect_iff : (p : Option (ℕ × ℕ × ℕ)) → (expect_test src p ≡ true) ↔ LiesExpected src p
+  expect_iff None = (λ e. tt, λ x. refl)
+  expect_iff (Some (v, a, b)) = lies_iff src a b
 
-  param_iff : (p : Param) → (param_test src p ≡ true) ↔ LiesParam src p
-  param_iff NoParam = (λ e. tt, λ x. refl)
-  param_iff (ParamAt a b c d) = both_iff (lies_iff src a b) (lies_iff src c d)
+  param_iff : (p : Option (ℕ × ℕ × ℕ × ℕ)) → (param_test src p ≡ true) ↔ LiesParam src p
+  param_iff None = (λ e. tt, λ x. refl)
+  param_iff (Some (a, b, c, d)) = both_iff (lies_iff src a b) (lies_iff src c d)
 
   pub singles_iff : (g : Singles) → (singles_test src g ≡ true) ↔ Lie src g
   unfolding singles_test

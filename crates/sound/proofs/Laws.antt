@@ -2,10 +2,13 @@
 -- Assumes nothing.
 use Prim.Native.Nat.{ℕ, zero, suc, ◌+◌, ◌*◌, ◌-◌, ◌≤◌, ◌<◌}
 use mathlib.Core.Path.{◌≡◌, refl, sym, ap, ◌∙◌}
-use mathlib.Core.List.{List}
-use mathlib.Core.Bool.{Bool, true, false, ◌&&◌, ◌||◌, not, and-false}
+use mathlib.Core.List.{List, [], ◌∷◌, ◌++◌}
+use mathlib.Core.Bool.{Bool, true, false, ◌&&◌, ◌||◌, not, and-false, and-true}
 use native.Mathlib.Omega.{arith}
 use native.Mathlib.Numerals.{add-one}
+use native.Mathlib.Nat.{add-zero, zero-add}
+use Rattle.std.specs.List.{list_all, range_with_len}
+use Rattle.std.proofs.lemmas.List.Folds.{list_all-append}
 use borrow.Author.Tests.{ne_eqb, le-leb, lt-leb, not-true, not-false}
 use lib.Dec.{eqb, leb}
 use lib.ListN.{length, get_or, drop_of_length-le}
@@ -40,6 +43,21 @@ module _ (k : ℕ) where
 
     pub width_past : 1 ≡ width k
     width_past = rw beyond
+
+-- a test of all numbers below n
+range_more : (a n : ℕ) → range_with_len a (suc n) ≡ range_with_len a n ++ (a + n) ∷ []
+range_more a zero = rw (add-zero a)
+range_more a (suc n) =
+    let e : a + 1 + n ≡ a + suc n = omega arith in
+    ap (λ xs. a ∷ xs) (range_more (a + 1) n ∙ rw e)
+
+pub all_below : (p : ℕ → Bool) (n : ℕ) → list_all p (range_with_len 0 n) ≡ below n p
+unfolding below
+all_below p zero = refl
+all_below p (suc n) =
+    ap (list_all p) (range_more 0 n)
+    ∙ list_all-append p (range_with_len 0 n) ((0 + n) ∷ [])
+    ∙ rw (zero-add n, all_below p n, and-true)
 
 -- zeros, cell by cell
 module _ (t : List ℕ) (i : ℕ) (r : Bool) (inv : zeros_from t i ≡ r) where

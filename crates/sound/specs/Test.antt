@@ -1,17 +1,11 @@
 -- Document 01, "Tables are sound when", as a test that computes. That it says yes exactly where they are is a theorem (`sound_iff`).
-use Rattle.std.specs.Prelude.{ℕ, zero, suc, ◌+◌, ◌*◌, List, [], ◌∷◌, Bool, true, false, ◌||◌, ◌&&◌, leb, ltb, eqb, length, get_or, drop}
+use Rattle.std.specs.Prelude.{ℕ, zero, suc, ◌+◌, ◌*◌, List, [], ◌∷◌, Bool, true, false, ◌||◌, ◌&&◌, leb, ltb, eqb, length, get_or, drop, Option, Some, None}
 use Rattle.tables.specs.Below.{below}
 use Rattle.tables.specs.Table.{cell, lies}
 use Rattle.index.specs.Index.{index_test, size_test, fresh_name}
 use Rattle.symbols.specs.Symbols.{knows_test}
 use Rattle.tables.specs.Layout.{tokens, precedences, avoided, implicit, epps, unused, rules, productions, symbols, repeats, declared, association, key_name, value, typed, rule_row, place, symbols_from, symbols_to, prec, action, kind_name, tags, tag_place, token_numbers, bodies, width}
 use Rattle.grammar.specs.declared.Counts.{Counts}
-use Rattle.grammar.specs.declared.Part.{Part}
-use Rattle.grammar.specs.declared.Part.TheVariants.{Absent, At}
-use Rattle.grammar.specs.declared.Expect.{Expect}
-use Rattle.grammar.specs.declared.Expect.TheVariants.{NotExpected, Expected}
-use Rattle.grammar.specs.declared.Param.{Param}
-use Rattle.grammar.specs.declared.Param.TheVariants.{NoParam, ParamAt}
 use Rattle.grammar.specs.declared.Singles.{Singles}
 use Rattle.grammar.specs.declared.PosixCounts.{PosixCounts}
 use Rattle.grammar.specs.Sound.{Tables, Indexes, lexicon_of, tab}
@@ -108,17 +102,17 @@ unfoldable pub ranges_test : List ℕ → ℕ → ℕ → Bool
 ranges_test t n m = below n (range_test t) && eqb (before t n) m
 
 -- "each place, singles' too"
-abbrev pub part_test : List ℕ → Part → Bool
-part_test src Absent = true
-part_test src (At a b) = lies src a b
+abbrev pub part_test : List ℕ → Option (ℕ × ℕ) → Bool
+part_test src None = true
+part_test src (Some (a, b)) = lies src a b
 
-abbrev pub expect_test : List ℕ → Expect → Bool
-expect_test src NotExpected = true
-expect_test src (Expected v a b) = lies src a b
+abbrev pub expect_test : List ℕ → Option (ℕ × ℕ × ℕ) → Bool
+expect_test src None = true
+expect_test src (Some (v, a, b)) = lies src a b
 
-abbrev pub param_test : List ℕ → Param → Bool
-param_test src NoParam = true
-param_test src (ParamAt a b c d) = lies src a b && lies src c d
+abbrev pub param_test : List ℕ → Option (ℕ × ℕ × ℕ × ℕ) → Bool
+param_test src None = true
+param_test src (Some (a, b, c, d)) = lies src a b && lies src c d
 
 unfoldable pub singles_test : List ℕ → Singles → Bool
 singles_test src g =

@@ -2,7 +2,7 @@
 // whatever the indexes hold; a symbol's name is sought by the indexes of tables 1 and 7, which are tested first.
 #![tactic(auto)]
 
-ghost use Rattle.std.specs.Prelude.{◌≡◌, ◌<◌};
+ghost use Rattle.std.specs.Prelude.{◌≡◌, ◌<◌, ◌≤◌};
 ghost use Rattle.index.specs.Index.{Indexed, fresh_name};
 ghost use Rattle.tables.specs.Layout.{tokens, rules, symbols, width};
 ghost use Rattle.symbols.specs.Symbols.{lexicon, knows_test, Single};
@@ -10,22 +10,22 @@ ghost use Rattle.grammar.specs.Sound.{Tables};
 ghost use Rattle.tables.specs.Below.{below};
 ghost use Rattle.sound.specs.Test.{zeros_from, given_test, action_test, token_test, prec_test, name_test, epp_test, kind_test, rule_test, production_test, repeat_test, tag_test, row_test, width_of, table_test, range_test, ranges_test, part_test, expect_test, param_test, singles_test, count_at, index_right, indexes_test, tables_test, posix_test, sound_test};
 
-use grammar::{Counts, Expect, Param, Part, PosixCounts, Singles};
-use tables::Found;
+use grammar::{Counts, PosixCounts, Singles};
 
 // The cell where a tag's place begins.
 const TAG_PLACE: u32 = 2;
+
+// The slots of a finder for more than `finder::FEW_ROWS` names.
+const MANY_SLOTS: usize = 32768;
 
 // Whether all cells from `from` on are zero.
 pub fn zeros_from(t: &[u32], from: usize) -> bool
     ensures { result ≡ zeros_from t.now from }
 {
-    let mut i = from;
-    while i < t.len() {
+    for i in from..t.len() {
         if t[i] != 0 {
             return false;
         }
-        i += 1;
     }
     true
 }
@@ -155,8 +155,7 @@ pub fn row_sound(src: &[u8], k: u8, t: &[u32], r: u32, rules: u32) -> bool
     match k {
         0 => token_sound(src, t, r),
         1 => prec_sound(src, t, r),
-        2 => name_sound(src, tables::NAME_WIDTH, t, r),
-        3 => name_sound(src, tables::NAME_WIDTH, t, r),
+        2 | 3 => name_sound(src, tables::NAME_WIDTH, t, r),
         4 => epp_sound(src, t, r),
         5 => kind_sound(src, tables::UNUSED_WIDTH, t, r),
         6 => rule_sound(src, t, r),
@@ -173,59 +172,41 @@ pub fn row_sound(src: &[u8], k: u8, t: &[u32], r: u32, rules: u32) -> bool
 pub fn rows_sound(src: &[u8], k: u8, t: &[u32], n: u32, rules: u32) -> bool
     ensures { result ≡ below n (row_test src.now rules k t.now) }
 {
-    let mut r = 0;
-    while r < n {
-        if !row_sound(src, k, t, r, rules) {
-            return false;
-        }
-        r += 1;
-    }
-    true
+    (0..n).all(|r| row_sound(src, k, t, r, rules))
 }
 
 // Whether no row has the name of one before it: each is sought among those before it, which are in the finder, and is then entered.
 fn names_apart(src: &[u8], t: &[u32], w: u32, n: u32, fx: &mut [u16]) -> bool
     ensures { result ≡ below n (fresh_name src.now w 0 t.now) }
 {
-    let mut r = 0;
-    while r < n {
+    for r in 0..n {
         let a = tables::cell(t, w, r, 0);
         let b = tables::cell(t, w, r, 1);
-        match finder::find(src, t, w, tables::NAME, r, fx, a, b) {
-            Found::RowAt(_) => {
-                return false;
-            }
-            Found::NoRow => {
-                finder::enter(src, t, w, tables::NAME, r, fx);
-                r += 1;
-            }
+        if finder::find(src, t, w, tables::NAME, r, fx, a, b).is_some() {
+            return false;
         }
+        finder::enter(src, t, w, tables::NAME, r, fx);
     }
     true
 }
 
-// The same with a finder of its own; one for few rows is small, so that little has to be cleared.
-fn few_names_differ(src: &[u8], t: &[u32], w: u32, n: u32) -> bool
+// The same with a finder of its own, of `N` slots.
+fn names_differ_in<const N: usize>(src: &[u8], t: &[u32], w: u32, n: u32) -> bool
+    requires { N ≤ MANY_SLOTS }
     ensures { result ≡ below n (fresh_name src.now w 0 t.now) }
 {
-    let mut fx = [0u16; 1024];
+    let mut fx = [0u16; N];
     names_apart(src, t, w, n, &mut fx)
 }
 
-fn many_names_differ(src: &[u8], t: &[u32], w: u32, n: u32) -> bool
-    ensures { result ≡ below n (fresh_name src.now w 0 t.now) }
-{
-    let mut fx = [0u16; 32768];
-    names_apart(src, t, w, n, &mut fx)
-}
-
+// A finder for few rows is small, so that little has to be cleared.
 pub fn names_differ(src: &[u8], t: &[u32], w: u32, n: u32) -> bool
     ensures { result ≡ below n (fresh_name src.now w 0 t.now) }
 {
-    if n <= 512 {
-        return few_names_differ(src, t, w, n);
+    if n <= finder::FEW_ROWS {
+        return names_differ_in::<{ finder::FEW_SLOTS }>(src, t, w, n);
     }
-    many_names_differ(src, t, w, n)
+    names_differ_in::<MANY_SLOTS>(src, t, w, n)
 }
 
 // The width of table `k + 1`.
@@ -235,8 +216,7 @@ pub fn width_of(k: u8) -> u32
     match k {
         0 => tables::TOKEN_WIDTH,
         1 => tables::PRECEDENCE_WIDTH,
-        2 => tables::NAME_WIDTH,
-        3 => tables::NAME_WIDTH,
+        2 | 3 => tables::NAME_WIDTH,
         4 => tables::EPP_WIDTH,
         5 => tables::UNUSED_WIDTH,
         6 => tables::RULE_WIDTH,
@@ -287,42 +267,40 @@ pub fn range_sound(t: &[u32], r: u32) -> bool
 pub fn ranges_sound(t: &[u32], n: u32, symbols: u32) -> bool
     ensures { result ≡ ranges_test t.now n symbols }
 {
-    let mut r = 0;
     let mut end = 0;
-    while r < n {
+    for r in 0..n {
         if !range_sound(t, r) {
             return false;
         }
         end = tables::cell(t, tables::PRODUCTION_WIDTH, r, tables::LAST);
-        r += 1;
     }
     end == symbols
 }
 
-pub fn part_sound(src: &[u8], p: Part) -> bool
+pub fn part_sound(src: &[u8], p: Option<(u32, u32)>) -> bool
     ensures { result ≡ part_test src.now p }
 {
     match p {
-        Part::Absent => true,
-        Part::At(a, b) => tables::is_place(src, a, b),
+        None => true,
+        Some((a, b)) => tables::is_place(src, a, b),
     }
 }
 
-pub fn expect_sound(src: &[u8], e: Expect) -> bool
+pub fn expect_sound(src: &[u8], e: Option<(u64, u32, u32)>) -> bool
     ensures { result ≡ expect_test src.now e }
 {
     match e {
-        Expect::NotExpected => true,
-        Expect::Expected(_, a, b) => tables::is_place(src, a, b),
+        None => true,
+        Some((_, a, b)) => tables::is_place(src, a, b),
     }
 }
 
-pub fn param_sound(src: &[u8], p: Param) -> bool
+pub fn param_sound(src: &[u8], p: Option<(u32, u32, u32, u32)>) -> bool
     ensures { result ≡ param_test src.now p }
 {
     match p {
-        Param::NoParam => true,
-        Param::ParamAt(a, b, c, d) => { tables::is_place(src, a, b) & tables::is_place(src, c, d) }
+        None => true,
+        Some((a, b, c, d)) => { tables::is_place(src, a, b) & tables::is_place(src, c, d) }
     }
 }
 
@@ -387,7 +365,7 @@ pub fn tables_sound(
     t9: &[u32],
     t10: &[u32],
 ) -> bool
-    ensures { result ≡ tables_test src.now c (record { t1 = t1.entry.now; t2 = t2.now; t3 = t3.now; t4 = t4.now; t5 = t5.now; t6 = t6.now; t7 = t7.now; t8 = t8.now; t9 = t9.now; t10 = t10.now }) }
+    ensures { result ≡ tables_test src.now c (record { t1 = t1.now; t2 = t2.now; t3 = t3.now; t4 = t4.now; t5 = t5.now; t6 = t6.now; t7 = t7.now; t8 = t8.now; t9 = t9.now; t10 = t10.now }) }
 {
     let rules = rows_of(c, tables::RULES);
     if !table_sound(
@@ -519,14 +497,7 @@ pub fn symbols_known(
     let n = rows_of(c, tables::TOKENS);
     let m = rows_of(c, tables::RULES);
     let count = rows_of(c, tables::SYMBOLS);
-    let mut s = 0;
-    while s < count {
-        if !symbols::symbol_knows(src, t1, n, i1, t7, m, i7, t9, s) {
-            return false;
-        }
-        s += 1;
-    }
-    true
+    (0..count).all(|s| symbols::symbol_knows(src, t1, n, i1, t7, m, i7, t9, s))
 }
 
 // Whether all of it is sound.
@@ -547,7 +518,7 @@ pub fn sound(
     i1: &[u32],
     i7: &[u32],
 ) -> bool
-    ensures { result ≡ sound_test src.now c g (record { t1 = t1.entry.now; t2 = t2.now; t3 = t3.now; t4 = t4.now; t5 = t5.now; t6 = t6.now; t7 = t7.now; t8 = t8.now; t9 = t9.now; t10 = t10.now }) (record { tokens = i1.now; rules = i7.now }) }
+    ensures { result ≡ sound_test src.now c g (record { t1 = t1.now; t2 = t2.now; t3 = t3.now; t4 = t4.now; t5 = t5.now; t6 = t6.now; t7 = t7.now; t8 = t8.now; t9 = t9.now; t10 = t10.now }) (record { tokens = i1.now; rules = i7.now }) }
 {
     if 65536 < src.len() {
         return false;

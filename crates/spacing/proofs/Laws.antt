@@ -1,5 +1,6 @@
 -- One law for each way through `spacing`, from what the arms of a `match` on a byte know, as rules for `search`: the goal shows the index,
 -- the count and the answer r. At a known byte the definition computes, so an arm of one number wants `drop_key` alone. Assumes nothing.
+use Rattle.std.specs.Prelude.{Result, Ok, Err}
 use Prim.Native.Nat.{ℕ, ◌+◌, ◌≤◌, ◌<◌}
 use mathlib.Core.Path.{◌≡◌, sym, ◌∙◌}
 use mathlib.Core.List.{List, [], ◌∷◌}
@@ -15,8 +16,8 @@ use Rattle.scan.specs.Lines.{lines_at}
 use Rattle.scan.proofs.Bytes.{drop_at, drop_key, ends, eol_yes, eol_no, at_true, at_next, at_here, le_or_lt}
 use Rattle.scan.proofs.Runs.{run_keeps}
 use Rattle.spacing.specs.Spacing.{slash_closes, is_blank, gap, slash, line, comment, spacing, spacing_at}
-use Rattle.spacing.specs.declared.Spaced.{Spaced}
-use Rattle.spacing.specs.declared.Spaced.TheVariants.{To, LineEnd, OpenComment}
+use Rattle.spacing.specs.declared.SpacingError.{SpacingError}
+use Rattle.spacing.specs.declared.SpacingError.TheVariants.{LineEnd, OpenComment}
 
 abbrev blanks : List ℕ
 blanks = 9 ∷ 32 ∷ []
@@ -31,13 +32,13 @@ module _ (x : ℕ) where
   end_no_blank o = ⊎_elim (λ e. rw e) (λ e. rw e) o
 
 -- another byte behind a `/` stops where the `/` stands
-slash_stops : (kind : ℕ) (ok : Bool) (b c : ℕ) (cs : List ℕ) (i n : ℕ) → eqb c 47 ≡ false → eqb c 42 ≡ false → spacing kind ok (slash b) (c ∷ cs) i n ≡ To b n
+slash_stops : (kind : ℕ) (ok : Bool) (b c : ℕ) (cs : List ℕ) (i n : ℕ) → eqb c 47 ≡ false → eqb c 42 ≡ false → spacing kind ok (slash b) (c ∷ cs) i n ≡ Ok (b, n)
 unfolding spacing
 slash_stops kind ok b c cs i n f g = rw (spacing, f, g)
 
-module _ (kind : ℕ) (ok : Bool) (s : List ℕ) (i n : ℕ) (r : Spaced) where
+module _ (kind : ℕ) (ok : Bool) (s : List ℕ) (i n : ℕ) (r : Result (ℕ × ℕ) SpacingError) where
   module _ (inv : spacing_at kind ok gap s i n ≡ r) where
-    pub a_end : length s ≤ i → To i n ≡ r
+    pub a_end : length s ≤ i → Ok (i, n) ≡ r
     unfolding spacing spacing_at
     a_end h = rw (drop_of_length-le s h) at inv
 
@@ -46,7 +47,7 @@ module _ (kind : ℕ) (ok : Bool) (s : List ℕ) (i n : ℕ) (r : Spaced) where
       unfolding spacing spacing_at is_blank
       a_blank o = ⊎_elim (λ e. rw (drop_key s i 9 h e) at inv) (λ e. rw (drop_key s i 32 h e) at inv) o
 
-      pub a_refused : OneOf ends (get_or s i 0) → not ok ≡ true → LineEnd i ≡ r
+      pub a_refused : OneOf ends (get_or s i 0) → not ok ≡ true → Err (LineEnd i) ≡ r
       unfolding spacing spacing_at
       a_refused o f = rw (drop_at s i h, end_no_blank _ o, eol_yes _ o, f, spacing) at inv
 
@@ -55,16 +56,16 @@ module _ (kind : ℕ) (ok : Bool) (s : List ℕ) (i n : ℕ) (r : Spaced) where
       unfolding spacing spacing_at lines_at
       a_eol m o f q = rw q (rw (drop_at s i h, end_no_blank _ o, eol_yes _ o, f, spacing) at inv)
 
-      pub a_other : (OneOf blanks (get_or s i 0) → ⊥) → (OneOf ends (get_or s i 0) → ⊥) → (get_or s i 0 ≡ 47 → ⊥) → To i n ≡ r
+      pub a_other : (OneOf blanks (get_or s i 0) → ⊥) → (OneOf ends (get_or s i 0) → ⊥) → (get_or s i 0 ≡ 47 → ⊥) → Ok (i, n) ≡ r
       unfolding spacing spacing_at
       a_other a b f = rw (drop_at s i h, blank_no _ a, eol_no _ b, ne_eqb _ _ f, spacing) at inv
 
       module _ (e : get_or s i 0 ≡ 47) where
-        pub a_slash_end : length s ≤ i + 1 → To i n ≡ r
+        pub a_slash_end : length s ≤ i + 1 → Ok (i, n) ≡ r
         unfolding spacing spacing_at is_blank is_eol
         a_slash_end k = rw (drop_key s i 47 h e, drop_of_length-le s k) at inv
 
-        pub a_slash_other : i + 1 < length s → (get_or s (i + 1) 0 ≡ 47 → ⊥) → (get_or s (i + 1) 0 ≡ 42 → ⊥) → To i n ≡ r
+        pub a_slash_other : i + 1 < length s → (get_or s (i + 1) 0 ≡ 47 → ⊥) → (get_or s (i + 1) 0 ≡ 42 → ⊥) → Ok (i, n) ≡ r
         unfolding spacing spacing_at is_blank is_eol
         a_slash_other k f g = sym (slash_stops kind ok i (get_or s (i + 1) 0) (drop (i + 1 + 1) s) (i + 1) n (ne_eqb _ _ f) (ne_eqb _ _ g)) ∙ rw (drop_key s i 47 h e, drop_at s (i + 1) k) at inv
 
@@ -96,7 +97,7 @@ unfolding in_class
 line_byte c true e = not-false (is_eol c) e
 line_byte c false e = not-true (is_eol c) e
 
-module _ (kind : ℕ) (ok : Bool) (s : List ℕ) (n : ℕ) (r : Spaced) where
+module _ (kind : ℕ) (ok : Bool) (s : List ℕ) (n : ℕ) (r : Result (ℕ × ℕ) SpacingError) where
   module _ (i e : ℕ) (inv : spacing_at kind ok gap s i n ≡ r) (h : i < length s) (c : get_or s i 0 ≡ 47) (k : i + 1 < length s) (d : get_or s (i + 1) 0 ≡ 47) (x : Runs (in_class LineByte) s (i + 1) e) where
     to_end : spacing_at kind ok line s e n ≡ r
     to_end = run_keeps (λ j. spacing_at kind ok line s j n ≡ r) (in_class LineByte) s (i + 1) e x (λ j l t v. l_on kind ok s j n r v l (line_byte _ false t)) (a_line kind ok s i n r inv h c k d)
@@ -107,7 +108,7 @@ module _ (kind : ℕ) (ok : Bool) (s : List ℕ) (n : ℕ) (r : Spaced) where
     pub a_line_counted : (m : ℕ) → e < length s → m ≡ lines_at s e → spacing_at kind ok gap s (e + 1) (n + m) ≡ r
     a_line_counted m l q = rw q (l_byte kind ok s e n r to_end l (line_byte _ true (x.stops l)))
 
-module _ (kind : ℕ) (ok : Bool) (s : List ℕ) (b k n : ℕ) (r : Spaced) where
+module _ (kind : ℕ) (ok : Bool) (s : List ℕ) (b k n : ℕ) (r : Result (ℕ × ℕ) SpacingError) where
   -- behind a `*`, or behind a line end that closes in this kind
   module _ (x f : Bool) (inv : spacing_at kind ok (comment b x) s k n ≡ r) (q : f ≡ is_at 47 s k) where
     behind_close : (x && f) ≡ true → spacing_at kind ok gap s (k + 1) n ≡ r
@@ -125,13 +126,13 @@ module _ (kind : ℕ) (ok : Bool) (s : List ℕ) (b k n : ℕ) (r : Spaced) wher
         (λ h. rw (drop_at s k h) (rw (drop_at s k h, at_here s k 47 h ∙ sym q, t, spacing) at inv))
         (le_or_lt (length s) k)
 
-module _ (kind : ℕ) (ok : Bool) (s : List ℕ) (b k n : ℕ) (r : Spaced) (inv : spacing_at kind ok (comment b false) s k n ≡ r) where
-  pub c_end : length s ≤ k → OpenComment b ≡ r
+module _ (kind : ℕ) (ok : Bool) (s : List ℕ) (b k n : ℕ) (r : Result (ℕ × ℕ) SpacingError) (inv : spacing_at kind ok (comment b false) s k n ≡ r) where
+  pub c_end : length s ≤ k → Err (OpenComment b) ≡ r
   unfolding spacing spacing_at
   c_end h = rw (drop_of_length-le s h) at inv
 
   module _ (h : k < length s) where
-    pub c_refused : OneOf ends (get_or s k 0) → not ok ≡ true → LineEnd b ≡ r
+    pub c_refused : OneOf ends (get_or s k 0) → not ok ≡ true → Err (LineEnd b) ≡ r
     unfolding spacing spacing_at
     c_refused o f = rw (drop_at s k h, eol_yes _ o, f, spacing) at inv
 
@@ -170,6 +171,6 @@ module _ (kind : ℕ) (ok : Bool) (s : List ℕ) (b k n : ℕ) (r : Spaced) (inv
       c_star_close e t = behind_close kind ok s b (k + 1) n r true f (c_star e) q t
 
 -- a byte that is neither line end nor `*`, and a run of such behind it
-pub c_run : (kind : ℕ) (ok : Bool) (s : List ℕ) (b k n e : ℕ) (r : Spaced) → spacing_at kind ok (comment b false) s k n ≡ r → k < length s → Runs (in_class CommentByte) s (k + 1) e → (OneOf ends (get_or s k 0) → ⊥) → (get_or s k 0 ≡ 42 → ⊥) → spacing_at kind ok (comment b false) s e n ≡ r
+pub c_run : (kind : ℕ) (ok : Bool) (s : List ℕ) (b k n e : ℕ) (r : Result (ℕ × ℕ) SpacingError) → spacing_at kind ok (comment b false) s k n ≡ r → k < length s → Runs (in_class CommentByte) s (k + 1) e → (OneOf ends (get_or s k 0) → ⊥) → (get_or s k 0 ≡ 42 → ⊥) → spacing_at kind ok (comment b false) s e n ≡ r
 c_run kind ok s b k n e r inv h x o f =
     run_keeps (λ j. spacing_at kind ok (comment b false) s j n ≡ r) (in_class CommentByte) s (k + 1) e x (λ j l t v. c_byte kind ok s b j n r v l t) (c_on kind ok s b k n r inv h o f)

@@ -1,4 +1,5 @@
 -- Spacing tells how many lines it passed, in blanks and in comments of both sorts; none exactly where neither LF nor CR stands in it. Assumes nothing.
+use Rattle.std.specs.Prelude.{Result, Ok, Err}
 use Prim.Native.Nat.{ℕ, ◌+◌, ◌≤◌, ◌<◌}
 use mathlib.Core.Path.{◌≡◌, refl, sym, ap}
 use mathlib.Core.List.{List, [], ◌∷◌}
@@ -13,8 +14,8 @@ use Rattle.scan.specs.Lines.{lines_here, lines_to}
 use Rattle.scan.proofs.Bytes.{on_test, told, drop_next, drop_byte}
 use Rattle.scan.proofs.Lines.{mark_plain, here_none, lines_next, lines_plain, lines_more}
 use Rattle.spacing.specs.Spacing.{slash_closes, is_blank, Mode, gap, slash, line, comment, spacing, spacing_at, spaces_at}
-use Rattle.spacing.specs.declared.Spaced.{Spaced}
-use Rattle.spacing.specs.declared.Spaced.TheVariants.{To, LineEnd, OpenComment}
+use Rattle.spacing.specs.declared.SpacingError.{SpacingError}
+use Rattle.spacing.specs.declared.SpacingError.TheVariants.{LineEnd, OpenComment}
 
 -- bytes that spacing passes without a count are no line ends
 blank_plain : (c : ℕ) → is_blank c ≡ true → is_eol c ≡ false
@@ -53,10 +54,10 @@ module _ (kind : ℕ) (ok : Bool) (s : List ℕ) (from : ℕ) where
   Stop i n = Till i n × (is_eol (get_or s i 0) ≡ false)
 
   -- what spacing that ended passed
-  abbrev Stopped : Spaced → Type 0
-  Stopped (To i n) = Stop i n
-  Stopped (LineEnd i) = Unit {0}
-  Stopped (OpenComment i) = Unit {0}
+  abbrev Stopped : Result (ℕ × ℕ) SpacingError → Type 0
+  Stopped (Ok (i, n)) = Stop i n
+  Stopped (Err (LineEnd i)) = Unit {0}
+  Stopped (Err (OpenComment i)) = Unit {0}
 
   -- what holds in front of index i, n lines being counted; behind a `/` spacing may still turn back to it
   abbrev Ready : Mode → ℕ → ℕ → Type 0
@@ -114,7 +115,7 @@ module _ (kind : ℕ) (ok : Bool) (s : List ℕ) (from : ℕ) where
   stopped (c ∷ cs) line i n q x = in-line i n c cs q x (λ mode m. stopped cs mode (i + 1) m (drop_next s i c cs q))
   stopped (c ∷ cs) (comment b d) i n q x = in-comment i n c cs q x (λ mode m. stopped cs mode (i + 1) m (drop_next s i c cs q)) b d
 
-module _ (kind : ℕ) (ok : Bool) (s : List ℕ) (from i n : ℕ) (e : spaces_at kind ok s from ≡ To i n) where
+module _ (kind : ℕ) (ok : Bool) (s : List ℕ) (from i n : ℕ) (e : spaces_at kind ok s from ≡ Ok (i, n)) where
   till_end : Stop kind ok s from i n
   unfolding spacing_at
   till_end = told (Stopped kind ok s from) e (stopped kind ok s from (drop from s) gap from 0 refl (omega arith, omega arith))

@@ -1,4 +1,5 @@
 -- Where spacing ends and where it refuses: onward, inside the source, and at a code point's begin if it began at one. Assumes nothing.
+use Rattle.std.specs.Prelude.{Result}
 use Prim.Native.Nat.{ℕ, ◌+◌, ◌-◌, ◌≤◌, ◌<◌}
 use mathlib.Core.Path.{◌≡◌, refl}
 use mathlib.Core.List.{List, [], ◌∷◌}
@@ -13,7 +14,7 @@ use Rattle.scan.specs.Lines.{lines_here}
 use Rattle.scan.proofs.Bytes.{on_test, drop_below, drop_next, drop_byte, drop_ended}
 use Rattle.scan.proofs.Lines.{here_few}
 use Rattle.spacing.specs.Spacing.{slash_closes, is_blank, Mode, gap, slash, line, comment, spacing, spacing_at, spaces_at, Spaces}
-use Rattle.spacing.specs.declared.Spaced.{Spaced}
+use Rattle.spacing.specs.declared.SpacingError.{SpacingError}
 
 -- either of two numbers, both below 128
 either : (c a b : ℕ) → (eqb c a || eqb c b) ≡ true → a < 128 → b < 128 → c < 128
@@ -105,5 +106,5 @@ unfolding spacing_at
 spaces kind ok s from h = place kind ok s from (drop from s) gap from 0 refl h (omega arith, inl refl)
 
 -- both clauses of `parse_ws`, from the first
-pub placed : (kind : ℕ) (ok : Bool) (s : List ℕ) (from : ℕ) (r : Spaced) → from ≤ length s → r ≡ spaces_at kind ok s from → (r ≡ spaces_at kind ok s from) × Spaces s from r
+pub placed : (kind : ℕ) (ok : Bool) (s : List ℕ) (from : ℕ) (r : Result (ℕ × ℕ) SpacingError) → from ≤ length s → r ≡ spaces_at kind ok s from → (r ≡ spaces_at kind ok s from) × Spaces s from r
 placed kind ok s from r h e = (e, rw e (spaces kind ok s from h))

@@ -1,4 +1,5 @@
 -- In kind 4 a comment is left behind its first `*/`, and nowhere else. Assumes nothing.
+use Rattle.std.specs.Prelude.{Result, Ok, Err}
 use Prim.Native.Nat.{ℕ, ◌+◌, ◌-◌, ◌≤◌, ◌<◌}
 use mathlib.Core.Path.{◌≡◌, refl, sym, ◌∙◌}
 use mathlib.Core.List.{List, [], ◌∷◌}
@@ -12,8 +13,8 @@ use Rattle.scan.specs.Scan.{is_eol, begins, starts_at}
 use Rattle.scan.specs.Lines.{lines_here}
 use Rattle.scan.proofs.Bytes.{on_test, told, le_or_lt, drop_at, drop_below, drop_next, drop_byte, starts_fits, starts_byte}
 use Rattle.spacing.specs.Spacing.{slash_closes, is_blank, Mode, gap, slash, line, comment, spacing, spacing_at, spaces_at, Starred, Leaves}
-use Rattle.spacing.specs.declared.Spaced.{Spaced}
-use Rattle.spacing.specs.declared.Spaced.TheVariants.{To, LineEnd, OpenComment}
+use Rattle.spacing.specs.declared.SpacingError.{SpacingError}
+use Rattle.spacing.specs.declared.SpacingError.TheVariants.{LineEnd, OpenComment}
 use Rattle.spacing.proofs.Laws.{a_comment}
 
 -- two choices by one test
@@ -22,14 +23,14 @@ both P true x y u v f g = f refl
 both P false x y u v f g = g refl
 
 -- spacing that ends at an index
-abbrev Ends : ℕ → Spaced → Type 0
-Ends e (To i n) = i ≡ e
-Ends e (LineEnd i) = ⊥
-Ends e (OpenComment i) = ⊥
+abbrev Ends : ℕ → Result (ℕ × ℕ) SpacingError → Type 0
+Ends e (Ok (i, n)) = i ≡ e
+Ends e (Err (LineEnd i)) = ⊥
+Ends e (Err (OpenComment i)) = ⊥
 
 -- where spacing ends does not go by the lines counted before
 module _ (kind : ℕ) (ok : Bool) (e : ℕ) where
-  abbrev Same : Spaced → Spaced → Type 0
+  abbrev Same : Result (ℕ × ℕ) SpacingError → Result (ℕ × ℕ) SpacingError → Type 0
   Same x y = Ends e x → Ends e y
 
   uncounted : (l : List ℕ) (mode : Mode) (i n m : ℕ) → Same (spacing kind ok mode l i n) (spacing kind ok mode l i m)
@@ -82,7 +83,7 @@ module _ (ok : Bool) (s : List ℕ) (b e : ℕ) (opens : starts_at (47 ∷ 42 �
     pub star : x ≡ true → b + 2 < i
     pub mark : (j : ℕ) → b + 2 ≤ j → j + 1 ≡ i → eqb (get_or s j 0) 42 ≡ x
 
-  abbrev Left : Spaced → Type 0
+  abbrev Left : Result (ℕ × ℕ) SpacingError → Type 0
   Left r = Ends e r → Leaves ok s b e
 
   module _ (i n c : ℕ) (cs : List ℕ) (q : drop i s ≡ c ∷ cs) (x : Bool) (w : Inside i x) where
@@ -113,10 +114,10 @@ module _ (ok : Bool) (s : List ℕ) (b e : ℕ) (opens : starts_at (47 ∷ 42 �
         go (spaces_at 4 ok s (i - 1 + 2)) refl (rw k2 v)
         (record { opens = opens; apart = omega arith; closes = here (i - 1) (omega arith) k ∙ t; first = λ j h l. w.none j h (omega arith) })
       where
-        go : (r : Spaced) → spaces_at 4 ok s (i - 1 + 2) ≡ r → Ends e r → Starred s b (i - 1) → Leaves ok s b e
-        go (To j m) d p y = record { star = i - 1; comment = y; lines = m; behind = rw p at d }
-        go (LineEnd j) d p y = absurd p
-        go (OpenComment j) d p y = absurd p
+        go : (r : Result (ℕ × ℕ) SpacingError) → spaces_at 4 ok s (i - 1 + 2) ≡ r → Ends e r → Starred s b (i - 1) → Leaves ok s b e
+        go (Ok (j, m)) d p y = record { star = i - 1; comment = y; lines = m; behind = rw p at d }
+        go (Err (LineEnd j)) d p y = absurd p
+        go (Err (OpenComment j)) d p y = absurd p
 
   inside : (l : List ℕ) (x : Bool) (i n : ℕ) → drop i s ≡ l → Inside i x → Left (spacing 4 ok (comment b x) l i n)
   unfolding spacing
@@ -128,7 +129,7 @@ module _ (ok : Bool) (s : List ℕ) (b e : ℕ) (opens : starts_at (47 ∷ 42 �
       (λ g. inside cs (eqb c 42) (i + 1) n (drop_next s i c cs q) (on i n c cs q x w f (eqb c 42) refl)))
 
 -- "A comment closes only at `*/`": spacing that begins with a comment and ends has left it behind the first `*/`, and went on from there.
-pub star_closes : (ok : Bool) (s : List ℕ) (b i n : ℕ) → starts_at (47 ∷ 42 ∷ []) s b ≡ true → spaces_at 4 ok s b ≡ To i n → Leaves ok s b i
+pub star_closes : (ok : Bool) (s : List ℕ) (b i n : ℕ) → starts_at (47 ∷ 42 ∷ []) s b ≡ true → spaces_at 4 ok s b ≡ Ok (i, n) → Leaves ok s b i
 unfolding spacing_at
 star_closes ok s b i n o q =
     let f = starts_fits (47 ∷ 42 ∷ []) s b o (omega arith) in
@@ -138,4 +139,4 @@ star_closes ok s b i n o q =
     let c : get_or s (b + 1) 0 ≡ 42 = starts_byte (47 ∷ 42 ∷ []) s b o 1 (omega arith) in
     inside ok s b i o (drop (b + 1 + 1) s) false (b + 1 + 1) 0 refl
     (record { past = omega arith; none = λ j h l. absurd (omega arith); star = λ t. let u : ◌≡◌ {A = ℕ} 0 1 = cc in absurd (omega arith); mark = λ j h l. absurd (omega arith) })
-    (told (Ends i) (sym (a_comment 4 ok s b 0 (To i n) q (omega arith) a (omega arith) c)) refl)
+    (told (Ends i) (sym (a_comment 4 ok s b 0 (Ok (i, n)) q (omega arith) a (omega arith) c)) refl)

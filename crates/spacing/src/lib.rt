@@ -7,22 +7,27 @@ ghost use Rattle.spacing.specs.Spacing.{spaces_at, Spaces};
 use scan::Class;
 
 #[derive(Clone, Copy)]
-pub enum Spaced {
-    // The first byte behind the spacing, and how many lines were passed.
-    To(usize, usize),
+pub enum SpacingError {
     // A line end where none is allowed: its place, or that of the comment that holds it.
     LineEnd(usize),
     // A comment that is never closed: its first byte.
     OpenComment(usize),
 }
 
-pub fn parse_ws(s: &[u8], kind: u32, from: usize, ends_allowed: bool) -> Spaced
+// The first byte behind the spacing, and how many lines were passed.
+pub fn parse_ws(
+    s: &[u8],
+    kind: u32,
+    from: usize,
+    ends_allowed: bool,
+) -> Result<(usize, usize), SpacingError>
     requires { from ≤ length s.now }
     ensures value { result ≡ spaces_at kind ends_allowed s.now from }
     ensures spaces { Spaces s.now from result }
 {
     let mut i = from;
     let mut n = 0;
+    // by hand: a step is a byte or a whole comment
     'gap: while i < s.len() {
         let c = s[i];
         match c {
@@ -31,7 +36,7 @@ pub fn parse_ws(s: &[u8], kind: u32, from: usize, ends_allowed: bool) -> Spaced
             }
             10 | 13 => {
                 if !ends_allowed {
-                    return Spaced::LineEnd(i);
+                    return Err(SpacingError::LineEnd(i));
                 }
                 n += scan::lines_at(s, i);
                 i += 1;
@@ -54,9 +59,10 @@ pub fn parse_ws(s: &[u8], kind: u32, from: usize, ends_allowed: bool) -> Spaced
                     }
                     42 => {
                         let mut k = j + 1;
+                        // by hand: a step is a byte, a run of bytes, or the two bytes that close the comment
                         'comment: loop {
                             if s.len() <= k {
-                                return Spaced::OpenComment(i);
+                                return Err(SpacingError::OpenComment(i));
                             }
                             let e = s[k];
                             let b = k;
@@ -64,7 +70,7 @@ pub fn parse_ws(s: &[u8], kind: u32, from: usize, ends_allowed: bool) -> Spaced
                             match e {
                                 10 | 13 => {
                                     if !ends_allowed {
-                                        return Spaced::LineEnd(i);
+                                        return Err(SpacingError::LineEnd(i));
                                     }
                                     n += scan::lines_at(s, b);
                                     if (kind != 4) & scan::is_at(s, k, b'/') {
@@ -91,5 +97,5 @@ pub fn parse_ws(s: &[u8], kind: u32, from: usize, ends_allowed: bool) -> Spaced
             _ => break 'gap,
         }
     }
-    Spaced::To(i, n)
+    Ok((i, n))
 }

@@ -1,6 +1,8 @@
 // Which rows pruning keeps: one bit for each row that the start, an excused rule or an excused token keeps.
 #![tactic(auto)]
 
+ghost use Rattle.std.specs.Prelude.{◌≤◌};
+ghost use Rattle.finder.specs.declared.TheConstants.{MANY_SLOTS};
 ghost use Rattle.tables.specs.Layout.{tokens, rules, width};
 ghost use Rattle.sound.specs.Test.{count_at};
 ghost use Rattle.index.specs.Index.{Indexed};
@@ -9,7 +11,7 @@ ghost use Rattle.reach.specs.Reach.{named, grammar_of, Apart, Fair, Adds, Fits};
 ghost use Rattle.usage.specs.Report.{Expected, Implicit, Excused, excuses_of};
 ghost use Rattle.staying.specs.Marks.{RowBit, EntryBit, StayMarks};
 
-use grammar::{Counts, Part};
+use grammar::Counts;
 use reach::Sort;
 
 // Sets the bit of the row that row `e` of table 6 names, if that is of the sort.
@@ -32,10 +34,8 @@ fn mark_expected(w: &mut [u32], src: &[u8], names: &[u32], fx: &[u16], z: Sort, 
     requires { Fits z w.old × Apart src.now (named names.now z) × Led src.now z.wide 0 z.count names.now fx.now }
     ensures { Adds (RowBit (named names.now z) (Expected src.now t6.now n z.kind)) w.old w.new }
 {
-    let mut e = 0;
-    while e < n {
+    for e in 0..n {
         mark_entry(w, src, names, fx, z, t6, e);
-        e += 1;
     }
 }
 
@@ -49,12 +49,10 @@ fn mark_implicit(w: &mut [u32], src: &[u8], names: &[u32], fx: &[u16], z: Sort, 
     }
     let wide = tables::NAME_WIDTH;
     let at = tables::NAME as u32;
-    let mut e = 0;
-    while e < n {
+    for e in 0..n {
         let a = tables::cell(t4, wide, e, at);
         let b = tables::cell(t4, wide, e, at + 1);
         reach::mark_named(w, src, names, fx, z, a, b);
-        e += 1;
     }
 }
 
@@ -102,25 +100,24 @@ fn mark_by(
     mark_led(w, src, c, names, fx, z, t4, t6);
 }
 
-// With few slots, which are soon cleared.
-fn mark_few(w: &mut [u32], src: &[u8], c: Counts, names: &[u32], z: Sort, t4: &[u32], t6: &[u32])
-    requires { Fits z w.old × Apart src.now (named names.now z) }
+// The same with a finder of its own, of `N` slots.
+fn mark_in<const N: usize>(
+    w: &mut [u32],
+    src: &[u8],
+    c: Counts,
+    names: &[u32],
+    z: Sort,
+    t4: &[u32],
+    t6: &[u32],
+)
+    requires { (N ≤ MANY_SLOTS) × Fits z w.old × Apart src.now (named names.now z) }
     ensures { Adds (RowBit (named names.now z) (Excused (excuses_of src.now c t4.now t6.now) z.kind)) w.old w.new }
 {
-    let mut fx = [0u16; finder::FEW_SLOTS];
+    let mut fx = [0u16; N];
     mark_by(w, src, c, names, &mut fx, z, t4, t6);
 }
 
-// With slots for every grammar that is read.
-fn mark_many(w: &mut [u32], src: &[u8], c: Counts, names: &[u32], z: Sort, t4: &[u32], t6: &[u32])
-    requires { Fits z w.old × Apart src.now (named names.now z) }
-    ensures { Adds (RowBit (named names.now z) (Excused (excuses_of src.now c t4.now t6.now) z.kind)) w.old w.new }
-{
-    let mut fx = [0u16; finder::MANY_SLOTS];
-    mark_by(w, src, c, names, &mut fx, z, t4, t6);
-}
-
-// The bits of the excused rows of the sort. Where nothing is declared no finder is made.
+// The bits of the excused rows of the sort. Where nothing is declared no finder is made, and one for few rows is soon cleared.
 fn mark_excused(
     w: &mut [u32],
     src: &[u8],
@@ -139,10 +136,10 @@ fn mark_excused(
         return;
     }
     if z.count <= finder::FEW_ROWS {
-        mark_few(w, src, c, names, z, t4, t6);
+        mark_in::<{ finder::FEW_SLOTS }>(w, src, c, names, z, t4, t6);
         return;
     }
-    mark_many(w, src, c, names, z, t4, t6);
+    mark_in::<{ finder::MANY_SLOTS }>(w, src, c, names, z, t4, t6);
 }
 
 // The work bits: a 1 for each row that stays. False, and all zero, where there are too few words.
@@ -150,7 +147,7 @@ pub fn mark_staying(
     w: &mut [u32],
     src: &[u8],
     c: Counts,
-    start: Part,
+    start: Option<(u32, u32)>,
     t1: &[u32],
     t4: &[u32],
     t6: &[u32],

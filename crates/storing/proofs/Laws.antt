@@ -1,4 +1,5 @@
 -- What is put piece by piece is the whole content; what a sound reading says of its size; and what is left of `stored` behind each test. Assumes nothing.
+use Rattle.std.specs.Prelude.{Ok, Err}
 use Prim.Native.Nat.{ℕ, zero, suc, ◌+◌, ◌*◌, ◌-◌, ◌≤◌, ◌<◌}
 use mathlib.Core.Path.{◌≡◌, refl, sym, ap, ◌∙◌}
 use mathlib.Core.List.{List, ◌++◌}
@@ -27,7 +28,7 @@ use Rattle.catalogue.specs.Catalogue.{rows_at, head_cells, cells_at, cells_befor
 use Rattle.catalogue.proofs.Laws.{rows_ten, rows_three}
 use Rattle.catalogue.proofs.Heads.{head_length}
 use Rattle.catalogue.proofs.Contents.{row_cells_length, content_length}
-use Rattle.storing.specs.declared.Storing.TheVariants.{StoredBlocks, UnknownKind, StoringUnsound, NoBlocks}
+use Rattle.storing.specs.declared.StoringError.TheVariants.{UnknownKind, StoringUnsound, NoBlocks}
 use Rattle.storing.specs.Storing.{StoreResult, head_with, block_count, stored_room, stored_sound, stored_kind, store_all}
 
 -- ---- places of rows
@@ -161,10 +162,10 @@ kind_unknown kind e k = false≢true (rw (le-ltb kind 1 k.0, le-ltb 4 kind k.1) 
 module _ (src : List ℕ) (kind : ℕ) (c : Counts) (p : PosixCounts) (g : Singles) (T : AllTables) (X : Indexes) (out : List ℕ) where
   -- what is stored, one case for each answer
   pub stored_cases {κ} : (C : StoreResult → Type κ)
-      → (((1 ≤ kind) × (kind ≤ 4) → ⊥) → C (record { answer = UnknownKind; blocks = zeroed out }))
-      → ((1 ≤ kind) × (kind ≤ 4) → sound_reading src c p g T X ≡ false → C (record { answer = StoringUnsound; blocks = zeroed out }))
-      → ((1 ≤ kind) × (kind ≤ 4) → sound_reading src c p g T X ≡ true → length out < block_count src c p * 512 → C (record { answer = NoBlocks; blocks = zeroed out }))
-      → ((1 ≤ kind) × (kind ≤ 4) → sound_reading src c p g T X ≡ true → block_count src c p * 512 ≤ length out → C (record { answer = StoredBlocks (block_count src c p); blocks = blocks_of (content (head_with src kind c p g) T src) out }))
+      → (((1 ≤ kind) × (kind ≤ 4) → ⊥) → C (record { answer = Err UnknownKind; blocks = zeroed out }))
+      → ((1 ≤ kind) × (kind ≤ 4) → sound_reading src c p g T X ≡ false → C (record { answer = Err StoringUnsound; blocks = zeroed out }))
+      → ((1 ≤ kind) × (kind ≤ 4) → sound_reading src c p g T X ≡ true → length out < block_count src c p * 512 → C (record { answer = Err NoBlocks; blocks = zeroed out }))
+      → ((1 ≤ kind) × (kind ≤ 4) → sound_reading src c p g T X ≡ true → block_count src c p * 512 ≤ length out → C (record { answer = Ok (block_count src c p); blocks = blocks_of (content (head_with src kind c p g) T src) out }))
       → C (store_all src kind c p g T X out)
   unfolding store_all
   stored_cases C unknown unsound full right =
@@ -181,30 +182,30 @@ module _ (src : List ℕ) (kind : ℕ) (c : Counts) (p : PosixCounts) (g : Singl
 
   -- the code's answers: z is what is zeroed first
   module _ (z : List ℕ) (hz : z ≡ zeroed out) where
-    pub store_unknown : ((1 ≤ kind) × (kind ≤ 4) → ⊥) → ◌≡◌ {A = StoreResult} (record { answer = UnknownKind; blocks = z }) (store_all src kind c p g T X out)
+    pub store_unknown : ((1 ≤ kind) × (kind ≤ 4) → ⊥) → ◌≡◌ {A = StoreResult} (record { answer = Err UnknownKind; blocks = z }) (store_all src kind c p g T X out)
     store_unknown h =
-        stored_cases (λ (r : StoreResult). record { answer = UnknownKind; blocks = z } ≡ r)
-        (λ _. ap (λ (x : List ℕ). record { answer = UnknownKind; blocks = x }) hz) (λ k _. absurd (h k)) (λ k _ _. absurd (h k)) (λ k _ _. absurd (h k))
+        stored_cases (λ (r : StoreResult). record { answer = Err UnknownKind; blocks = z } ≡ r)
+        (λ _. ap (λ (x : List ℕ). record { answer = Err UnknownKind; blocks = x }) hz) (λ k _. absurd (h k)) (λ k _ _. absurd (h k)) (λ k _ _. absurd (h k))
 
     module _ (known : (1 ≤ kind) × (kind ≤ 4)) (q : Bool) (hq : q ≡ sound_reading src c p g T X) where
-      pub store_unsound : q ≡ false → ◌≡◌ {A = StoreResult} (record { answer = StoringUnsound; blocks = z }) (store_all src kind c p g T X out)
+      pub store_unsound : q ≡ false → ◌≡◌ {A = StoreResult} (record { answer = Err StoringUnsound; blocks = z }) (store_all src kind c p g T X out)
       store_unsound h =
-          stored_cases (λ (r : StoreResult). record { answer = StoringUnsound; blocks = z } ≡ r)
-          (λ k. absurd (k known)) (λ _ _. ap (λ (x : List ℕ). record { answer = StoringUnsound; blocks = x }) hz) (λ _ s _. absurd (false≢true (sym h ∙ hq ∙ s))) (λ _ s _. absurd (false≢true (sym h ∙ hq ∙ s)))
+          stored_cases (λ (r : StoreResult). record { answer = Err StoringUnsound; blocks = z } ≡ r)
+          (λ k. absurd (k known)) (λ _ _. ap (λ (x : List ℕ). record { answer = Err StoringUnsound; blocks = x }) hz) (λ _ s _. absurd (false≢true (sym h ∙ hq ∙ s))) (λ _ s _. absurd (false≢true (sym h ∙ hq ∙ s)))
 
       module _ (sound : q ≡ true) (n : ℕ) (hn : n ≡ block_count src c p) where
-        pub store_full : length out < n * 512 → ◌≡◌ {A = StoreResult} (record { answer = NoBlocks; blocks = z }) (store_all src kind c p g T X out)
+        pub store_full : length out < n * 512 → ◌≡◌ {A = StoreResult} (record { answer = Err NoBlocks; blocks = z }) (store_all src kind c p g T X out)
         store_full h =
-            stored_cases (λ (r : StoreResult). record { answer = NoBlocks; blocks = z } ≡ r)
-            (λ k. absurd (k known)) (λ _ s. absurd (false≢true (sym s ∙ sym hq ∙ sound))) (λ _ _ _. ap (λ (x : List ℕ). record { answer = NoBlocks; blocks = x }) hz) (λ _ _ l. absurd (omega (arith, hn, h, l)))
+            stored_cases (λ (r : StoreResult). record { answer = Err NoBlocks; blocks = z } ≡ r)
+            (λ k. absurd (k known)) (λ _ s. absurd (false≢true (sym s ∙ sym hq ∙ sound))) (λ _ _ _. ap (λ (x : List ℕ). record { answer = Err NoBlocks; blocks = x }) hz) (λ _ _ l. absurd (omega (arith, hn, h, l)))
 
-        pub store_right : n * 512 ≤ length out → (o : List ℕ) → o ≡ seal_all n (put_content z 0 (content (head_with src kind c p g) T src)) → ◌≡◌ {A = StoreResult} (record { answer = StoredBlocks n; blocks = o }) (store_all src kind c p g T X out)
+        pub store_right : n * 512 ≤ length out → (o : List ℕ) → o ≡ seal_all n (put_content z 0 (content (head_with src kind c p g) T src)) → ◌≡◌ {A = StoreResult} (record { answer = Ok n; blocks = o }) (store_all src kind c p g T X out)
         unfolding blocks_of
         store_right h o e =
-            stored_cases (λ (r : StoreResult). record { answer = StoredBlocks n; blocks = o } ≡ r)
+            stored_cases (λ (r : StoreResult). record { answer = Ok n; blocks = o } ≡ r)
             (λ k. absurd (k known)) (λ _ s. absurd (false≢true (sym s ∙ sym hq ∙ sound))) (λ _ _ l. absurd (omega (arith, hn, h, l))) (λ _ s _. same s)
           where
-            same : sound_reading src c p g T X ≡ true → ◌≡◌ {A = StoreResult} (record { answer = StoredBlocks n; blocks = o }) (record { answer = StoredBlocks (block_count src c p); blocks = blocks_of (content (head_with src kind c p g) T src) out })
+            same : sound_reading src c p g T X ≡ true → ◌≡◌ {A = StoreResult} (record { answer = Ok n; blocks = o }) (record { answer = Ok (block_count src c p); blocks = blocks_of (content (head_with src kind c p g) T src) out })
             same s =
                 let b = content (head_with src kind c p g) T src in
                 let l = content_length (head_with src kind c p g) T src (reading_fits src c p g T X s) in

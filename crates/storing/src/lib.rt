@@ -11,8 +11,7 @@ use catalogue::Head;
 use grammar::{Counts, PosixCounts, Singles};
 
 #[derive(Clone, Copy)]
-pub enum Storing {
-    StoredBlocks(u32),
+pub enum StoringError {
     UnknownKind,
     StoringUnsound,
     NoBlocks,
@@ -51,7 +50,7 @@ fn put_tables(
     t17: &[u32],
 )
     requires { ((k : _) → k < 13 → cells_at c p k ≤ length (cells_of (record { t1 = t1.now; t2 = t2.now; t3 = t3.now; t4 = t4.now; t5 = t5.now; t6 = t6.now; t7 = t7.now; t8 = t8.now; t9 = t9.now; t10 = t10.now; t15 = t15.now; t16 = t16.now; t17 = t17.now }) k)) × (rows_from c p 13 ≤ capacity out.old) }
-    ensures { out.new ≡ put_content out.old (rows_from c p 0) (bytes_of_all (row_cells c p (record { t1 = t1.entry.now; t2 = t2.now; t3 = t3.now; t4 = t4.now; t5 = t5.now; t6 = t6.now; t7 = t7.now; t8 = t8.now; t9 = t9.now; t10 = t10.now; t15 = t15.now; t16 = t16.now; t17 = t17.now }) 0 13)) }
+    ensures { out.new ≡ put_content out.old (rows_from c p 0) (bytes_of_all (row_cells c p (record { t1 = t1.now; t2 = t2.now; t3 = t3.now; t4 = t4.now; t5 = t5.now; t6 = t6.now; t7 = t7.now; t8 = t8.now; t9 = t9.now; t10 = t10.now; t15 = t15.now; t16 = t16.now; t17 = t17.now }) 0 13)) }
 {
     put_rows(out, c, p, tables::TOKENS, t1);
     put_rows(out, c, p, tables::PRECEDENCES, t2);
@@ -89,7 +88,7 @@ fn write(
     n: u32,
 )
     requires { (length src.now ≡ h.length) × ((k : _) → k < 13 → cells_at h.counts h.posix k ≤ length (cells_of (record { t1 = t1.now; t2 = t2.now; t3 = t3.now; t4 = t4.now; t5 = t5.now; t6 = t6.now; t7 = t7.now; t8 = t8.now; t9 = t9.now; t10 = t10.now; t15 = t15.now; t16 = t16.now; t17 = t17.now }) k)) × (n ≡ blocks_for (content_size h.counts h.posix h.length)) × (n * 512 ≤ length out.old) }
-    ensures { out.new ≡ seal_all n (put_content out.old 0 (content h (record { t1 = t1.entry.now; t2 = t2.now; t3 = t3.now; t4 = t4.now; t5 = t5.now; t6 = t6.now; t7 = t7.now; t8 = t8.now; t9 = t9.now; t10 = t10.now; t15 = t15.now; t16 = t16.now; t17 = t17.now }) src.now)) }
+    ensures { out.new ≡ seal_all n (put_content out.old 0 (content h (record { t1 = t1.now; t2 = t2.now; t3 = t3.now; t4 = t4.now; t5 = t5.now; t6 = t6.now; t7 = t7.now; t8 = t8.now; t9 = t9.now; t10 = t10.now; t15 = t15.now; t16 = t16.now; t17 = t17.now }) src.now)) }
 {
     let c = h.counts;
     let p = h.posix;
@@ -125,22 +124,22 @@ pub fn store(
     t16: &[u32],
     t17: &[u32],
     out: &mut [u8],
-) -> Storing
-    ensures { ◌≡◌ {A = StoreResult} (record { answer = result; blocks = out.new }) (store_all src.now kind c p g (record { t1 = t1.entry.now; t2 = t2.now; t3 = t3.now; t4 = t4.now; t5 = t5.now; t6 = t6.now; t7 = t7.now; t8 = t8.now; t9 = t9.now; t10 = t10.now; t15 = t15.now; t16 = t16.now; t17 = t17.now }) (record { tokens = i1.now; rules = i7.now }) out.old) }
+) -> Result<u32, StoringError>
+    ensures { ◌≡◌ {A = StoreResult} (record { answer = result; blocks = out.new }) (store_all src.now kind c p g (record { t1 = t1.now; t2 = t2.now; t3 = t3.now; t4 = t4.now; t5 = t5.now; t6 = t6.now; t7 = t7.now; t8 = t8.now; t9 = t9.now; t10 = t10.now; t15 = t15.now; t16 = t16.now; t17 = t17.now }) (record { tokens = i1.now; rules = i7.now }) out.old) }
 {
     values::zero(out);
     if (kind < 1) | (4 < kind) {
-        return Storing::UnknownKind;
+        return Err(StoringError::UnknownKind);
     }
     if !catalogue::is_sound(
         src, c, p, g, t1, t2, t3, t4, t5, t6, t7, t8, t9, t10, i1, i7, t15, t16, t17,
     ) {
-        return Storing::StoringUnsound;
+        return Err(StoringError::StoringUnsound);
     }
     let size = catalogue::content_size(c, p, src.len());
     let n = (size + 503) / 504;
     if out.len() / 512 < n {
-        return Storing::NoBlocks;
+        return Err(StoringError::NoBlocks);
     }
     let length = src.len() as u32;
     let h = Head {
@@ -153,5 +152,5 @@ pub fn store(
     write(
         src, h, t1, t2, t3, t4, t5, t6, t7, t8, t9, t10, t15, t16, t17, out, n as u32,
     );
-    Storing::StoredBlocks(n as u32)
+    Ok(n as u32)
 }

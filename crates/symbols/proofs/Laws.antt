@@ -1,4 +1,5 @@
 -- Symbols' rows filled in one by one, and a row told by its name's bytes. Assumes nothing.
+use Rattle.std.specs.Prelude.{Option, Some, None}
 use Prim.Native.Nat.{ℕ, zero, suc, ◌+◌, ◌*◌, ◌≤◌, ◌<◌}
 use mathlib.Core.Path.{◌≡◌, refl, sym, ap, ◌∙◌}
 use mathlib.Core.List.{List}
@@ -12,8 +13,6 @@ use lib.Seq.{get_or-set_same, get_or-set_other, drop-set-lt}
 use lib.Dec.{eqb}
 use Rattle.tables.specs.Layout.{tokens, rules, symbols, known_row, no_row, width}
 use Rattle.tables.specs.Table.{cell, set_cell, has_name, find_name}
-use Rattle.tables.specs.declared.Found.{Found}
-use Rattle.tables.specs.declared.Found.TheVariants.{RowAt, NoRow}
 use Rattle.tables.specs.Rows.{row_at}
 use Rattle.tables.proofs.Rows.{row_cell}
 use Rattle.tables.proofs.Cases.{find_cases, same_part_trans, same_part_sym}
@@ -79,25 +78,25 @@ module _ (g : Lexicon) (t : List ℕ) where
 module _ (src : List ℕ) (w n : ℕ) (t : List ℕ) (one : Single src w n t) (small : n ≤ no_row) (v a b : ℕ) where
   pub known_inside : (q : Bool) → v < n → has_name src w 0 t a b v ≡ q → q ≡ eqb v (row_number (find_name src w 0 n t a b))
   known_inside true l e =
-      find_cases (λ (o : Found). true ≡ eqb v (row_number o)) src w 0 n t a b (λ r h u before. sym (eq-eqb v r (one a b v r l h e u)))
+      find_cases (λ (o : Option ℕ). true ≡ eqb v (row_number o)) src w 0 n t a b (λ r h u before. sym (eq-eqb v r (one a b v r l h e u)))
       (λ none. absurd (false≢true (sym (none v l) ∙ e)))
   known_inside false l e =
-      find_cases (λ (o : Found). false ≡ eqb v (row_number o)) src w 0 n t a b
+      find_cases (λ (o : Option ℕ). false ≡ eqb v (row_number o)) src w 0 n t a b
       (λ r h u before. sym (ne_eqb v r (λ x. false≢true (sym e ∙ rw x u))))
       (λ none. sym (ne_eqb v no_row (λ x. omega arith)))
 
   pub known_past : n ≤ v → (v ≡ no_row → ⊥) → false ≡ eqb v (row_number (find_name src w 0 n t a b))
   known_past l d =
-      find_cases (λ (o : Found). false ≡ eqb v (row_number o)) src w 0 n t a b (λ r h u before. sym (ne_eqb v r (λ x. omega arith)))
+      find_cases (λ (o : Option ℕ). false ≡ eqb v (row_number o)) src w 0 n t a b (λ r h u before. sym (ne_eqb v r (λ x. omega arith)))
       (λ none. sym (ne_eqb v no_row d))
 
-  module _ (l : n ≤ v) (f : Found) (e : f ≡ find_name src w 0 n t a b) where
-    pub known_none : v ≡ no_row → f ≡ NoRow → true ≡ eqb v (row_number (find_name src w 0 n t a b))
+  module _ (l : n ≤ v) (f : Option ℕ) (e : f ≡ find_name src w 0 n t a b) where
+    pub known_none : v ≡ no_row → f ≡ None → true ≡ eqb v (row_number (find_name src w 0 n t a b))
     known_none h g = rw (← e, g) (sym (eq-eqb v no_row h))
 
-    pub known_some : (r : ℕ) → f ≡ RowAt r → false ≡ eqb v (row_number (find_name src w 0 n t a b))
+    pub known_some : (r : ℕ) → f ≡ Some r → false ≡ eqb v (row_number (find_name src w 0 n t a b))
     known_some r g =
-        find_cases (λ (o : Found). f ≡ o → false ≡ eqb v (row_number o)) src w 0 n t a b (λ q h u before x. sym (ne_eqb v q (λ y. omega arith)))
+        find_cases (λ (o : Option ℕ). f ≡ o → false ≡ eqb v (row_number o)) src w 0 n t a b (λ q h u before x. sym (ne_eqb v q (λ y. omega arith)))
         (λ none x. let z : ◌≡◌ {A = ℕ} 0 1 = cc in absurd (omega arith)) e
 
 -- which table a name's row is in
@@ -133,4 +132,4 @@ fresh_single src w n t f a b q r h l x y =
     later : (i j : ℕ) → i < n → j < i → has_name src w 0 t a b j ≡ true → has_name src w 0 t a b i ≡ true → ⊥
     later i j l m u v =
         let s : has_name src w 0 t (cell w t i 0) (cell w t i 1) j ≡ true = same_part_trans src _ _ a b _ _ u (same_part_sym src a b (cell w t i 0) (cell w t i 1) ∙ v) in
-        find_cases (λ (o : Found). unfound o ≡ true → ⊥) src w 0 i t (cell w t i 0) (cell w t i 1) (λ p z k before e. false≢true e) (λ none e. false≢true (sym (none j m) ∙ s)) (f i l)
+        find_cases (λ (o : Option ℕ). unfound o ≡ true → ⊥) src w 0 i t (cell w t i 0) (cell w t i 1) (λ p z k before e. false≢true e) (λ none e. false≢true (sym (none j m) ∙ s)) (f i l)

@@ -1,14 +1,12 @@
 -- Document 02, request Five: "Every symbol row gets the row number of its rule or token, or 4294967295 where no such row exists."
-use Rattle.std.specs.Prelude.{ℕ, zero, suc, ◌+◌, ◌<◌, ◌≡◌, List, Bool, true, false, eqb}
+use Rattle.std.specs.Prelude.{ℕ, zero, suc, ◌+◌, ◌<◌, ◌≡◌, List, Bool, true, false, eqb, Option, Some, None}
 use Rattle.tables.specs.Layout.{tokens, rules, symbols, kind_name, known_row, no_row, width}
 use Rattle.tables.specs.Table.{cell, set_cell, has_name, find_name}
-use Rattle.tables.specs.declared.Found.{Found}
-use Rattle.tables.specs.declared.Found.TheVariants.{RowAt, NoRow}
 
 -- "or 4294967295 where no such row exists"
-abbrev pub row_number : Found → ℕ
-row_number (RowAt r) = r
-row_number NoRow = no_row
+abbrev pub row_number : Option ℕ → ℕ
+row_number (Some r) = r
+row_number None = no_row
 
 -- tables 1 and 7, with their counts
 pub record Lexicon : Type 0 where

@@ -8,14 +8,12 @@ ghost use Rattle.index.specs.Index.{Indexed};
 ghost use Rattle.finder.specs.Finder.{Held};
 ghost use Rattle.symbols.specs.Symbols.{row_number, lexicon, named_row, row_for, filled_rows, knows_test, Single};
 
-use tables::Found;
-
-fn row_or(f: Found) -> u32
+fn row_or(f: Option<u32>) -> u32
     ensures { result ≡ row_number f }
 {
     match f {
-        Found::RowAt(r) => r,
-        Found::NoRow => tables::NO_ROW,
+        Some(r) => r,
+        None => tables::NO_ROW,
     }
 }
 
@@ -79,11 +77,9 @@ pub fn fill_rows(
     requires { Held src.now (width tokens) 0 n t1.now i1.now × Held src.now (width rules) 0 m t7.now i7.now }
     ensures { t9.new ≡ filled_rows (lexicon src.now t1.now n t7.now m) t9.old count }
 {
-    let mut s = 0;
-    while s < count {
+    for s in 0..count {
         let r = symbol_row(src, t1, n, i1, t7, m, i7, t9, s);
         tables::set_cell(t9, tables::SYMBOL_WIDTH, s, tables::KNOWN_ROW, r);
-        s += 1;
     }
 }
 
@@ -101,8 +97,8 @@ pub fn row_known(src: &[u8], t: &[u32], w: u32, n: u32, ix: &[u32], v: u32, a: u
         return false;
     }
     match index::find(src, t, w, tables::NAME, n, ix, a, b) {
-        Found::RowAt(_) => false,
-        Found::NoRow => true,
+        Some(_) => false,
+        None => true,
     }
 }
 

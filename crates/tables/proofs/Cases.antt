@@ -1,5 +1,6 @@
 -- What an operation may come to: for each that decides, one principle with its outcomes, and what each test and search means without the
 -- scan. Assumes nothing.
+use Rattle.std.specs.Prelude.{Option, Some, None}
 use Prim.Native.Nat.{ℕ, zero, suc, ◌+◌, ◌*◌, ◌/◌, ◌≤◌, ◌<◌}
 use mathlib.Core.Path.{◌≡◌, refl, sym, ap, ◌∙◌}
 use mathlib.Core.List.{List, [], ◌∷◌}
@@ -14,9 +15,6 @@ use Rattle.scan.specs.Table.{same}
 use Rattle.scan.proofs.Bytes.{le_or_lt, within_yes, within_true}
 use Rattle.scan.proofs.Table.{same_iff}
 use Rattle.tables.specs.Table.{put, room, Added, added, add_row, lies, same_part, has_name, first_row, find_name, First, Inserted, flag, marked, entered, enter_at, enter_token}
-use Rattle.tables.specs.declared.Found.{Found}
-use Rattle.tables.specs.declared.Found.TheVariants.{RowAt, NoRow}
-use Rattle.tables.specs.declared.Entered.TheVariants.{Rows, Full}
 use Rattle.tables.proofs.Laws.{room_some, room_full, room_last, room_counts, room_fits}
 
 -- Room is a whole free row that can be counted in 32 bits, exactly,
@@ -84,33 +82,33 @@ same_part_sym src a b c d = both (same_part src a b c d) (same_part src c d a b)
 abbrev NoneOf : (ℕ → Bool) → ℕ → ℕ → Type 0
 NoneOf p a b = (q : ℕ) → a ≤ q → q < b → p q ≡ false
 
-pub first_cases {κ} : (p : ℕ → Bool) (C : Found → Type κ) (a n i : ℕ) → a ≤ i → NoneOf p a i
-    → ((r : ℕ) → a ≤ r → r < i + n → p r ≡ true → NoneOf p a r → C (RowAt r))
-    → (NoneOf p a (i + n) → C NoRow)
+pub first_cases {κ} : (p : ℕ → Bool) (C : Option ℕ → Type κ) (a n i : ℕ) → a ≤ i → NoneOf p a i
+    → ((r : ℕ) → a ≤ r → r < i + n → p r ≡ true → NoneOf p a r → C (Some r))
+    → (NoneOf p a (i + n) → C None)
     → C (first_row p n i)
 unfolding first_row
 first_cases p C a zero i l before f g = g (λ r h k. before r h (omega arith))
 first_cases p C a (suc n) i l before f g = go (p i) refl (first_cases p C a n (i + 1) (omega arith))
   where
-    go : (b : Bool) → p i ≡ b → (NoneOf p a (i + 1) → ((r : ℕ) → a ≤ r → r < i + 1 + n → p r ≡ true → NoneOf p a r → C (RowAt r)) → (NoneOf p a (i + 1 + n) → C NoRow) → C (first_row p n (i + 1))) → C (elim b [ true ↦ RowAt i | false ↦ first_row p n (i + 1) ])
+    go : (b : Bool) → p i ≡ b → (NoneOf p a (i + 1) → ((r : ℕ) → a ≤ r → r < i + 1 + n → p r ≡ true → NoneOf p a r → C (Some r)) → (NoneOf p a (i + 1 + n) → C None) → C (first_row p n (i + 1))) → C (elim b [ true ↦ Some i | false ↦ first_row p n (i + 1) ])
     go true e rest = f i l (omega arith) e before
     go false e rest =
         rest (λ q h j. elim (ℕ_discrete q i) [ yes k ↦ rw k e | no k ↦ before q h (omega arith) ]) (λ r h j. f r h (omega arith)) (λ k. g (λ r h j. k r h (omega arith)))
 
 -- a name is found in its first row, or no row has it
-pub find_cases {κ} : (C : Found → Type κ) (src : List ℕ) (w k n : ℕ) (t : List ℕ) (a b : ℕ)
-    → ((r : ℕ) → r < n → has_name src w k t a b r ≡ true → ((q : ℕ) → q < r → has_name src w k t a b q ≡ false) → C (RowAt r))
-    → (((r : ℕ) → r < n → has_name src w k t a b r ≡ false) → C NoRow)
+pub find_cases {κ} : (C : Option ℕ → Type κ) (src : List ℕ) (w k n : ℕ) (t : List ℕ) (a b : ℕ)
+    → ((r : ℕ) → r < n → has_name src w k t a b r ≡ true → ((q : ℕ) → q < r → has_name src w k t a b q ≡ false) → C (Some r))
+    → (((r : ℕ) → r < n → has_name src w k t a b r ≡ false) → C None)
     → C (find_name src w k n t a b)
 unfolding find_name
 find_cases C src w k n t a b f g =
     first_cases (has_name src w k t a b) C 0 n 0 (omega arith) (λ q l h. absurd (omega arith)) (λ r l h e x. f r (omega arith) e (λ q. x q (omega arith))) (λ x. g (λ r h. x r (omega arith) (omega arith)))
 
 module _ (src : List ℕ) (w k n : ℕ) (t : List ℕ) (a b : ℕ) where
-  pub find_iff : (r : ℕ) → (find_name src w k n t a b ≡ RowAt r) ↔ First src w k n t a b r
+  pub find_iff : (r : ℕ) → (find_name src w k n t a b ≡ Some r) ↔ First src w k n t a b r
   find_iff r =
-      find_cases (λ (f : Found). (f ≡ RowAt r) ↔ First src w k n t a b r) src w k n t a b
-      (λ q h e none. (λ x. let y : q ≡ r = cc in rw (← y) (record { inside = h; named = e; earlier = none }), λ x. ap RowAt (only q r e none x)))
+      find_cases (λ (f : Option ℕ). (f ≡ Some r) ↔ First src w k n t a b r) src w k n t a b
+      (λ q h e none. (λ x. let y : q ≡ r = cc in rw (← y) (record { inside = h; named = e; earlier = none }), λ x. ap Some (only q r e none x)))
       (λ none. (λ x. let z : ◌≡◌ {A = ℕ} 0 1 = cc in absurd (omega arith), λ x. absurd (false≢true (sym (none r x.inside) ∙ x.named))))
     where
       only : (q r : ℕ) → has_name src w k t a b q ≡ true → ((i : ℕ) → i < q → has_name src w k t a b i ≡ false) → First src w k n t a b r → q ≡ r
@@ -120,19 +118,19 @@ module _ (src : List ℕ) (w k n : ℕ) (t : List ℕ) (a b : ℕ) where
           (λ h. absurd (false≢true (sym (none r h) ∙ x.named)))
           (le_or_lt q r)
 
-  pub none_iff : (find_name src w k n t a b ≡ NoRow) ↔ ((r : ℕ) → r < n → has_name src w k t a b r ≡ false)
+  pub none_iff : (find_name src w k n t a b ≡ None) ↔ ((r : ℕ) → r < n → has_name src w k t a b r ≡ false)
   none_iff =
-      find_cases (λ (f : Found). (f ≡ NoRow) ↔ ((r : ℕ) → r < n → has_name src w k t a b r ≡ false)) src w k n t a b
+      find_cases (λ (f : Option ℕ). (f ≡ None) ↔ ((r : ℕ) → r < n → has_name src w k t a b r ≡ false)) src w k n t a b
       (λ q h e none. (λ x. let z : ◌≡◌ {A = ℕ} 0 1 = cc in absurd (omega arith), λ x. absurd (false≢true (sym (x q h) ∙ e))))
       (λ none. (λ x. none, λ x. refl))
 
 -- a token is found, and marked if it is declared now; or has a new row; or finds no room
 pub enter_cases {κ} : (C : Inserted → Type κ) (src : List ℕ) (n a b : ℕ) (d : Bool) (t : List ℕ)
-    → ((r : ℕ) → r < n → has_name src 3 0 t a b r ≡ true → C (record { entered = Rows n; cells = marked d r t }))
-    → (((r : ℕ) → r < n → has_name src 3 0 t a b r ≡ false) → n * 3 + 3 ≤ length t → n < 4294967295 → C (record { entered = Rows (n + 1); cells = put t (n * 3) (a ∷ b ∷ flag d ∷ []) }))
-    → (((r : ℕ) → r < n → has_name src 3 0 t a b r ≡ false) → room 3 n t ≡ false → C (record { entered = Full; cells = t }))
+    → ((r : ℕ) → r < n → has_name src 3 0 t a b r ≡ true → C (record { entered = Some n; cells = marked d r t }))
+    → (((r : ℕ) → r < n → has_name src 3 0 t a b r ≡ false) → n * 3 + 3 ≤ length t → n < 4294967295 → C (record { entered = Some (n + 1); cells = put t (n * 3) (a ∷ b ∷ flag d ∷ []) }))
+    → (((r : ℕ) → r < n → has_name src 3 0 t a b r ≡ false) → room 3 n t ≡ false → C (record { entered = None; cells = t }))
     → C (enter_token src n a b d t)
 unfolding enter_token
 enter_cases C src n a b d t f g h =
-    find_cases (λ (x : Found). C (enter_at x n a b d t)) src 3 0 n t a b (λ r l e none. f r l e)
+    find_cases (λ (x : Option ℕ). C (enter_at x n a b d t)) src 3 0 n t a b (λ r l e none. f r l e)
     (λ none. add_cases (λ (o : Added). C (entered o.ok n o.cells)) n (a ∷ b ∷ flag d ∷ []) t (g none) (h none))

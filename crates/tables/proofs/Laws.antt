@@ -1,24 +1,25 @@
 -- What the functions' proofs cite: where a cell lies, a row written cell by cell, two places read byte by byte, rows searched one by one.
 -- Assumes nothing.
+use Rattle.std.specs.Prelude.{Option, Some, None}
 use Prim.Native.Nat.{ℕ, zero, suc, ◌+◌, ◌*◌, ◌/◌, ◌-◌, ◌≤◌, ◌<◌}
 use mathlib.Core.Path.{◌≡◌, refl, sym, ap, ◌∙◌}
 use mathlib.Core.List.{List, [], ◌∷◌, ◌++◌, append-nil}
-use mathlib.Core.Bool.{Bool, true, false, not, false≢true}
+use mathlib.Core.Bool.{Bool, cond, ◌&&◌, true, false, not, false≢true}
 use mathlib.Core.Logic.{⊎_elim}
 use native.Mathlib.Omega.{arith}
 use native.Mathlib.Numerals.{add-one}
-use native.Mathlib.Nat.{suc-mul, mul-le-mul, le-div_iff_mul-le, div-zero, min-le_left, min-le_right, le-min, add-zero, sub-zero}
-use borrow.Author.Tests.{eq-eqb, ne_eqb, lt-ltb, le-ltb, ltb-true, not-true, not-false}
+use native.Mathlib.Nat.{suc-mul, mul-le-mul, le-div_iff_mul-le, div-zero, min-le_left, min-le_right, le-min, add-zero}
+use borrow.Author.Tests.{lt-ltb, le-ltb, ltb-true, not-true, not-false}
 use lib.ListN.{length, get_or, set, take, drop, replicate, length-set, drop_of_length-le, get_or-eq_default}
-use lib.Seq.{slice, slice-cons, slice_empty, length-slice, set_out}
+use lib.Dec.{eqb}
+use lib.Pointwise.{pointwise}
+use Rattle.std.proofs.lemmas.List.{drop-take}
+use Rattle.std.specs.List.{find, range_with_len}
+use lib.Seq.{slice, set_out}
 use Rattle.scan.specs.Table.{same}
 use Rattle.scan.proofs.Bytes.{le_or_lt, within_true}
-use Rattle.scan.proofs.Table.{same_iff}
 use Rattle.tables.specs.Layout.{unused, productions, symbols, repeats, bodies, row_place, posix_from, table_number}
 use Rattle.tables.specs.Table.{cell, set_cell, put, room, Added, added, add_row, lies, same_part, has_name, first_row, find_name, flag, enter_token}
-use Rattle.tables.specs.declared.Found.{Found}
-use Rattle.tables.specs.declared.Found.TheVariants.{RowAt, NoRow}
-use Rattle.tables.specs.declared.Entered.TheVariants.{Rows, Full}
 
 -- the product of two 32-bit numbers, so small that with a third one added it fits 64 bits
 pub product_fits : (r w : ℕ) → r < 4294967296 → w < 4294967296 → r * w ≤ 18446744065119617025
@@ -123,28 +124,26 @@ module _ (src : List ℕ) (a b c d : ℕ) (p : Bool) (e : p ≡ lies src a b) wh
         let v = within_true c (length src) d y in
         (u.0, v.0, u.1, v.1, rw (x, y, same_part))
 
--- places of different lengths do not hold the same bytes
-pub part_longer : (src : List ℕ) (a b c d : ℕ) (r : Bool) → b ≤ length src → d ≤ length src → same (slice a b src) (slice c d src) ≡ r → (b - a ≡ d - c → ⊥) → false ≡ r
-part_longer src a b c d true bl dl e ne = absurd (ne (sym (length-slice a b src bl) ∙ ap length ((same_iff (slice a b src) (slice c d src)).0 e) ∙ length-slice c d src dl))
-part_longer src a b c d false bl dl e ne = refl
+-- bytes compared one by one
+pub same_pointwise : (xs ys : List ℕ) → pointwise eqb xs ys ≡ same xs ys
+unfolding same
+same_pointwise [] [] = refl
+same_pointwise [] (y ∷ ys) = refl
+same_pointwise (x ∷ xs) [] = refl
+same_pointwise (x ∷ xs) (y ∷ ys) = elim (eqb x y) as (λ v. (v && pointwise eqb xs ys) ≡ elim v [ true ↦ same xs ys | false ↦ false ]) [ true ↦ same_pointwise xs ys | false ↦ refl ]
 
--- what is left of both places, byte by byte
-module _ (src : List ℕ) (b d : ℕ) (bl : b ≤ length src) (dl : d ≤ length src) (i j : ℕ) (r : Bool) (inv : same (slice i b src) (slice j d src) ≡ r) where
-  pub same_on : i < b → j < d → get_or src i 0 ≡ get_or src j 0 → same (slice (i + 1) b src) (slice (j + 1) d src) ≡ r
-  unfolding same
-  same_on h k e = rw (add-one i, add-one j) (rw (slice-cons i b src 0 h bl, slice-cons j d src 0 k dl, eq-eqb _ _ e, same) at inv)
+-- a place as a part of the source
+pub part_slice : (s : List ℕ) (a b : ℕ) → a ≤ b → take (b - a) (drop a s) ≡ slice a b s
+part_slice s a b h =
+    let e : a + (b - a) ≡ b = omega arith in
+    sym (drop-take a (b - a) s) ∙ ap (λ n. drop a (take n s)) e
 
-  pub same_differ : i < b → j < d → (get_or src i 0 ≡ get_or src j 0 → ⊥) → false ≡ r
-  unfolding same
-  same_differ h k f = rw (slice-cons i b src 0 h bl, slice-cons j d src 0 k dl, ne_eqb _ _ f, same) at inv
-
-  pub same_end : i ≡ b → j ≡ d → true ≡ r
-  unfolding same
-  same_end e f = rw (e, f, slice_empty b src, slice_empty d src) at inv
+pub part_same : (src : List ℕ) (a b c d : ℕ) → a ≤ b → c ≤ d → pointwise eqb (take (b - a) (drop a src)) (take (d - c) (drop c src)) ≡ same (slice a b src) (slice c d src)
+part_same src a b c d h k = rw (part_slice src a b h, part_slice src c d k) (same_pointwise _ _)
 
 -- the rows from row r on
-module _ (p : ℕ → Bool) (n r : ℕ) (o : Found) (inv : first_row p (n - r) r ≡ o) where
-  pub first_hit : r < n → p r ≡ true → RowAt r ≡ o
+module _ (p : ℕ → Bool) (n r : ℕ) (o : Option ℕ) (inv : first_row p (n - r) r ≡ o) where
+  pub first_hit : r < n → p r ≡ true → Some r ≡ o
   unfolding first_row
   first_hit h e =
       let s : n - r ≡ suc (n - (r + 1)) = omega arith in
@@ -156,15 +155,17 @@ module _ (p : ℕ → Bool) (n r : ℕ) (o : Found) (inv : first_row p (n - r) r
       let s : n - r ≡ suc (n - (r + 1)) = omega arith in
       rw (s, e, first_row) at inv
 
-  pub first_end : n ≤ r → NoRow ≡ o
+  pub first_end : n ≤ r → None ≡ o
   unfolding first_row
   first_end h =
       let s : n - r ≡ 0 = omega arith in
       rw s at inv
 
-pub find_start : (src : List ℕ) (w k n : ℕ) (t : List ℕ) (a b : ℕ) → first_row (has_name src w k t a b) (n - 0) 0 ≡ find_name src w k n t a b
-unfolding find_name
-find_start src w k n t a b = rw (sub-zero n)
+-- the first row that a search over all numbers finds
+pub find_first : (p : ℕ → Bool) (n r : ℕ) → find p (range_with_len r n) ≡ first_row p n r
+unfolding first_row
+find_first p zero r = refl
+find_first p (suc n) r = elim (p r) as (λ v. cond v (Some r) (find p (range_with_len (r + 1) n)) ≡ elim v [ true ↦ Some r | false ↦ first_row p n (r + 1) ]) [ true ↦ refl | false ↦ find_first p n (r + 1) ]
 
 -- a row's name is the place in its two cells
 pub has_name_lem : (src : List ℕ) (w k : ℕ) (t : List ℕ) (a b r x y : ℕ) (q : Bool) → x ≡ cell w t r k → y ≡ cell w t r (k + 1) → q ≡ same_part src x y a b → (v : Bool) → q ≡ v → has_name src w k t a b r ≡ v
@@ -172,21 +173,21 @@ unfolding has_name
 has_name_lem src w k t a b r x y q e f g v h = rw (← e, ← f) (sym g ∙ h)
 
 -- a token's row: found, new, or without room
-module _ (src : List ℕ) (n a b : ℕ) (d : Bool) (t : List ℕ) (f : Found) (e : f ≡ find_name src 3 0 n t a b) where
-  pub enter_marked : (r : ℕ) → f ≡ RowAt r → d ≡ true → (cells : List ℕ) → cells ≡ set_cell 3 t r 2 1 → record { entered = Rows n; cells = cells } ≡ enter_token src n a b d t
+module _ (src : List ℕ) (n a b : ℕ) (d : Bool) (t : List ℕ) (f : Option ℕ) (e : f ≡ find_name src 3 0 n t a b) where
+  pub enter_marked : (r : ℕ) → f ≡ Some r → d ≡ true → (cells : List ℕ) → cells ≡ set_cell 3 t r 2 1 → record { entered = Some n; cells = cells } ≡ enter_token src n a b d t
   unfolding enter_token
   enter_marked r g h cells k = rw (sym e ∙ g, h, k)
 
-  pub enter_there : (r : ℕ) → f ≡ RowAt r → d ≡ false → record { entered = Rows n; cells = t } ≡ enter_token src n a b d t
+  pub enter_there : (r : ℕ) → f ≡ Some r → d ≡ false → record { entered = Some n; cells = t } ≡ enter_token src n a b d t
   unfolding enter_token
   enter_there r g h = rw (sym e ∙ g, h)
 
-  module _ (g : f ≡ NoRow) (mark : ℕ) (m : mark ≡ flag d) (q : Bool) (cells : List ℕ) (o : record { ok = q; cells = cells } ≡ add_row n (a ∷ b ∷ mark ∷ []) t) where
-    pub enter_new : q ≡ true → record { entered = Rows (n + 1); cells = cells } ≡ enter_token src n a b d t
+  module _ (g : f ≡ None) (mark : ℕ) (m : mark ≡ flag d) (q : Bool) (cells : List ℕ) (o : record { ok = q; cells = cells } ≡ add_row n (a ∷ b ∷ mark ∷ []) t) where
+    pub enter_new : q ≡ true → record { entered = Some (n + 1); cells = cells } ≡ enter_token src n a b d t
     unfolding enter_token
     enter_new h = rw (sym e ∙ g, ← m, ← o, h)
 
-    pub enter_full : q ≡ false → record { entered = Full; cells = cells } ≡ enter_token src n a b d t
+    pub enter_full : q ≡ false → record { entered = None; cells = cells } ≡ enter_token src n a b d t
     unfolding enter_token
     enter_full h = rw (sym e ∙ g, ← m, ← o, h)
 

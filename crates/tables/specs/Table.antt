@@ -1,12 +1,8 @@
 -- Document 01: "Lent tables of 32-bit numbers", as lists of all their cells. Row r of width w is the w cells from r * w on.
-use Rattle.std.specs.Prelude.{ℕ, zero, suc, ◌+◌, ◌*◌, ◌/◌, ◌<◌, min, ◌≡◌, List, [], ◌∷◌, Bool, true, false, ◌&&◌, length, get_or, set, replicate, ltb, leb}
+use Rattle.std.specs.Prelude.{ℕ, zero, suc, ◌+◌, ◌*◌, ◌/◌, ◌<◌, min, ◌≡◌, List, [], ◌∷◌, Bool, true, false, ◌&&◌, length, get_or, set, replicate, ltb, leb, Option, Some, None}
 use Rattle.std.proofs.Math.Seq.{slice}
 use Rattle.scan.specs.Table.{same}
 use Rattle.tables.specs.Layout.{tokens, declared, width}
-use Rattle.tables.specs.declared.Found.{Found}
-use Rattle.tables.specs.declared.Found.TheVariants.{RowAt, NoRow}
-use Rattle.tables.specs.declared.Entered.{Entered}
-use Rattle.tables.specs.declared.Entered.TheVariants.{Rows, Full}
 
 -- cell k of row r
 abbrev pub cell : ℕ → List ℕ → ℕ → ℕ → ℕ
@@ -54,12 +50,12 @@ unfoldable pub has_name : List ℕ → ℕ → ℕ → List ℕ → ℕ → ℕ 
 has_name src w k t a b r = same_part src (cell w t r k) (cell w t r (k + 1)) a b
 
 -- the first of the n rows from row r on that passes the test
-unfoldable pub first_row : (ℕ → Bool) → ℕ → ℕ → Found
-first_row p zero r = NoRow
-first_row p (suc n) r = elim (p r) [ true ↦ RowAt r | false ↦ first_row p n (r + 1) ]
+unfoldable pub first_row : (ℕ → Bool) → ℕ → ℕ → Option ℕ
+first_row p zero r = None
+first_row p (suc n) r = elim (p r) [ true ↦ Some r | false ↦ first_row p n (r + 1) ]
 
 -- "the lent tables with linear search": the first row of a name
-unfoldable pub find_name : List ℕ → ℕ → ℕ → ℕ → List ℕ → ℕ → ℕ → Found
+unfoldable pub find_name : List ℕ → ℕ → ℕ → ℕ → List ℕ → ℕ → ℕ → Option ℕ
 find_name src w k n t a b = first_row (has_name src w k t a b) n 0
 
 -- What is found, without a search: one of the n rows that has the name, where no earlier row has it.
@@ -69,7 +65,7 @@ pub record First (src : List ℕ) (w k n : ℕ) (t : List ℕ) (a b r : ℕ) : T
   pub earlier : (q : ℕ) → q < r → has_name src w k t a b q ≡ false
 
 pub record Inserted : Type 0 where
-  pub entered : Entered
+  pub entered : Option ℕ
   pub cells : List ℕ
 
 abbrev pub flag : Bool → ℕ
@@ -81,22 +77,22 @@ marked true r t = set_cell (width tokens) t r declared 1
 marked false r t = t
 
 abbrev pub entered : Bool → ℕ → List ℕ → Inserted
-entered true n t = record { entered = Rows (n + 1); cells = t }
-entered false n t = record { entered = Full; cells = t }
+entered true n t = record { entered = Some (n + 1); cells = t }
+entered false n t = record { entered = None; cells = t }
 
-abbrev pub enter_at : Found → ℕ → ℕ → ℕ → Bool → List ℕ → Inserted
-enter_at (RowAt r) n a b d t = record { entered = Rows n; cells = marked d r t }
-enter_at NoRow n a b d t = entered (add_row n (a ∷ b ∷ flag d ∷ []) t).ok n (add_row n (a ∷ b ∷ flag d ∷ []) t).cells
+abbrev pub enter_at : Option ℕ → ℕ → ℕ → ℕ → Bool → List ℕ → Inserted
+enter_at (Some r) n a b d t = record { entered = Some n; cells = marked d r t }
+enter_at None n a b d t = entered (add_row n (a ∷ b ∷ flag d ∷ []) t).ok n (add_row n (a ∷ b ∷ flag d ∷ []) t).cells
 
 -- "1 tokens (place, declared by `%token` or not)": the token's row, new or found; a found one is marked if it is declared now
 unfoldable pub enter_token : List ℕ → ℕ → ℕ → ℕ → Bool → List ℕ → Inserted
 enter_token src n a b d t = enter_at (find_name src (width tokens) 0 n t a b) n a b d t
 
 -- document 01's number and values: 1 and the row that was found, or 0; how many rows there are now, or "42 no room"
-abbrev pub found_numbers : Found → List ℕ
-found_numbers (RowAt r) = 1 ∷ r ∷ []
-found_numbers NoRow = 0 ∷ 0 ∷ []
+abbrev pub found_numbers : Option ℕ → List ℕ
+found_numbers (Some r) = 1 ∷ r ∷ []
+found_numbers None = 0 ∷ 0 ∷ []
 
-abbrev pub entered_numbers : Entered → List ℕ
-entered_numbers (Rows n) = 0 ∷ n ∷ []
-entered_numbers Full = 42 ∷ 0 ∷ []
+abbrev pub entered_numbers : Option ℕ → List ℕ
+entered_numbers (Some n) = 0 ∷ n ∷ []
+entered_numbers None = 42 ∷ 0 ∷ []

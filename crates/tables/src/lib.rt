@@ -110,27 +110,10 @@ pub const BODY_PLACE: u32 = 1;
 // The row that a symbol has where there is no such rule or token.
 pub const NO_ROW: u32 = 4294967295;
 
-#[derive(Clone, Copy)]
-pub enum Found {
-    RowAt(u32),
-    NoRow,
-}
-
-#[derive(Clone, Copy)]
-pub enum Entered {
-    // How many rows there are now.
-    Rows(u32),
-    Full,
-}
-
 pub fn zero(t: &mut [u32])
     ensures { t.new ≡ zeroed t.old }
 {
-    let mut i = 0;
-    while i < t.len() {
-        t[i] = 0;
-        i += 1;
-    }
+    t.fill(0);
 }
 
 // Row `n`, or nothing written where no whole free row is left.
@@ -149,10 +132,8 @@ pub fn add_row(t: &mut [u32], n: u32, row: &[u32]) -> bool
         return false;
     }
     let at = r * w;
-    let mut i = 0;
-    while i < w {
-        t[at + i] = row[i];
-        i += 1;
+    for (i, v) in row.iter().enumerate() {
+        t[at + i] = *v;
     }
     true
 }
@@ -225,36 +206,18 @@ pub fn same_part(src: &[u8], a: u32, b: u32, c: u32, d: u32) -> bool
     if !is_place(src, c, d) {
         return false;
     }
-    if b - a != d - c {
-        return false;
-    }
-    let end = b as usize;
-    let mut i = a as usize;
-    let mut j = c as usize;
-    while i < end {
-        if src[i] != src[j] {
-            return false;
-        }
-        i += 1;
-        j += 1;
-    }
-    true
+    src[a as usize..b as usize] == src[c as usize..d as usize]
 }
 
 // The first of the `n` rows whose name, the place in its cells `k` and `k + 1`, has the bytes of the given place.
-pub fn find(src: &[u8], t: &[u32], w: u32, k: u8, n: u32, from: u32, to: u32) -> Found
+pub fn find(src: &[u8], t: &[u32], w: u32, k: u8, n: u32, from: u32, to: u32) -> Option<u32>
     ensures { result ≡ find_name src.now w k n t.now from to }
 {
     let first = k as u32;
     let second = first + 1;
-    let mut r = 0;
-    while r < n {
-        let a = cell(t, w, r, first);
-        let b = cell(t, w, r, second);
-        if same_part(src, a, b, from, to) {
-            return Found::RowAt(r);
-        }
-        r += 1;
-    }
-    Found::NoRow
+    (0..n).find(|r| {
+        let a = cell(t, w, *r, first);
+        let b = cell(t, w, *r, second);
+        same_part(src, a, b, from, to)
+    })
 }

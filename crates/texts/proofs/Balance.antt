@@ -1,4 +1,5 @@
 -- "Actions balance braces and look at nothing else.": an action ends at the closing brace that balances, and 6 is given where none does. Assumes nothing.
+use Rattle.std.specs.Prelude.{Option, Some, None, Ok, Err}
 use Prim.Native.Nat.{ℕ, ◌+◌, ◌-◌, ◌≤◌, ◌<◌}
 use mathlib.Core.Path.{◌≡◌, refl, sym, ◌∙◌}
 use mathlib.Core.List.{List, [], ◌∷◌}
@@ -9,6 +10,7 @@ use native.Mathlib.Decide.{ℕ_discrete}
 use lib.Dec.{eqb}
 use lib.ListN.{length, get_or, drop}
 use borrow.Author.Tests.{eq-eqb, eqb-true, eqb-false}
+use Rattle.scan.proofs.Tuples.{ok_4}
 use Rattle.scan.specs.declared.Place.{Place}
 use Rattle.scan.specs.Scan.{is_eol}
 use Rattle.scan.specs.Lines.{lines_here, lines_to}
@@ -17,9 +19,6 @@ use Rattle.scan.proofs.Tally.{tally_none, tally_hit, tally_miss, tally_last, tal
 use Rattle.trim.specs.Trim.{trimmed}
 use Rattle.texts.specs.Action.{braced, braced_from, braced_at, span_of, acted, action_at}
 use Rattle.texts.specs.Balance.{openings, closings, IsAction}
-use Rattle.texts.specs.declared.Brace.{Brace}
-use Rattle.texts.specs.declared.Brace.TheVariants.{Closes, NeverCloses}
-use Rattle.texts.specs.declared.Action.TheVariants.{Body, OpenAction}
 use Rattle.texts.proofs.Lines.{braced_tells}
 
 -- The brace at `to` closes the first one, d more being open at i: the same as balancing, of what is left.
@@ -104,15 +103,15 @@ module _ (s : List ℕ) where
             omega arith
 
   -- what the scan answers with d braces open at i
-  abbrev Tells : ℕ → ℕ → Brace → Type 0
-  Tells d i (Closes to n) = Closing s d i to
-  Tells d i NeverCloses = (to : ℕ) → Closing s d i to → ⊥
+  abbrev Tells : ℕ → ℕ → Option (ℕ × ℕ) → Type 0
+  Tells d i (Some (to, n)) = Closing s d i to
+  Tells d i None = (to : ℕ) → Closing s d i to → ⊥
 
   -- a byte passed
   module _ (i o c d e : ℕ) (b : Byte i o c d e) (f : get_or s i 0 ≡ 125 → d ≡ 0 → ⊥) where
-    tells_on : (r : Brace) → Tells e (i + 1) r → Tells d i r
-    tells_on (Closes to n) x = closing_back i o c d e to b x
-    tells_on NeverCloses x = λ to y. x to (closing_on i o c d e to b f y)
+    tells_on : (r : Option (ℕ × ℕ)) → Tells e (i + 1) r → Tells d i r
+    tells_on (Some (to, n)) x = closing_back i o c d e to b x
+    tells_on None x = λ to y. x to (closing_on i o c d e to b f y)
 
   -- the three sorts of bytes that are passed
   module _ (i d : ℕ) (l : i < length s) where
@@ -201,43 +200,44 @@ module _ (s : List ℕ) (at : ℕ) (h : at < length s) where
   answers = tells s (drop (at + 1) s) 0 (at + 1) 0 refl (omega arith)
 
   -- What is read ends behind a closing brace that balances, with the lines that end inside counted, the text trimmed, and the crate's span.
-  pub action_is : (end n : ℕ) (p q : Place) → action_at s at ≡ Body end n p q → IsAction s at (end - 1) × (lines_to s (at + 1) + n ≡ lines_to s (end - 1)) × (p ≡ trimmed s (at + 1) (end - 1)) × (q ≡ span_of (at + 1) p)
+  pub action_is : (end n : ℕ) (p q : Place) → action_at s at ≡ Ok (end, n, p, q) → IsAction s at (end - 1) × (lines_to s (at + 1) + n ≡ lines_to s (end - 1)) × (p ≡ trimmed s (at + 1) (end - 1)) × (q ≡ span_of (at + 1) p)
   unfolding action_at acted
   action_is end n p q = go (braced_at s (at + 1)) refl answers
     where
-      go : (b : Brace) → braced_at s (at + 1) ≡ b → Tells s 0 (at + 1) b → acted s at b ≡ Body end n p q → IsAction s at (end - 1) × (lines_to s (at + 1) + n ≡ lines_to s (end - 1)) × (p ≡ trimmed s (at + 1) (end - 1)) × (q ≡ span_of (at + 1) p)
-      go (Closes to m) r x e =
-          let u : to + 1 ≡ end = cc in
+      go : (b : Option (ℕ × ℕ)) → braced_at s (at + 1) ≡ b → Tells s 0 (at + 1) b → acted s at b ≡ Ok (end, n, p, q) → IsAction s at (end - 1) × (lines_to s (at + 1) + n ≡ lines_to s (end - 1)) × (p ≡ trimmed s (at + 1) (end - 1)) × (q ≡ span_of (at + 1) p)
+      go (Some (to, m)) r x e =
+          let d = ok_4 e in
+          let u : to + 1 ≡ end = d.0 in
           let w : to ≡ end - 1 = omega arith in
-          let l : m ≡ n = cc in
-          let v : trimmed s (at + 1) to ≡ p = cc in
-          let y : span_of (at + 1) (trimmed s (at + 1) to) ≡ q = cc in
+          let l : m ≡ n = d.1 in
+          let v : trimmed s (at + 1) to ≡ p = d.2 in
+          let y : span_of (at + 1) (trimmed s (at + 1) to) ≡ q = d.3 in
           let z = braced_tells s (at + 1) to m r in
           (rw w at (is_action s at to x), rw (l, w) at z, rw w at (sym v), sym (rw v at y))
-      go NeverCloses r x e = let z : ◌≡◌ {A = ℕ} 0 1 = cc in absurd (omega arith)
+      go None r x e = let z : ◌≡◌ {A = ℕ} 0 1 = cc in absurd (omega arith)
 
   -- An action is read exactly where one stands,
-  pub action_iff : (to : ℕ) → (action_at s at ≡ Body (to + 1) (lines_to s to - lines_to s (at + 1)) (trimmed s (at + 1) to) (span_of (at + 1) (trimmed s (at + 1) to))) ↔ IsAction s at to
+  pub action_iff : (to : ℕ) → (action_at s at ≡ Ok (to + 1, lines_to s to - lines_to s (at + 1), trimmed s (at + 1) to, span_of (at + 1) (trimmed s (at + 1) to))) ↔ IsAction s at to
   unfolding action_at acted
   action_iff to = (λ e. let z : to + 1 - 1 ≡ to = omega arith in rw z at (action_is _ _ _ _ e).0, go (braced_at s (at + 1)) refl answers)
     where
-      go : (b : Brace) → braced_at s (at + 1) ≡ b → Tells s 0 (at + 1) b → IsAction s at to → acted s at b ≡ Body (to + 1) (lines_to s to - lines_to s (at + 1)) (trimmed s (at + 1) to) (span_of (at + 1) (trimmed s (at + 1) to))
-      go (Closes j m) r x y =
+      go : (b : Option (ℕ × ℕ)) → braced_at s (at + 1) ≡ b → Tells s 0 (at + 1) b → IsAction s at to → acted s at b ≡ Ok (to + 1, lines_to s to - lines_to s (at + 1), trimmed s (at + 1) to, span_of (at + 1) (trimmed s (at + 1) to))
+      go (Some (j, m)) r x y =
           let z = closing_one s 0 (at + 1) j to x (action_closing s at to y) in
           let k = braced_tells s (at + 1) j m r in
           let n : m ≡ lines_to s j - lines_to s (at + 1) = omega arith in
           rw (n, z)
-      go NeverCloses r x y = absurd (x to (action_closing s at to y))
+      go None r x y = absurd (x to (action_closing s at to y))
 
   -- and 6 is given exactly where no closing brace balances.
-  pub open_iff : (action_at s at ≡ OpenAction at) ↔ ((to : ℕ) → IsAction s at to → ⊥)
+  pub open_iff : (action_at s at ≡ Err at) ↔ ((to : ℕ) → IsAction s at to → ⊥)
   unfolding action_at acted
   open_iff = (λ e. there (braced_at s (at + 1)) answers e, back (braced_at s (at + 1)) answers)
     where
-      there : (b : Brace) → Tells s 0 (at + 1) b → acted s at b ≡ OpenAction at → (to : ℕ) → IsAction s at to → ⊥
-      there (Closes j m) x e to y = let z : ◌≡◌ {A = ℕ} 0 1 = cc in omega arith
-      there NeverCloses x e to y = x to (action_closing s at to y)
+      there : (b : Option (ℕ × ℕ)) → Tells s 0 (at + 1) b → acted s at b ≡ Err at → (to : ℕ) → IsAction s at to → ⊥
+      there (Some (j, m)) x e to y = let z : ◌≡◌ {A = ℕ} 0 1 = cc in omega arith
+      there None x e to y = x to (action_closing s at to y)
 
-      back : (b : Brace) → Tells s 0 (at + 1) b → ((to : ℕ) → IsAction s at to → ⊥) → acted s at b ≡ OpenAction at
-      back (Closes j m) x f = absurd (f j (is_action s at j x))
-      back NeverCloses x f = refl
+      back : (b : Option (ℕ × ℕ)) → Tells s 0 (at + 1) b → ((to : ℕ) → IsAction s at to → ⊥) → acted s at b ≡ Err at
+      back (Some (j, m)) x f = absurd (f j (is_action s at j x))
+      back None x f = refl

@@ -1,4 +1,5 @@
 -- Texts: one law for each way through the three scans, as rules for `search`; and where the answers lie. Assumes nothing.
+use Rattle.std.specs.Prelude.{Option, Some, None, Result, Ok, Err}
 use Prim.Native.Nat.{ℕ, ◌+◌, ◌-◌, ◌≤◌, ◌<◌}
 use mathlib.Core.Path.{◌≡◌, refl, sym, ◌∙◌}
 use mathlib.Core.List.{List, [], ◌∷◌}
@@ -21,21 +22,13 @@ use Rattle.trim.proofs.Inside.{trim_inside}
 use Rattle.texts.specs.Colon.{Mode, plain, colon, single, single_from, single_at, colon_text, colon_text_at, Singled, ColonTexts}
 use Rattle.texts.specs.Action.{braced, braced_from, braced_at, span_of, acted, action_at, Braced, Acted}
 use Rattle.texts.specs.Mark.{mark, marked, marked_from, marked_at, MarkAt, Marked}
-use Rattle.texts.specs.declared.Colon.{Colon}
-use Rattle.texts.specs.declared.Colon.TheVariants.{Single, NoSingle}
-use Rattle.texts.specs.declared.ColonText.{ColonText}
-use Rattle.texts.specs.declared.ColonText.TheVariants.{Upto, NoColon}
-use Rattle.texts.specs.declared.Brace.{Brace}
-use Rattle.texts.specs.declared.Brace.TheVariants.{Closes, NeverCloses}
-use Rattle.texts.specs.declared.Action.{Action}
-use Rattle.texts.specs.declared.Action.TheVariants.{Body, OpenAction}
 
 -- a line end is no colon and no brace
 end_no : (c k : ℕ) → OneOf ends c → 13 < k → eqb c k ≡ false
 end_no c k o h = ⊎_elim (λ e. ne_eqb c k (λ z. omega arith)) (λ e. ne_eqb c k (λ z. omega arith)) o
 
-module _ (s : List ℕ) (j n : ℕ) (r : Colon) (inv : single_from plain s j n ≡ r) where
-  pub c_end : length s ≤ j → NoSingle j ≡ r
+module _ (s : List ℕ) (j n : ℕ) (r : Result (ℕ × ℕ) ℕ) (inv : single_from plain s j n ≡ r) where
+  pub c_end : length s ≤ j → Err j ≡ r
   unfolding single single_from
   c_end h = rw (drop_of_length-le s h) at inv
 
@@ -61,7 +54,7 @@ module _ (s : List ℕ) (j n : ℕ) (r : Colon) (inv : single_from plain s j n �
           let k = at_below s (j + 1) 58 y in
           rw (drop_at s (j + 1) k, at_here s (j + 1) 58 k ∙ y, single) at one
 
-      pub c_single : not f ≡ true → Single j n ≡ r
+      pub c_single : not f ≡ true → Ok (j, n) ≡ r
       unfolding single single_from
       c_single t =
           ⊎_elim
@@ -72,8 +65,8 @@ module _ (s : List ℕ) (j n : ℕ) (r : Colon) (inv : single_from plain s j n �
 pub twice_below : (s : List ℕ) (k b : ℕ) (f : Bool) → f ≡ is_at b s k → not f ≡ false → k + 1 ≤ length s
 twice_below s k b f q t = at_next s k b f q (not-false f t)
 
-module _ (d : ℕ) (s : List ℕ) (j n : ℕ) (r : Brace) (inv : braced_from d s j n ≡ r) where
-  pub b_end : length s ≤ j → NeverCloses ≡ r
+module _ (d : ℕ) (s : List ℕ) (j n : ℕ) (r : Option (ℕ × ℕ)) (inv : braced_from d s j n ≡ r) where
+  pub b_end : length s ≤ j → None ≡ r
   unfolding braced braced_from
   b_end h = rw (drop_of_length-le s h) at inv
 
@@ -82,7 +75,7 @@ module _ (d : ℕ) (s : List ℕ) (j n : ℕ) (r : Brace) (inv : braced_from d s
     unfolding braced braced_from
     b_open e = rw (drop_key s j 123 h e) at inv
 
-    pub b_last : get_or s j 0 ≡ 125 → d ≡ 0 → Closes j n ≡ r
+    pub b_last : get_or s j 0 ≡ 125 → d ≡ 0 → Some (j, n) ≡ r
     unfolding braced braced_from
     b_last e z = rw (drop_key s j 125 h e, eq-eqb _ _ z, braced) at inv
 
@@ -107,7 +100,7 @@ module _ (d : ℕ) (s : List ℕ) (j n : ℕ) (r : Brace) (inv : braced_from d s
         b_on (λ o. ⊎_elim (λ e. absurd (omega arith)) (λ e. absurd (omega arith)) o) (λ e. omega arith) (λ e. omega arith)
 
 -- such a byte, and a run of plain ones behind it
-pub b_run : (d : ℕ) (s : List ℕ) (j n e : ℕ) (r : Brace) → braced_from d s j n ≡ r → j < length s → Runs (in_class TextByte) s (j + 1) e → (OneOf ends (get_or s j 0) → ⊥) → (get_or s j 0 ≡ 123 → ⊥) → (get_or s j 0 ≡ 125 → ⊥) → braced_from d s e n ≡ r
+pub b_run : (d : ℕ) (s : List ℕ) (j n e : ℕ) (r : Option (ℕ × ℕ)) → braced_from d s j n ≡ r → j < length s → Runs (in_class TextByte) s (j + 1) e → (OneOf ends (get_or s j 0) → ⊥) → (get_or s j 0 ≡ 123 → ⊥) → (get_or s j 0 ≡ 125 → ⊥) → braced_from d s e n ≡ r
 b_run d s j n e r inv h x o f g = run_keeps (λ k. braced_from d s k n ≡ r) (in_class TextByte) s (j + 1) e x (λ k l t v. b_text d s k n r v l t) (b_on d s j n r inv h o f g)
 
 -- whether a mark stands at an index
@@ -126,13 +119,13 @@ module _ (s : List ℕ) (k : ℕ) where
       go true e = absurd (f (starts_mark e))
       go false e = refl
 
-module _ (s : List ℕ) (j n : ℕ) (r : Brace) (inv : marked_from s j n ≡ r) where
-  pub m_end : length s ≤ j → NeverCloses ≡ r
+module _ (s : List ℕ) (j n : ℕ) (r : Option (ℕ × ℕ)) (inv : marked_from s j n ≡ r) where
+  pub m_end : length s ≤ j → None ≡ r
   unfolding marked marked_from
   m_end h = rw (drop_of_length-le s h) at inv
 
   module _ (h : j < length s) where
-    m_stop : starts_at mark s j ≡ true → Closes j n ≡ r
+    m_stop : starts_at mark s j ≡ true → Some (j, n) ≡ r
     unfolding marked marked_from starts_at
     m_stop t = let u = rw (drop_at s j h) at t in rw (drop_at s j h, u, marked) at inv
 
@@ -148,7 +141,7 @@ module _ (s : List ℕ) (j n : ℕ) (r : Brace) (inv : marked_from s j n ≡ r) 
     m_eol m o q = rw q (m_pass (mark_no s j (λ x. ⊎_elim (λ e. let y = x.0 in absurd (omega arith)) (λ e. let y = x.0 in absurd (omega arith)) o)))
 
     module _ (e : get_or s j 0 ≡ 37) (f : Bool) (q : f ≡ is_at 125 s (j + 1)) where
-      pub m_found : f ≡ true → Closes j n ≡ r
+      pub m_found : f ≡ true → Some (j, n) ≡ r
       m_found t = m_stop (mark_starts s j (e, (at_true s (j + 1) 125 (sym q ∙ t)).1))
 
       pub m_percent : f ≡ false → marked_from s (j + 1) n ≡ r
@@ -160,7 +153,7 @@ module _ (s : List ℕ) (j n : ℕ) (r : Brace) (inv : marked_from s j n ≡ r) 
     m_code t = let x = (and-eq-true_iff _ _).0 t in m_on (λ y. false≢true (sym (not-true _ x.1) ∙ eq-eqb _ _ y.0)) (not-true _ x.0)
 
 -- such a byte, and a run of the same behind it
-pub m_run : (s : List ℕ) (j n e : ℕ) (r : Brace) → marked_from s j n ≡ r → j < length s → Runs (in_class CodeByte) s (j + 1) e → (OneOf ends (get_or s j 0) → ⊥) → (get_or s j 0 ≡ 37 → ⊥) → marked_from s e n ≡ r
+pub m_run : (s : List ℕ) (j n e : ℕ) (r : Option (ℕ × ℕ)) → marked_from s j n ≡ r → j < length s → Runs (in_class CodeByte) s (j + 1) e → (OneOf ends (get_or s j 0) → ⊥) → (get_or s j 0 ≡ 37 → ⊥) → marked_from s e n ≡ r
 m_run s j n e r inv h x o f = run_keeps (λ k. marked_from s k n ≡ r) (in_class CodeByte) s (j + 1) e x (λ k l t v. m_code s k n r v l t) (m_on s j n r inv h (λ y. f y.0) (eol_no _ o))
 
 -- where the scans end
@@ -205,14 +198,14 @@ module _ (s : List ℕ) (from : ℕ) where
       on_test (Marked s from) (begins mark (c ∷ cs)) _ _ (λ t. here t)
       (λ t. m_place cs (i + 1) (n + lines_here c cs) (drop_next s i c cs q) (omega (arith, here_few c cs)))
     where
-      here : begins mark (c ∷ cs) ≡ true → Marked s from (Closes i n)
+      here : begins mark (c ∷ cs) ≡ true → Marked s from (Some (i, n))
       here t = let y = starts_mark s i (rw q t) in let k = byte_below s (i + 1) 125 (omega arith) y.1 in (x, omega arith, y)
 
   marks : Marked s from (marked_at s from)
   unfolding marked_from
   marks = m_place (drop from s) from 0 refl (omega arith)
 
-  pub mark_placed : (r : Brace) → r ≡ marked_at s from → (r ≡ marked_at s from) × Marked s from r
+  pub mark_placed : (r : Option (ℕ × ℕ)) → r ≡ marked_at s from → (r ≡ marked_at s from) × Marked s from r
   mark_placed r e = (e, rw e marks)
 
   module _ (h : from ≤ length s) where
@@ -220,27 +213,27 @@ module _ (s : List ℕ) (from : ℕ) where
     unfolding single_from
     singles = c_place (drop from s) plain from 0 refl h (omega arith)
 
-    pub single_placed : (r : Colon) → r ≡ single_at s from → (r ≡ single_at s from) × Singled s from r
+    pub single_placed : (r : Result (ℕ × ℕ) ℕ) → r ≡ single_at s from → (r ≡ single_at s from) × Singled s from r
     single_placed r e = (e, rw e singles)
 
     pub braces : Braced s from (braced_at s from)
     unfolding braced_from
     braces = b_place (drop from s) 0 from 0 refl h (omega arith)
 
-    pub brace_placed : (r : Brace) → r ≡ braced_at s from → (r ≡ braced_at s from) × Braced s from r
+    pub brace_placed : (r : Option (ℕ × ℕ)) → r ≡ braced_at s from → (r ≡ braced_at s from) × Braced s from r
     brace_placed r e = (e, rw e braces)
 
 -- a text to a single colon
 module _ (s : List ℕ) (from : ℕ) where
-  pub single_fits : (c : Colon) (to n : ℕ) → Singled s from c → c ≡ Single to n → to ≤ length s
+  pub single_fits : (c : Result (ℕ × ℕ) ℕ) (to n : ℕ) → Singled s from c → c ≡ Ok (to, n) → to ≤ length s
   single_fits c to n x e = let y = (rw e at x).1 in omega arith
 
-  module _ (c : Colon) (q : c ≡ single_at s from) where
-    pub colon_upto : (to n : ℕ) (p : Place) → c ≡ Single to n → p ≡ trimmed s from to → Upto to n p ≡ colon_text_at s from
+  module _ (c : Result (ℕ × ℕ) ℕ) (q : c ≡ single_at s from) where
+    pub colon_upto : (to n : ℕ) (p : Place) → c ≡ Ok (to, n) → p ≡ trimmed s from to → Ok (to, n, p) ≡ colon_text_at s from
     unfolding colon_text_at colon_text
     colon_upto to n p e f = rw (← q, e, f)
 
-    pub colon_none : (end : ℕ) → c ≡ NoSingle end → NoColon end ≡ colon_text_at s from
+    pub colon_none : (end : ℕ) → c ≡ Err end → Err end ≡ colon_text_at s from
     unfolding colon_text_at colon_text
     colon_none end e = rw (← q, e)
 
@@ -248,30 +241,30 @@ module _ (s : List ℕ) (from : ℕ) where
   unfolding colon_text_at colon_text
   colon_texts h = go (single_at s from) (singles s from h)
     where
-      go : (c : Colon) → Singled s from c → ColonTexts s from (colon_text s from c)
-      go (Single to n) x =
+      go : (c : Result (ℕ × ℕ) ℕ) → Singled s from c → ColonTexts s from (colon_text s from c)
+      go (Ok (to, n)) x =
           let k = x.1 in
           let i = trim_inside s from to (omega arith) in
           (x.0, k, x.2, i.0, i.1, i.2 h)
-      go (NoSingle end) x = x
+      go (Err end) x = x
 
-  pub colon_placed : from ≤ length s → (r : ColonText) → r ≡ colon_text_at s from → (r ≡ colon_text_at s from) × ColonTexts s from r
+  pub colon_placed : from ≤ length s → (r : Result (ℕ × ℕ × Place) ℕ) → r ≡ colon_text_at s from → (r ≡ colon_text_at s from) × ColonTexts s from r
   colon_placed h r e = (e, rw e (colon_texts h))
 
 -- an action
 module _ (s : List ℕ) (at : ℕ) where
-  pub brace_fits : (b : Brace) (to n : ℕ) → Braced s (at + 1) b → b ≡ Closes to n → (to < length s) × (at + 1 ≤ to)
+  pub brace_fits : (b : Option (ℕ × ℕ)) (to n : ℕ) → Braced s (at + 1) b → b ≡ Some (to, n) → (to < length s) × (at + 1 ≤ to)
   brace_fits b to n x e = let y = (rw e at x) in let k = y.0 in let l = y.1 in (l, omega arith)
 
-  pub brace_below : (b : Brace) (to n : ℕ) → Braced s (at + 1) b → b ≡ Closes to n → to ≤ length s
+  pub brace_below : (b : Option (ℕ × ℕ)) (to n : ℕ) → Braced s (at + 1) b → b ≡ Some (to, n) → to ≤ length s
   brace_below b to n x e = let y = (brace_fits b to n x e).0 in omega arith
 
-  module _ (b : Brace) (q : b ≡ braced_at s (at + 1)) where
-    pub action_body : (to n : ℕ) (p : Place) → b ≡ Closes to n → p ≡ trimmed s (at + 1) to → Body (to + 1) n p (span_of (at + 1) p) ≡ action_at s at
+  module _ (b : Option (ℕ × ℕ)) (q : b ≡ braced_at s (at + 1)) where
+    pub action_body : (to n : ℕ) (p : Place) → b ≡ Some (to, n) → p ≡ trimmed s (at + 1) to → Ok (to + 1, n, p, span_of (at + 1) p) ≡ action_at s at
     unfolding action_at acted
     action_body to n p e f = rw (← q, e, f)
 
-    pub action_open : b ≡ NeverCloses → OpenAction at ≡ action_at s at
+    pub action_open : b ≡ None → Err at ≡ action_at s at
     unfolding action_at acted
     action_open e = rw (← q, e)
 
@@ -279,15 +272,15 @@ module _ (s : List ℕ) (at : ℕ) where
   unfolding action_at acted
   actions h = go (braced_at s (at + 1)) (braces s (at + 1) (omega arith))
     where
-      go : (b : Brace) → Braced s (at + 1) b → Acted s at (acted s at b)
-      go (Closes to n) x =
+      go : (b : Option (ℕ × ℕ)) → Braced s (at + 1) b → Acted s at (acted s at b)
+      go (Some (to, n)) x =
           let j = x.0 in
           let k = x.1 in
           let i = trim_inside s (at + 1) to (omega arith) in
           let u = i.0 in
           let v = i.1 in
           (omega arith, omega arith, u, v, i.2 (omega arith), refl, omega arith, omega arith)
-      go NeverCloses x = refl
+      go None x = refl
 
-  pub action_placed : at < length s → (r : Action) → r ≡ action_at s at → (r ≡ action_at s at) × Acted s at r
+  pub action_placed : at < length s → (r : Result (ℕ × ℕ × Place × Place) ℕ) → r ≡ action_at s at → (r ≡ action_at s at) × Acted s at r
   action_placed h r e = (e, rw e (actions h))

@@ -1,4 +1,5 @@
 -- Texts to a single colon, actions and texts to a mark tell how many lines they passed. Assumes nothing.
+use Rattle.std.specs.Prelude.{Option, Some, None, Result, Ok, Err}
 use Prim.Native.Nat.{ℕ, ◌+◌}
 use mathlib.Core.Path.{◌≡◌, refl}
 use mathlib.Core.List.{List, [], ◌∷◌}
@@ -6,6 +7,7 @@ use mathlib.Core.Bool.{false}
 use native.Mathlib.Omega.{arith}
 use lib.Dec.{eqb}
 use lib.ListN.{drop}
+use Rattle.scan.proofs.Tuples.{ok_3}
 use Rattle.scan.specs.declared.Place.{Place}
 use Rattle.scan.specs.Scan.{begins, is_eol}
 use Rattle.scan.specs.Lines.{lines_here, lines_to}
@@ -14,11 +16,6 @@ use Rattle.scan.proofs.Lines.{mark_plain, here_none, lines_next}
 use Rattle.texts.specs.Colon.{Mode, plain, colon, single, single_from, single_at, colon_text, colon_text_at}
 use Rattle.texts.specs.Action.{braced, braced_from, braced_at}
 use Rattle.texts.specs.Mark.{mark, marked, marked_from, marked_at}
-use Rattle.texts.specs.declared.Colon.{Colon}
-use Rattle.texts.specs.declared.Colon.TheVariants.{Single, NoSingle}
-use Rattle.texts.specs.declared.ColonText.TheVariants.{Upto}
-use Rattle.texts.specs.declared.Brace.{Brace}
-use Rattle.texts.specs.declared.Brace.TheVariants.{Closes, NeverCloses}
 
 module _ (s : List ℕ) (from : ℕ) where
   -- the lines that end before index i are those before the begin, and n more
@@ -33,13 +30,13 @@ module _ (s : List ℕ) (from : ℕ) where
     hit = let y = lines_next s i c cs q in omega arith
 
   -- what the scans that found their byte passed
-  abbrev ToColon : Colon → Type 0
-  ToColon (Single to n) = Till to n
-  ToColon (NoSingle end) = Unit {0}
+  abbrev ToColon : Result (ℕ × ℕ) ℕ → Type 0
+  ToColon (Ok (to, n)) = Till to n
+  ToColon (Err end) = Unit {0}
 
-  abbrev ToBrace : Brace → Type 0
-  ToBrace (Closes to n) = Till to n
-  ToBrace NeverCloses = Unit {0}
+  abbrev ToBrace : Option (ℕ × ℕ) → Type 0
+  ToBrace (Some (to, n)) = Till to n
+  ToBrace None = Unit {0}
 
   -- behind a colon the scan may still turn back to it
   abbrev Ready : Mode → ℕ → ℕ → Type 0
@@ -73,25 +70,25 @@ module _ (s : List ℕ) (from : ℕ) where
   to_mark (c ∷ cs) i n q x = on_test ToBrace (begins mark (c ∷ cs)) _ _ (λ t. x) (λ t. to_mark cs (i + 1) (n + lines_here c cs) (drop_next s i c cs q) (hit i n c cs q x))
 
   -- Where a single colon is found, "how many lines" end before it is told,
-  pub single_tells : (to n : ℕ) → single_at s from ≡ Single to n → lines_to s from + n ≡ lines_to s to
+  pub single_tells : (to n : ℕ) → single_at s from ≡ Ok (to, n) → lines_to s from + n ≡ lines_to s to
   unfolding single_from
   single_tells to n e = told ToColon e (to_colon (drop from s) plain from 0 refl (omega arith))
 
   -- with the trimmed text too,
-  pub text_tells : (to n : ℕ) (p : Place) → colon_text_at s from ≡ Upto to n p → lines_to s from + n ≡ lines_to s to
+  pub text_tells : (to n : ℕ) (p : Place) → colon_text_at s from ≡ Ok (to, n, p) → lines_to s from + n ≡ lines_to s to
   unfolding colon_text_at colon_text
   text_tells to n p = go (single_at s from) refl
     where
-      go : (c : Colon) → single_at s from ≡ c → colon_text s from c ≡ Upto to n p → lines_to s from + n ≡ lines_to s to
-      go (Single j m) q e = let u : j ≡ to = cc in let v : m ≡ n = cc in let y = single_tells j m q in rw (u, v) at y
-      go (NoSingle end) q e = let z : ◌≡◌ {A = ℕ} 0 1 = cc in absurd (omega arith)
+      go : (c : Result (ℕ × ℕ) ℕ) → single_at s from ≡ c → colon_text s from c ≡ Ok (to, n, p) → lines_to s from + n ≡ lines_to s to
+      go (Ok (j, m)) q e = let d = ok_3 e in let u : j ≡ to = d.0 in let v : m ≡ n = d.1 in let y = single_tells j m q in rw (u, v) at y
+      go (Err end) q e = let z : ◌≡◌ {A = ℕ} 0 1 = cc in absurd (omega arith)
 
   -- where an action's closing brace is found, how many end inside,
-  pub braced_tells : (to n : ℕ) → braced_at s from ≡ Closes to n → lines_to s from + n ≡ lines_to s to
+  pub braced_tells : (to n : ℕ) → braced_at s from ≡ Some (to, n) → lines_to s from + n ≡ lines_to s to
   unfolding braced_from
   braced_tells to n e = told ToBrace e (to_brace (drop from s) 0 from 0 refl (omega arith))
 
   -- and where a mark is found, how many end before it.
-  pub mark_tells : (to n : ℕ) → marked_at s from ≡ Closes to n → lines_to s from + n ≡ lines_to s to
+  pub mark_tells : (to n : ℕ) → marked_at s from ≡ Some (to, n) → lines_to s from + n ≡ lines_to s to
   unfolding marked_from
   mark_tells to n e = told ToBrace e (to_mark (drop from s) from 0 refl (omega arith))

@@ -1,4 +1,5 @@
 -- Every region that is trimmed begins and ends at code point boundaries, so that its trimmed place is what trimming means without a scan. Assumes nothing.
+use Rattle.std.specs.Prelude.{Option, Some, None, Result, Ok, Err}
 use Prim.Native.Nat.{ℕ, ◌+◌, ◌-◌, ◌≤◌, ◌<◌}
 use mathlib.Core.Path.{◌≡◌}
 use mathlib.Core.List.{List}
@@ -7,6 +8,7 @@ use mathlib.Core.Bool.{true}
 use native.Mathlib.Omega.{arith}
 use lib.ListN.{length, get_or, take}
 use lib.Seq.{take-length}
+use Rattle.scan.proofs.Tuples.{ok_3, ok_4}
 use Rattle.scan.specs.declared.Place.{Place}
 use Rattle.scan.specs.Scan.{starts_at, Edge}
 use Rattle.scan.proofs.Bytes.{starts_fits, starts_byte}
@@ -17,12 +19,6 @@ use Rattle.trim.proofs.Theorem.{trims_between}
 use Rattle.texts.specs.Trimmed.{Trimmed}
 use Rattle.texts.specs.Colon.{single_at, colon_text, colon_text_at, Singled}
 use Rattle.texts.specs.Action.{braced_at, acted, action_at, Braced}
-use Rattle.texts.specs.declared.Colon.{Colon}
-use Rattle.texts.specs.declared.Colon.TheVariants.{Single, NoSingle}
-use Rattle.texts.specs.declared.ColonText.TheVariants.{Upto}
-use Rattle.texts.specs.declared.Brace.{Brace}
-use Rattle.texts.specs.declared.Brace.TheVariants.{Closes, NeverCloses}
-use Rattle.texts.specs.declared.Action.TheVariants.{Body}
 use Rattle.texts.proofs.Laws.{singles, braces}
 
 module _ (s : List ℕ) (t : Text s) where
@@ -44,32 +40,34 @@ module _ (s : List ℕ) (t : Text s) where
       rw z at (ascii_behind s t (i + (length w - 1)) (omega arith) (rw b k))
 
   -- The text to a single colon is trimmed as it should be,
-  pub colon_trimmed : (from to n : ℕ) (p : Place) → from ≤ length s → Text (take from s) → colon_text_at s from ≡ Upto to n p → Trimmed s from to p
+  pub colon_trimmed : (from to n : ℕ) (p : Place) → from ≤ length s → Text (take from s) → colon_text_at s from ≡ Ok (to, n, p) → Trimmed s from to p
   unfolding colon_text_at colon_text
   colon_trimmed from to n p h b = go (single_at s from) (singles s from h)
     where
-      go : (c : Colon) → Singled s from c → colon_text s from c ≡ Upto to n p → Trimmed s from to p
-      go (Single j m) x e =
+      go : (c : Result (ℕ × ℕ) ℕ) → Singled s from c → colon_text s from c ≡ Ok (to, n, p) → Trimmed s from to p
+      go (Ok (j, m)) x e =
           let k = x.0 in
           let l = x.1 in
-          let u : j ≡ to = cc in
-          let v : trimmed s from j ≡ p = cc in
+          let d = ok_3 e in
+          let u : j ≡ to = d.0 in
+          let v : trimmed s from j ≡ p = d.2 in
           let y = trims_between s from j b (begins_boundary s t j l (inl (let w = x.2 in omega arith))) (omega arith) (omega arith) in
           rw (v, u) at y
-      go (NoSingle end) x e = let z : ◌≡◌ {A = ℕ} 0 1 = cc in absurd (omega arith)
+      go (Err end) x e = let z : ◌≡◌ {A = ℕ} 0 1 = cc in absurd (omega arith)
 
   -- and so is an action, whose brace is ASCII.
-  pub action_trimmed : (at end n : ℕ) (p q : Place) → at < length s → get_or s at 0 < 128 → action_at s at ≡ Body end n p q → Trimmed s (at + 1) (end - 1) p
+  pub action_trimmed : (at end n : ℕ) (p q : Place) → at < length s → get_or s at 0 < 128 → action_at s at ≡ Ok (end, n, p, q) → Trimmed s (at + 1) (end - 1) p
   unfolding action_at acted
   action_trimmed at end n p q h a = go (braced_at s (at + 1)) (braces s (at + 1) (omega arith))
     where
-      go : (b : Brace) → Braced s (at + 1) b → acted s at b ≡ Body end n p q → Trimmed s (at + 1) (end - 1) p
-      go (Closes j m) x e =
+      go : (b : Option (ℕ × ℕ)) → Braced s (at + 1) b → acted s at b ≡ Ok (end, n, p, q) → Trimmed s (at + 1) (end - 1) p
+      go (Some (j, m)) x e =
           let k = x.0 in
           let l = x.1 in
-          let u : j + 1 ≡ end = cc in
+          let d = ok_4 e in
+          let u : j + 1 ≡ end = d.0 in
           let w : j ≡ end - 1 = omega arith in
-          let v : trimmed s (at + 1) j ≡ p = cc in
+          let v : trimmed s (at + 1) j ≡ p = d.2 in
           let y = trims_between s (at + 1) j (ascii_behind s t at h a) (begins_boundary s t j l (inl (let w = x.2 in omega arith))) (omega arith) (omega arith) in
           rw (v, w) at y
-      go NeverCloses x e = let z : ◌≡◌ {A = ℕ} 0 1 = cc in absurd (omega arith)
+      go None x e = let z : ◌≡◌ {A = ℕ} 0 1 = cc in absurd (omega arith)

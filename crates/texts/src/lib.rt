@@ -9,37 +9,6 @@ ghost use Rattle.texts.specs.Line.{line_end_at, Lined};
 
 use scan::{Class, Place};
 
-#[derive(Clone, Copy)]
-pub enum Colon {
-    // Where the single colon stands, and the lines that end before it.
-    Single(usize, usize),
-    // No single colon: the source's end.
-    NoSingle(usize),
-}
-
-#[derive(Clone, Copy)]
-pub enum ColonText {
-    // Where the single colon stands, the lines that end before it, and the trimmed place.
-    Upto(usize, usize, Place),
-    // No single colon: the source's end.
-    NoColon(usize),
-}
-
-#[derive(Clone, Copy)]
-pub enum Brace {
-    // Where the closing brace or mark stands, and the lines that end before it.
-    Closes(usize, usize),
-    NeverCloses,
-}
-
-#[derive(Clone, Copy)]
-pub enum Action {
-    // The end behind the closing brace, the lines that end inside, the trimmed place, and the crate's span.
-    Body(usize, usize, Place, Place),
-    // Braces that don't balance: where the first opens.
-    OpenAction(usize),
-}
-
 pub fn parse_to_eol(s: &[u8], from: usize) -> usize
     requires { from ≤ length s.now }
     ensures value { result ≡ line_end_at s.now from }
@@ -48,20 +17,22 @@ pub fn parse_to_eol(s: &[u8], from: usize) -> usize
     scan::far_end(s, from, Class::LineByte)
 }
 
-pub fn single_colon(s: &[u8], from: usize) -> Colon
+// Where the single colon stands, and the lines that end before it; or the source's end, where there is none.
+pub fn single_colon(s: &[u8], from: usize) -> Result<(usize, usize), usize>
     requires { from ≤ length s.now }
     ensures value { result ≡ single_at s.now from }
     ensures singled { Singled s.now from result }
 {
     let mut j = from;
     let mut n = 0;
+    // by hand: two colons are one step of two bytes
     while j < s.len() {
         let c = s[j];
         match c {
             58 => {
                 let k = j + 1;
                 if !scan::is_at(s, k, b':') {
-                    return Colon::Single(j, n);
+                    return Ok((j, n));
                 }
                 j = k + 1;
             }
@@ -74,22 +45,21 @@ pub fn single_colon(s: &[u8], from: usize) -> Colon
             }
         }
     }
-    Colon::NoSingle(j)
+    Err(j)
 }
 
-pub fn parse_to_single_colon(s: &[u8], from: usize) -> ColonText
+// The same, and the trimmed place of the text in front of the colon.
+pub fn parse_to_single_colon(s: &[u8], from: usize) -> Result<(usize, usize, Place), usize>
     requires { from ≤ length s.now }
     ensures value { result ≡ colon_text_at s.now from }
     ensures colon_texts { ColonTexts s.now from result }
 {
-    match single_colon(s, from) {
-        Colon::Single(to, n) => ColonText::Upto(to, n, trim::trim(s, from, to)),
-        Colon::NoSingle(end) => ColonText::NoColon(end),
-    }
+    let (to, n) = single_colon(s, from)?;
+    Ok((to, n, trim::trim(s, from, to)))
 }
 
-// The brace that closes the one in front of `from`.
-pub fn closing_brace(s: &[u8], from: usize) -> Brace
+// The brace that closes the one in front of `from`, and the lines that end before it.
+pub fn closing_brace(s: &[u8], from: usize) -> Option<(usize, usize)>
     requires { from ≤ length s.now }
     ensures value { result ≡ braced_at s.now from }
     ensures braced { Braced s.now from result }
@@ -97,6 +67,7 @@ pub fn closing_brace(s: &[u8], from: usize) -> Brace
     let mut j = from;
     let mut n = 0;
     let mut depth: usize = 0;
+    // by hand: a step is a byte or a run of bytes
     while j < s.len() {
         let c = s[j];
         match c {
@@ -106,7 +77,7 @@ pub fn closing_brace(s: &[u8], from: usize) -> Brace
             }
             125 => {
                 if depth == 0 {
-                    return Brace::Closes(j, n);
+                    return Some((j, n));
                 }
                 depth -= 1;
                 j += 1;
@@ -120,23 +91,24 @@ pub fn closing_brace(s: &[u8], from: usize) -> Brace
             }
         }
     }
-    Brace::NeverCloses
+    None
 }
 
-// The first `%}` from `from` on: nothing else is looked at.
-pub fn closing_mark(s: &[u8], from: usize) -> Brace
+// The first `%}` from `from` on, and the lines that end before it: nothing else is looked at.
+pub fn closing_mark(s: &[u8], from: usize) -> Option<(usize, usize)>
     requires { from ≤ length s.now }
     ensures value { result ≡ marked_at s.now from }
     ensures marked { Marked s.now from result }
 {
     let mut j = from;
     let mut n = 0;
+    // by hand: a step is a byte or a run of bytes
     while j < s.len() {
         let c = s[j];
         match c {
             37 => {
                 if scan::is_at(s, j + 1, b'}') {
-                    return Brace::Closes(j, n);
+                    return Some((j, n));
                 }
                 j += 1;
             }
@@ -149,22 +121,22 @@ pub fn closing_mark(s: &[u8], from: usize) -> Brace
             }
         }
     }
-    Brace::NeverCloses
+    None
 }
 
-// The action whose brace opens at `at`.
-pub fn parse_action(s: &[u8], at: usize) -> Action
+// The action whose brace opens at `at`: the end behind the closing brace, the lines that end inside, the trimmed place, and the crate's span. An error is where braces open that don't balance.
+pub fn parse_action(s: &[u8], at: usize) -> Result<(usize, usize, Place, Place), usize>
     requires { at < length s.now }
     ensures value { result ≡ action_at s.now at }
     ensures acted { Acted s.now at result }
 {
     let from = at + 1;
     match closing_brace(s, from) {
-        Brace::Closes(to, n) => {
+        Some((to, n)) => {
             let text = trim::trim(s, from, to);
             let a = text.from;
             let b = text.to;
-            Action::Body(
+            Ok((
                 to + 1,
                 n,
                 text,
@@ -172,8 +144,8 @@ pub fn parse_action(s: &[u8], at: usize) -> Action
                     from,
                     to: from + (b - a),
                 },
-            )
+            ))
         }
-        Brace::NeverCloses => Action::OpenAction(at),
+        None => Err(at),
     }
 }

@@ -1,4 +1,5 @@
 -- One law for each turn of the trimming loop, as a rule for `search`, and where what is passed ends. Assumes nothing.
+use Rattle.std.specs.Prelude.{Option, Some, None}
 use Prim.Native.Nat.{ℕ, suc, ◌+◌, ◌-◌, ◌≤◌, ◌<◌}
 use mathlib.Core.Path.{◌≡◌, refl, sym, ◌∙◌, ap}
 use mathlib.Core.List.{List}
@@ -20,23 +21,21 @@ use Rattle.utf8.specs.Utf8.{decode_at, Decodes}
 use Rattle.utf8.proofs.White.{singles, white_no}
 use Rattle.utf8.proofs.Utf8.{decode_inside}
 use Rattle.whole.proofs.Laws.{decode_plain}
-use Rattle.utf8.specs.declared.Decoded.{Decoded}
-use Rattle.utf8.specs.declared.Decoded.TheVariants.{Point, Bad}
 use Rattle.trim.specs.declared.Passed.{Passed}
 use Rattle.trim.specs.declared.Passed.TheVariants.{White, Kept}
 use Rattle.trim.specs.Trim.{passed, passed_at, end_of, Passes, plain_end, Trim, kept, moved, trim_turn, place_of, trimmed}
 
 -- `pass`
-module _ (s : List ℕ) (i : ℕ) (d : Decoded) (q : d ≡ decode_at s i) where
-  pub pass_white : (p j : ℕ) (w : Bool) → d ≡ Point p j → w ≡ is_white p → w ≡ true → White j ≡ passed_at s i
+module _ (s : List ℕ) (i : ℕ) (d : Option (ℕ × ℕ)) (q : d ≡ decode_at s i) where
+  pub pass_white : (p j : ℕ) (w : Bool) → d ≡ Some (p, j) → w ≡ is_white p → w ≡ true → White j ≡ passed_at s i
   unfolding passed_at passed
   pass_white p j w e f t = rw (sym q ∙ e, sym f ∙ t, passed)
 
-  pub pass_kept : (p j : ℕ) (w : Bool) → d ≡ Point p j → w ≡ is_white p → w ≡ false → Kept j ≡ passed_at s i
+  pub pass_kept : (p j : ℕ) (w : Bool) → d ≡ Some (p, j) → w ≡ is_white p → w ≡ false → Kept j ≡ passed_at s i
   unfolding passed_at passed
   pass_kept p j w e f t = rw (sym q ∙ e, sym f ∙ t, passed)
 
-  pub pass_bad : d ≡ Bad → Kept (i + 1) ≡ passed_at s i
+  pub pass_bad : d ≡ None → Kept (i + 1) ≡ passed_at s i
   unfolding passed_at passed
   pass_bad e = rw (sym q ∙ e)
 
@@ -49,9 +48,9 @@ pass_inside s i = go (decode_at s i) (decode_inside s i)
     by_test j true h k = (h, λ l. k)
     by_test j false h k = (h, λ l. k)
 
-    go : (d : Decoded) → Decodes s i d → (i < end_of (passed d i)) × (i < length s → end_of (passed d i) ≤ length s)
-    go (Point p j) h = by_test j (is_white p) h.0 h.1
-    go Bad h = (omega arith, λ l. omega arith)
+    go : (d : Option (ℕ × ℕ)) → Decodes s i d → (i < end_of (passed d i)) × (i < length s → end_of (passed d i) ≤ length s)
+    go (Some (p, j)) h = by_test j (is_white p) h.0 h.1
+    go None h = (omega arith, λ l. omega arith)
 
 -- the same, of an answer that is known to be the definition's
 pub passes : (s : List ℕ) (i : ℕ) (r : Passed) → i < length s → r ≡ passed_at s i → Passes s i r

@@ -1,4 +1,5 @@
 -- The scan finds what trimming is. Assumes nothing.
+use Rattle.std.specs.Prelude.{Some}
 use Prim.Native.Nat.{ℕ, ◌+◌, ◌≤◌, ◌<◌}
 use mathlib.Core.Path.{◌≡◌, refl, sym, ◌∙◌, ap}
 use mathlib.Core.List.{List, [], ◌∷◌, ◌++◌, append_assoc, append-nil}
@@ -10,7 +11,6 @@ use Rattle.scan.specs.declared.Place.{Place}
 use Rattle.utf8.specs.White.{is_white}
 use Rattle.utf8.specs.Utf8.{decode_at}
 use Rattle.utf8.proofs.Utf8.{decode_past}
-use Rattle.utf8.specs.declared.Decoded.TheVariants.{Point}
 use Rattle.whole.specs.Encode.{Scalars, encode, encoded, Text}
 use Rattle.whole.proofs.Encode.{decode_encode}
 use Rattle.whole.proofs.Boundaries.{encoded_append, between}
@@ -50,7 +50,7 @@ record Ahead (s : List ℕ) (to i : ℕ) (cs : List ℕ) : Type 0 where
 module _ (s : List ℕ) (to : ℕ) where
   -- one of them is decoded
   module _ (i c : ℕ) (cs : List ℕ) (h : Ahead s to i (c ∷ cs)) where
-    point : decode_at s i ≡ Point c (i + length (encode c))
+    point : decode_at s i ≡ Some (c, i + length (encode c))
     unfolding decode_at encoded
     point = rw (h.same, append_assoc (encode c) (encoded cs) h.rest) (decode_encode c (encoded cs ++ h.rest) i h.scalars.0)
 

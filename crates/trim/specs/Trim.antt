@@ -1,20 +1,18 @@
 -- Trimming: a forward scan over the code points of a region that remembers where the first one that is no blank starts and where the last such ends.
-use Rattle.std.specs.Prelude.{ℕ, suc, ◌+◌, ◌-◌, ◌≤◌, ◌<◌, List, true, false, ltb, eqb, length, take}
+use Rattle.std.specs.Prelude.{ℕ, suc, ◌+◌, ◌-◌, ◌≤◌, ◌<◌, List, true, false, ltb, eqb, length, take, Option, Some, None}
 use Rattle.scan.specs.Loop.{Turn, more, stop, turns}
 use Rattle.scan.specs.declared.Place.{Place}
 use Rattle.scan.specs.declared.Class.TheVariants.{Graphic}
 use Rattle.scan.specs.Scan.{in_class, run_end_at}
 use Rattle.utf8.specs.White.{is_white}
 use Rattle.utf8.specs.Utf8.{decode_at}
-use Rattle.utf8.specs.declared.Decoded.{Decoded}
-use Rattle.utf8.specs.declared.Decoded.TheVariants.{Point, Bad}
 use Rattle.trim.specs.declared.Passed.{Passed}
 use Rattle.trim.specs.declared.Passed.TheVariants.{White, Kept}
 
 -- Document 01: a code point is "a blank for trimming" or is kept; a byte that begins none, of which an accepted source has none, is kept.
-unfoldable pub passed : Decoded → ℕ → Passed
-passed (Point p j) i = elim (is_white p) [ true ↦ White j | false ↦ Kept j ]
-passed Bad i = Kept (i + 1)
+unfoldable pub passed : Option (ℕ × ℕ) → ℕ → Passed
+passed (Some (p, j)) i = elim (is_white p) [ true ↦ White j | false ↦ Kept j ]
+passed None i = Kept (i + 1)
 
 -- Document 01, "a blank for trimming": the same, of a whole source and an index in it.
 unfoldable pub passed_at : List ℕ → ℕ → Passed

@@ -5,7 +5,6 @@ ghost use Rattle.std.specs.Prelude.{◌≡◌, ◌≤◌, ◌<◌, length};
 ghost use Rattle.trim.specs.Trim.{passed_at, Passes, plain_end, trimmed, Inside};
 
 use scan::{Class, Place};
-use utf8::Decoded;
 
 // One code point, by its end: a blank, or one that is kept. A byte that begins no well-formed sequence is kept.
 #[derive(Clone, Copy)]
@@ -20,14 +19,14 @@ pub fn pass(s: &[u8], i: usize) -> Passed
     ensures passes { Passes s.now i result }
 {
     match utf8::decode(s, i) {
-        Decoded::Point(p, j) => {
+        Some((p, j)) => {
             if utf8::is_white(p) {
                 Passed::White(j)
             } else {
                 Passed::Kept(j)
             }
         }
-        Decoded::Bad => Passed::Kept(i + 1),
+        None => Passed::Kept(i + 1),
     }
 }
 
@@ -49,6 +48,7 @@ pub fn trim(s: &[u8], from: usize, to: usize) -> Place
     let mut i = from;
     let mut start = from;
     let mut end = from;
+    // by hand: a step is a run of bytes or a code point, as long as the callee says
     while i < to {
         let e = plain_end(s, i, to);
         if i < e {

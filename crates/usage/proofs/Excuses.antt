@@ -1,4 +1,5 @@
 -- What the tests of a name tell: whether a declaration excuses it, and whether its row is to be listed. Assumes nothing.
+use Rattle.std.specs.Prelude.{Option, Some, None, is_some}
 use Prim.Native.Nat.{ℕ, ◌+◌}
 use mathlib.Core.Path.{◌≡◌, refl, sym, ◌∙◌}
 use mathlib.Core.List.{List}
@@ -6,7 +7,6 @@ use mathlib.Core.Bool.{Bool, true, false, not, false≢true}
 use borrow.Author.Tests.{eqb-true, eqb-false}
 use lib.Dec.{eqb}
 use Rattle.tables.specs.Table.{cell, same_part, has_name, find_name}
-use Rattle.tables.specs.declared.Found.TheVariants.{RowAt, NoRow}
 use Rattle.tables.proofs.Laws.{has_name_lem}
 use Rattle.tables.proofs.Cases.{find_iff, none_iff}
 use Rattle.bits.specs.Bits.{bit}
@@ -21,14 +21,21 @@ expects_says src t kd a b e x y q k f g s = go q (has_name_lem src 3 1 t a b e x
     go true h = record { kind = k; same = h }
     go false h = λ m. false≢true (sym h ∙ m.same)
 
+-- whether a search has found a row
+pub some_says : {P : Type 0} (o : Option ℕ) (q : Bool) → q ≡ is_some o → ((r : ℕ) → o ≡ Some r → P) → (o ≡ None → P → ⊥) → Says q P
+some_says (Some r) true h y n = y r refl
+some_says (Some r) false h y n = absurd (false≢true h)
+some_says None true h y n = absurd (false≢true (sym h))
+some_says None false h y n = n refl
+
 -- table 4: the first row of the name, or none
 module _ (src t : List ℕ) (n kd a b : ℕ) where
-  pub implicit_yes : (r : ℕ) → kd ≡ 2 → find_name src 2 0 n t a b ≡ RowAt r → Implicit src t n kd a b
+  pub implicit_yes : (r : ℕ) → kd ≡ 2 → find_name src 2 0 n t a b ≡ Some r → Implicit src t n kd a b
   implicit_yes r k f =
       let x = (find_iff src 2 0 n t a b r).0 f in
       record { token = k; entry = r; there = x.inside; same = x.named }
 
-  pub implicit_no : find_name src 2 0 n t a b ≡ NoRow → Implicit src t n kd a b → ⊥
+  pub implicit_no : find_name src 2 0 n t a b ≡ None → Implicit src t n kd a b → ⊥
   implicit_no f m = false≢true (sym ((none_iff src 2 0 n t a b).0 f m.entry m.there) ∙ m.same)
 
 -- the one table, or else the other

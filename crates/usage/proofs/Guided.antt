@@ -1,4 +1,5 @@
 -- What slots that guide tell: a row that stands in for another, and a name met by them. Assumes nothing.
+use Rattle.std.specs.Prelude.{Option, Some, None}
 use Prim.Native.Nat.{ℕ, ◌+◌, ◌≤◌}
 use mathlib.Core.Path.{◌≡◌, refl, sym, ◌∙◌}
 use mathlib.Core.List.{List}
@@ -10,8 +11,6 @@ use lib.ListN.{length}
 use lib.Dec.{eqb}
 use Rattle.tables.specs.Table.{cell, has_name}
 use Rattle.tables.proofs.Cases.{same_part_trans}
-use Rattle.tables.specs.declared.Found.{Found}
-use Rattle.tables.specs.declared.Found.TheVariants.{RowAt, NoRow}
 use Rattle.finder.specs.declared.Sought.{Sought}
 use Rattle.finder.specs.declared.Sought.TheVariants.{Seated}
 use Rattle.finder.specs.Finder.{mark_of, LeadsTo, LedOf, Met, Tells, Grown}
@@ -56,22 +55,22 @@ module _ (src t : List ℕ) where
       }
 
 -- a name met in table 6, or none
-module _ (src t : List ℕ) (n kd a b : ℕ) (f : Found) where
-  pub expected_met : (e : ℕ) → Met (λ (q : ℕ). false) src 3 1 n t a b f → f ≡ RowAt e → Expects src t kd a b e → Expected src t n kd a b
+module _ (src t : List ℕ) (n kd a b : ℕ) (f : Option ℕ) where
+  pub expected_met : (e : ℕ) → Met (λ (q : ℕ). false) src 3 1 n t a b f → f ≡ Some e → Expects src t kd a b e → Expected src t n kd a b
   expected_met e M h x = let m = rw h at M in record { entry = e; there = m.0; expects = x }
 
-  pub expected_none : (fx : List ℕ) → ((asked : ℕ → Bool) → LedOf asked src 3 1 n t fx → Met asked src 3 1 n t a b f) → ExpectedLed src t n kd fx → f ≡ NoRow → Expected src t n kd a b → ⊥
+  pub expected_none : (fx : List ℕ) → ((asked : ℕ → Bool) → LedOf asked src 3 1 n t fx → Met asked src 3 1 n t a b f) → ExpectedLed src t n kd fx → f ≡ None → Expected src t n kd a b → ⊥
   expected_none fx M L h x =
       let S = L x.entry x.there x.expects.kind in
       let m = rw h at (M (λ (q : ℕ). eqb q S.row) (λ r l y. rw (eqb-true r S.row y) S.leads)) in
       false≢true (sym (m S.row S.there (eq-eqb S.row S.row refl)) ∙ S.same a b x.expects.same)
 
 -- and in table 4
-module _ (src t : List ℕ) (n kd a b : ℕ) (f : Found) (M : Met (λ (r : ℕ). true) src 2 0 n t a b f) where
-  pub implicit_met : (e : ℕ) → kd ≡ 2 → f ≡ RowAt e → Implicit src t n kd a b
+module _ (src t : List ℕ) (n kd a b : ℕ) (f : Option ℕ) (M : Met (λ (r : ℕ). true) src 2 0 n t a b f) where
+  pub implicit_met : (e : ℕ) → kd ≡ 2 → f ≡ Some e → Implicit src t n kd a b
   implicit_met e k h = let m = rw h at M in record { token = k; entry = e; there = m.0; same = m.1 }
 
-  pub implicit_none : f ≡ NoRow → Implicit src t n kd a b → ⊥
+  pub implicit_none : f ≡ None → Implicit src t n kd a b → ⊥
   implicit_none h x =
       let m = rw h at M in
       false≢true (sym (m x.entry x.there refl) ∙ x.same)

@@ -1,4 +1,5 @@
 -- Demand 3: the rows of the report are exactly the unused rules and tokens, each once, rules first and rows ascending. Assumes nothing.
+use Rattle.std.specs.Prelude.{Result, Ok, Err}
 use Prim.Native.Nat.{ℕ, zero, suc, ◌+◌, ◌*◌, ◌-◌, ◌<◌, ◌≤◌}
 use mathlib.Core.Path.{◌≡◌, refl, sym, ap, ◌∙◌}
 use mathlib.Core.List.{List, [], ◌∷◌, ◌++◌, append_assoc, Memᴰ}
@@ -11,11 +12,10 @@ use Rattle.tables.specs.Table.{cell}
 use Rattle.grammar.specs.declared.Counts.{Counts}
 use Rattle.grammar.specs.declared.Singles.{Singles}
 use Rattle.grammar.specs.Sound.{Tables, Indexes}
-use Rattle.validation.specs.declared.Validity.TheVariants.{Valid}
 use Rattle.validation.specs.Faults.{validity}
 use Rattle.reach.specs.Reach.{Grammar, grammar_of, need}
-use Rattle.usage.specs.declared.Listing.{Listing}
-use Rattle.usage.specs.declared.Listing.TheVariants.{Unused, OfUnsound, OfInvalid, NoWords, NoRoom}
+use Rattle.usage.specs.declared.ListingError.{ListingError}
+use Rattle.usage.specs.declared.ListingError.TheVariants.{OfUnsound, OfInvalid, NoWords, NoRoom}
 use Rattle.usage.specs.Report.{Excuses, excuses_of, UnusedRule, UnusedToken, rows_of, total, Filled, Crowded, ValidReport, Reported}
 use Rattle.usage.specs.Standing.{StandsIn, UnusedRow, unused_rule, unused_token, Before, by_kind, by_row, UnusedRows, TooMany}
 use Rattle.usage.proofs.Picked.{rows_length, picks_has, picks_is, picks_rise}
@@ -218,7 +218,7 @@ module _ (src : List ℕ) (c : Counts) (g : Singles) (T : Tables) (X : Indexes) 
   abbrev excuses : Excuses
   excuses = excuses_of src c T.t4 T.t6
 
-  module _ (n : ℕ) (ws₀ ws out₀ out : List ℕ) (p : Reported src c g T X (Unused n) ws₀ ws out₀ out) where
+  module _ (n : ℕ) (ws₀ ws out₀ out : List ℕ) (p : Reported src c g T X (Ok n) ws₀ ws out₀ out) where
     pub report_rows : UnusedRows grammar excuses n out
     report_rows = filled_rows_lem grammar excuses (reported_rows src c g T X n ws₀ ws out₀ out p).filled
 
@@ -231,37 +231,37 @@ module _ (src : List ℕ) (c : Counts) (g : Singles) (T : Tables) (X : Indexes) 
     report_rises = report_rows.rises
 
   -- of a valid reading, with words enough
-  module _ (l : Listing) (ws₀ ws out₀ out : List ℕ) (v : validity src c g T X ≡ Valid) (words : need grammar ≤ length ws₀) (p : Reported src c g T X l ws₀ ws out₀ out) where
+  module _ (l : Result ℕ ListingError) (ws₀ ws out₀ out : List ℕ) (v : validity src c g T X ≡ Ok tt) (words : need grammar ≤ length ws₀) (p : Reported src c g T X l ws₀ ws out₀ out) where
     -- the report is given, or there are too many unused rows
-    pub listed_or_many : ((n : ℕ) × (l ≡ Unused n)) ⊎ ((l ≡ NoRoom) × TooMany grammar excuses out₀)
+    pub listed_or_many : ((n : ℕ) × (l ≡ Ok n)) ⊎ ((l ≡ Err NoRoom) × TooMany grammar excuses out₀)
     listed_or_many = go l (rw v at p)
       where
-        go : (l : Listing) → ValidReport grammar excuses l ws₀ ws out₀ out → ((n : ℕ) × (l ≡ Unused n)) ⊎ ((l ≡ NoRoom) × TooMany grammar excuses out₀)
-        go (Unused n) q = inl (n, refl)
-        go OfUnsound q = absurd q
-        go (OfInvalid f) q = absurd q
-        go NoWords q = absurd (omega (arith, q.0))
-        go NoRoom q = inr (refl, crowded_rows grammar excuses q.1)
+        go : (l : Result ℕ ListingError) → ValidReport grammar excuses l ws₀ ws out₀ out → ((n : ℕ) × (l ≡ Ok n)) ⊎ ((l ≡ Err NoRoom) × TooMany grammar excuses out₀)
+        go (Ok n) q = inl (n, refl)
+        go (Err OfUnsound) q = absurd q
+        go (Err (OfInvalid f)) q = absurd q
+        go (Err NoWords) q = absurd (omega (arith, q.0))
+        go (Err NoRoom) q = inr (refl, crowded_rows grammar excuses q.1)
 
     -- they fit, and the report is given
-    pub listed_in_room : (n : ℕ) (list : List ℕ) → UnusedRows grammar excuses n list → n * 2 ≤ length out₀ → l ≡ Unused n
+    pub listed_in_room : (n : ℕ) (list : List ℕ) → UnusedRows grammar excuses n list → n * 2 ≤ length out₀ → l ≡ Ok n
     listed_in_room n list r h =
         ⊎_elim
-        (λ y. let q = rw y.1 at p in y.1 ∙ ap (λ (k : ℕ). Unused k) (unused_count (report_rows y.0 ws₀ ws out₀ out q) r))
+        (λ y. let q = rw y.1 at p in y.1 ∙ ap (λ (k : ℕ). Ok k) (unused_count (report_rows y.0 ws₀ ws out₀ out q) r))
         (λ y. absurd (omega (arith, y.1.room, unused_count y.1.rows r)))
         listed_or_many
 
     -- 42 comes exactly where there are too many
-    pub no_room_iff : (l ≡ NoRoom) ↔ TooMany grammar excuses out₀
+    pub no_room_iff : (l ≡ Err NoRoom) ↔ TooMany grammar excuses out₀
     no_room_iff = (many, full)
       where
-        many : l ≡ NoRoom → TooMany grammar excuses out₀
+        many : l ≡ Err NoRoom → TooMany grammar excuses out₀
         many e = ⊎_elim (λ y. let n = y.1 in let z : ◌≡◌ {A = ℕ} 0 1 = cc in absurd (omega arith)) (λ y. y.1) listed_or_many
 
-        full : TooMany grammar excuses out₀ → l ≡ NoRoom
+        full : TooMany grammar excuses out₀ → l ≡ Err NoRoom
         full m = ⊎_elim (λ y. absurd (never y.0 (rw y.1 at p))) (λ y. y.0) listed_or_many
           where
-            never : (n : ℕ) → Reported src c g T X (Unused n) ws₀ ws out₀ out → ⊥
+            never : (n : ℕ) → Reported src c g T X (Ok n) ws₀ ws out₀ out → ⊥
             never n q =
                 let f = (reported_rows src c g T X n ws₀ ws out₀ out q).filled in
                 omega (arith, m.room, f.count_is, f.room, unused_count m.rows (report_rows n ws₀ ws out₀ out q))

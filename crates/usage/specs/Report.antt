@@ -1,5 +1,5 @@
 -- Document 01: "Used: [..]. Excused: names of the same kind in table 6, and tokens named in table 4." Which rows stand in the unused report, and in what order.
-use Rattle.std.specs.Prelude.{ℕ, suc, ◌+◌, ◌*◌, ◌-◌, ◌<◌, ◌≤◌, ◌≡◌, Bool, true, false, List, [], ◌∷◌, ◌++◌, length, replicate, set}
+use Rattle.std.specs.Prelude.{ℕ, suc, ◌+◌, ◌*◌, ◌-◌, ◌<◌, ◌≤◌, ◌≡◌, Bool, true, false, List, [], ◌∷◌, ◌++◌, length, replicate, set, Result, Ok, Err}
 use Rattle.std.proofs.lemmas.List.Edits.{sets}
 use Rattle.tables.specs.Table.{cell, has_name, zeroed}
 use Rattle.tables.specs.Layout.{implicit, unused, kind_name, width}
@@ -8,30 +8,30 @@ use Rattle.grammar.specs.declared.Singles.{Singles}
 use Rattle.grammar.specs.Sound.{Tables, Indexes}
 use Rattle.sound.specs.Test.{count_at}
 use Rattle.finder.specs.Finder.{LeadsTo, LedOf}
-use Rattle.validation.specs.declared.Validity.{Validity}
-use Rattle.validation.specs.declared.Validity.TheVariants.{Valid, UnsoundTables, Invalid}
+use Rattle.validation.specs.declared.ValidityError.{ValidityError}
+use Rattle.validation.specs.declared.ValidityError.TheVariants.{UnsoundTables, Invalid}
 use Rattle.validation.specs.Faults.{flaw_numbers, validity}
 use Rattle.bits.specs.Bits.{bit}
 use Rattle.reach.specs.Reach.{Named, Grammar, grammar_of, need, UsedRule, UsedToken, Work, Marks}
-use Rattle.usage.specs.declared.Listing.{Listing}
-use Rattle.usage.specs.declared.Listing.TheVariants.{Unused, OfUnsound, OfInvalid, NoWords, NoRoom}
-use Rattle.usage.specs.declared.Marking.{Marking}
-use Rattle.usage.specs.declared.Marking.TheVariants.{AllMarked, MarksUnsound, MarksInvalid, MarksNoWords}
+use Rattle.usage.specs.declared.ListingError.{ListingError}
+use Rattle.usage.specs.declared.ListingError.TheVariants.{OfUnsound, OfInvalid, NoWords, NoRoom}
+use Rattle.usage.specs.declared.MarkingError.{MarkingError}
+use Rattle.usage.specs.declared.MarkingError.TheVariants.{MarksUnsound, MarksInvalid, MarksNoWords}
 
 -- number, place, table number (0 unless 42) and count: "44, then (report) validate's number, then 42 for 11 [..], then for its output. Each also answers a count; a refusal zeroes it"
-abbrev pub listing_numbers : Listing → List ℕ
-listing_numbers (Unused n) = 0 ∷ 0 ∷ 0 ∷ 0 ∷ n ∷ []
-listing_numbers OfUnsound = 44 ∷ 0 ∷ 0 ∷ 0 ∷ 0 ∷ []
-listing_numbers (OfInvalid f) = flaw_numbers f ++ (0 ∷ 0 ∷ [])
-listing_numbers NoWords = 42 ∷ 0 ∷ 0 ∷ 11 ∷ 0 ∷ []
-listing_numbers NoRoom = 42 ∷ 0 ∷ 0 ∷ 12 ∷ 0 ∷ []
+abbrev pub listing_numbers : Result ℕ ListingError → List ℕ
+listing_numbers (Ok n) = 0 ∷ 0 ∷ 0 ∷ 0 ∷ n ∷ []
+listing_numbers (Err OfUnsound) = 44 ∷ 0 ∷ 0 ∷ 0 ∷ 0 ∷ []
+listing_numbers (Err (OfInvalid f)) = flaw_numbers f ++ (0 ∷ 0 ∷ [])
+listing_numbers (Err NoWords) = 42 ∷ 0 ∷ 0 ∷ 11 ∷ 0 ∷ []
+listing_numbers (Err NoRoom) = 42 ∷ 0 ∷ 0 ∷ 12 ∷ 0 ∷ []
 
 -- the same of the marking, which answers no count: "with the report's refusals except the one for its output" (document 02, request Thirteen)
-abbrev pub marking_numbers : Marking → List ℕ
-marking_numbers AllMarked = 0 ∷ 0 ∷ 0 ∷ 0 ∷ []
-marking_numbers MarksUnsound = 44 ∷ 0 ∷ 0 ∷ 0 ∷ []
-marking_numbers (MarksInvalid f) = flaw_numbers f ++ (0 ∷ [])
-marking_numbers MarksNoWords = 42 ∷ 0 ∷ 0 ∷ 11 ∷ []
+abbrev pub marking_numbers : Result (Unit {0}) MarkingError → List ℕ
+marking_numbers (Ok _) = 0 ∷ 0 ∷ 0 ∷ 0 ∷ []
+marking_numbers (Err MarksUnsound) = 44 ∷ 0 ∷ 0 ∷ 0 ∷ []
+marking_numbers (Err (MarksInvalid f)) = flaw_numbers f ++ (0 ∷ [])
+marking_numbers (Err MarksNoWords) = 42 ∷ 0 ∷ 0 ∷ 11 ∷ []
 
 -- a yes or no says whether P
 abbrev pub Says : Bool → Type 0 → Type 0
@@ -133,37 +133,37 @@ pub record Zeroed (ws₀ ws out₀ out : List ℕ) : Type 0 where
   pub cells : out ≡ zeroed out₀
 
 -- of a reading that is valid: "42 for 11 (fewer words than the bits below need), then for its output"
-abbrev pub ValidReport : Grammar → Excuses → Listing → List ℕ → List ℕ → List ℕ → List ℕ → Type 0
-ValidReport g x (Unused n) ws₀ ws out₀ out = Accepted g x n ws₀ ws out₀ out
-ValidReport g x OfUnsound ws₀ ws out₀ out = ⊥
-ValidReport g x (OfInvalid f) ws₀ ws out₀ out = ⊥
-ValidReport g x NoWords ws₀ ws out₀ out = (length ws₀ < need g) × Zeroed ws₀ ws out₀ out
-ValidReport g x NoRoom ws₀ ws out₀ out = (need g ≤ length ws₀) × Crowded (UnusedRule g x) (UnusedToken g x) g.rules.sort.count g.tokens.sort.count out₀ × Zeroed ws₀ ws out₀ out
+abbrev pub ValidReport : Grammar → Excuses → Result ℕ ListingError → List ℕ → List ℕ → List ℕ → List ℕ → Type 0
+ValidReport g x (Ok n) ws₀ ws out₀ out = Accepted g x n ws₀ ws out₀ out
+ValidReport g x (Err OfUnsound) ws₀ ws out₀ out = ⊥
+ValidReport g x (Err (OfInvalid f)) ws₀ ws out₀ out = ⊥
+ValidReport g x (Err NoWords) ws₀ ws out₀ out = (length ws₀ < need g) × Zeroed ws₀ ws out₀ out
+ValidReport g x (Err NoRoom) ws₀ ws out₀ out = (need g ≤ length ws₀) × Crowded (UnusedRule g x) (UnusedToken g x) g.rules.sort.count g.tokens.sort.count out₀ × Zeroed ws₀ ws out₀ out
 
 -- "44, then (report) validate's number", then what a valid reading gives
-abbrev pub Told : Validity → Grammar → Excuses → Listing → List ℕ → List ℕ → List ℕ → List ℕ → Type 0
-Told Valid g x l ws₀ ws out₀ out = ValidReport g x l ws₀ ws out₀ out
-Told UnsoundTables g x l ws₀ ws out₀ out = (l ≡ OfUnsound) × Zeroed ws₀ ws out₀ out
-Told (Invalid f) g x l ws₀ ws out₀ out = (l ≡ OfInvalid f) × Zeroed ws₀ ws out₀ out
+abbrev pub Told : Result (Unit {0}) ValidityError → Grammar → Excuses → Result ℕ ListingError → List ℕ → List ℕ → List ℕ → List ℕ → Type 0
+Told (Ok _) g x l ws₀ ws out₀ out = ValidReport g x l ws₀ ws out₀ out
+Told (Err UnsoundTables) g x l ws₀ ws out₀ out = (l ≡ Err OfUnsound) × Zeroed ws₀ ws out₀ out
+Told (Err (Invalid f)) g x l ws₀ ws out₀ out = (l ≡ Err (OfInvalid f)) × Zeroed ws₀ ws out₀ out
 
-abbrev pub Reported : List ℕ → Counts → Singles → Tables → Indexes → Listing → List ℕ → List ℕ → List ℕ → List ℕ → Type 0
+abbrev pub Reported : List ℕ → Counts → Singles → Tables → Indexes → Result ℕ ListingError → List ℕ → List ℕ → List ℕ → List ℕ → Type 0
 Reported src c g T X l ws₀ ws out₀ out =
     Told (validity src c g T X) (grammar_of src c g.start T.t1 T.t7 T.t8 T.t9) (excuses_of src c T.t4 T.t6) l ws₀ ws out₀ out
 
 -- "A marking without the list writes the report's bits" (document 02, request Thirteen): of a valid reading the used rows, or zeros where there are too few words
-abbrev pub ValidMarking : Grammar → Marking → List ℕ → List ℕ → Type 0
-ValidMarking g AllMarked ws₀ ws = Marks g true ws₀ ws
-ValidMarking g MarksUnsound ws₀ ws = ⊥
-ValidMarking g (MarksInvalid f) ws₀ ws = ⊥
-ValidMarking g MarksNoWords ws₀ ws = Marks g false ws₀ ws
+abbrev pub ValidMarking : Grammar → Result (Unit {0}) MarkingError → List ℕ → List ℕ → Type 0
+ValidMarking g (Ok _) ws₀ ws = Marks g true ws₀ ws
+ValidMarking g (Err MarksUnsound) ws₀ ws = ⊥
+ValidMarking g (Err (MarksInvalid f)) ws₀ ws = ⊥
+ValidMarking g (Err MarksNoWords) ws₀ ws = Marks g false ws₀ ws
 
 -- 44 and validate's number come first here too, "each leaving the bits zero"
-abbrev pub MarkTold : Validity → Grammar → Marking → List ℕ → List ℕ → Type 0
-MarkTold Valid g m ws₀ ws = ValidMarking g m ws₀ ws
-MarkTold UnsoundTables g m ws₀ ws = (m ≡ MarksUnsound) × (ws ≡ zeroed ws₀)
-MarkTold (Invalid f) g m ws₀ ws = (m ≡ MarksInvalid f) × (ws ≡ zeroed ws₀)
+abbrev pub MarkTold : Result (Unit {0}) ValidityError → Grammar → Result (Unit {0}) MarkingError → List ℕ → List ℕ → Type 0
+MarkTold (Ok _) g m ws₀ ws = ValidMarking g m ws₀ ws
+MarkTold (Err UnsoundTables) g m ws₀ ws = (m ≡ Err MarksUnsound) × (ws ≡ zeroed ws₀)
+MarkTold (Err (Invalid f)) g m ws₀ ws = (m ≡ Err (MarksInvalid f)) × (ws ≡ zeroed ws₀)
 
-abbrev pub MarkedBits : List ℕ → Counts → Singles → Tables → Indexes → Marking → List ℕ → List ℕ → Type 0
+abbrev pub MarkedBits : List ℕ → Counts → Singles → Tables → Indexes → Result (Unit {0}) MarkingError → List ℕ → List ℕ → Type 0
 MarkedBits src c g T X m ws₀ ws = MarkTold (validity src c g T X) (grammar_of src c g.start T.t1 T.t7 T.t8 T.t9) m ws₀ ws
 
 -- ---- what the steps promise
@@ -230,17 +230,17 @@ pub record Written (P : ℕ → Type 0) (kd n at next : ℕ) (out₀ out : List 
   pub cells : out ≡ sets out₀ (at * 2) (rows_of kd list)
 
 -- the report by the bits alone
-abbrev pub ByBits : List ℕ → Excuses → Named → Named → Listing → List ℕ → List ℕ → Type 0
-ByBits ws x d e (Unused n) out₀ out = Filled (Free ws x d) (Free ws x e) d.sort.count e.sort.count n out₀ out
-ByBits ws x d e OfUnsound out₀ out = ⊥
-ByBits ws x d e (OfInvalid f) out₀ out = ⊥
-ByBits ws x d e NoWords out₀ out = ⊥
-ByBits ws x d e NoRoom out₀ out = Crowded (Free ws x d) (Free ws x e) d.sort.count e.sort.count out₀ × (out ≡ zeroed out₀)
+abbrev pub ByBits : List ℕ → Excuses → Named → Named → Result ℕ ListingError → List ℕ → List ℕ → Type 0
+ByBits ws x d e (Ok n) out₀ out = Filled (Free ws x d) (Free ws x e) d.sort.count e.sort.count n out₀ out
+ByBits ws x d e (Err OfUnsound) out₀ out = ⊥
+ByBits ws x d e (Err (OfInvalid f)) out₀ out = ⊥
+ByBits ws x d e (Err NoWords) out₀ out = ⊥
+ByBits ws x d e (Err NoRoom) out₀ out = Crowded (Free ws x d) (Free ws x e) d.sort.count e.sort.count out₀ × (out ≡ zeroed out₀)
 
 -- the work bits behind the list: zero where it has no room
-abbrev pub BitsLeft : Listing → List ℕ → List ℕ → Type 0
-BitsLeft (Unused n) ws vs = vs ≡ ws
-BitsLeft OfUnsound ws vs = vs ≡ ws
-BitsLeft (OfInvalid f) ws vs = vs ≡ ws
-BitsLeft NoWords ws vs = vs ≡ ws
-BitsLeft NoRoom ws vs = vs ≡ zeroed ws
+abbrev pub BitsLeft : Result ℕ ListingError → List ℕ → List ℕ → Type 0
+BitsLeft (Ok n) ws vs = vs ≡ ws
+BitsLeft (Err OfUnsound) ws vs = vs ≡ ws
+BitsLeft (Err (OfInvalid f)) ws vs = vs ≡ ws
+BitsLeft (Err NoWords) ws vs = vs ≡ ws
+BitsLeft (Err NoRoom) ws vs = vs ≡ zeroed ws

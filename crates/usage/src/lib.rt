@@ -13,16 +13,13 @@ ghost use Rattle.usage.specs.Report.{Says, Expects, Expected, Implicit, Excused,
 use finder::Sought;
 use grammar::{Counts, Singles};
 use reach::Sort;
-use tables::Found;
-use validation::{Flaw, Validity};
+use validation::{Flaw, ValidityError};
 
 // Declarations that few slots are enough for.
 const FEW_EXCUSES: usize = 512;
 
 #[derive(Clone, Copy)]
-pub enum Listing {
-    // How many rows the report has.
-    Unused(usize),
+pub enum ListingError {
     OfUnsound,
     OfInvalid(Flaw),
     // Too few words for the work bits, too little room for the report.
@@ -31,8 +28,7 @@ pub enum Listing {
 }
 
 #[derive(Clone, Copy)]
-pub enum Marking {
-    AllMarked,
+pub enum MarkingError {
     MarksUnsound,
     MarksInvalid(Flaw),
     // Too few words for the work bits.
@@ -56,14 +52,7 @@ fn expects(src: &[u8], t6: &[u32], kind: u32, a: u32, b: u32, e: u32) -> bool
 fn is_expected(src: &[u8], t6: &[u32], n: u32, kind: u32, a: u32, b: u32) -> bool
     ensures { Says result (Expected src.now t6.now n kind a b) }
 {
-    let mut e = 0;
-    while e < n {
-        if expects(src, t6, kind, a, b, e) {
-            return true;
-        }
-        e += 1;
-    }
-    false
+    (0..n).any(|e| expects(src, t6, kind, a, b, e))
 }
 
 // Whether it is a token that one of the `n` rows of table 4 names.
@@ -73,10 +62,7 @@ fn is_implicit(src: &[u8], t4: &[u32], n: u32, kind: u32, a: u32, b: u32) -> boo
     if kind != 2 {
         return false;
     }
-    match tables::find(src, t4, tables::NAME_WIDTH, tables::NAME, n, a, b) {
-        Found::RowAt(_) => true,
-        Found::NoRow => false,
-    }
+    tables::find(src, t4, tables::NAME_WIDTH, tables::NAME, n, a, b).is_some()
 }
 
 // Whether a declaration excuses the name.
@@ -126,13 +112,13 @@ fn expects_by(src: &[u8], t6: &[u32], n: u32, kind: u32, a: u32, b: u32, fx: &[u
         a,
         b,
     ) {
-        Found::RowAt(e) => {
+        Some(e) => {
             if expects(src, t6, kind, a, b, e) {
                 return true;
             }
             is_expected(src, t6, n, kind, a, b)
         }
-        Found::NoRow => false,
+        None => false,
     }
 }
 
@@ -145,10 +131,7 @@ fn implies_by(src: &[u8], t4: &[u32], n: u32, kind: u32, a: u32, b: u32, fx: &[u
     if !token {
         return false;
     }
-    match finder::meet(src, t4, tables::NAME_WIDTH, tables::NAME, n, fx, a, b) {
-        Found::RowAt(_) => true,
-        Found::NoRow => false,
-    }
+    finder::meet(src, t4, tables::NAME_WIDTH, tables::NAME, n, fx, a, b).is_some()
 }
 
 // As `is_excused`, by slots that guide.
@@ -203,8 +186,7 @@ fn has_stand_in(src: &[u8], t6: &[u32], kind: u32, r: u32, fx: &[u16]) -> bool
     let b = tables::cell(t6, w, r, 2);
     match finder::seek(src, t6, w, tables::KIND_NAME, r, fx, a, b) {
         Sought::Seated(q) => tables::cell(t6, w, q, 0) == kind,
-        Sought::Unseated => false,
-        Sought::Untold => false,
+        Sought::Unseated | Sought::Untold => false,
     }
 }
 
@@ -227,10 +209,8 @@ fn guide_expected(src: &[u8], t6: &[u32], n: u32, kind: u32, fx: &mut [u16])
     ensures grown { Grown fx.old fx.new }
     ensures led { ExpectedLed src.now t6.now n kind fx.new }
 {
-    let mut r = 0;
-    while r < n {
+    for r in 0..n {
         guide_row(src, t6, kind, r, fx);
-        r += 1;
     }
 }
 
@@ -239,10 +219,8 @@ fn guide_implicit(src: &[u8], t4: &[u32], n: u32, fx: &mut [u16])
     ensures grown { Grown fx.old fx.new }
     ensures led { ImplicitLed src.now t4.now n fx.new }
 {
-    let mut r = 0;
-    while r < n {
+    for r in 0..n {
         finder::enter(src, t4, tables::NAME_WIDTH, tables::NAME, r, fx);
-        r += 1;
     }
 }
 
@@ -272,12 +250,10 @@ fn count_free(
     ensures { Counted (Free w.now (excuses_of src.now c t4.now t6.now) (named names.now z)) z.count result }
 {
     let mut found = 0;
-    let mut row = 0;
-    while row < z.count {
+    for row in 0..z.count {
         if is_listed(w, src, c, names, z, t4, t6, row, fx) {
             found += 1;
         }
-        row += 1;
     }
     found
 }
@@ -325,12 +301,10 @@ fn write_free(
     ensures { Written (Free w.now (excuses_of src.now c t4.now t6.now) (named names.now z)) z.kind z.count at result out.old out.new }
 {
     let mut next = at;
-    let mut row = 0;
-    while row < z.count {
+    for row in 0..z.count {
         if write_one(out, next, w, src, c, names, z, t4, t6, row, fx) {
             next += 1;
         }
-        row += 1;
     }
     next
 }
@@ -372,8 +346,8 @@ fn write_by(
     write_free(out, at, w, src, c, names, z, t4, t6, fx)
 }
 
-// With few slots, which are soon cleared, and with slots for every grammar that is read.
-fn count_few(
+// The same with `N` slots: few are soon cleared, many do for every grammar that is read.
+fn count_in<const N: usize>(
     w: &[u32],
     src: &[u8],
     c: Counts,
@@ -382,30 +356,14 @@ fn count_few(
     t4: &[u32],
     t6: &[u32],
 ) -> usize
-    requires { z.base < 2 ^ 40 }
+    requires { (z.base < 2 ^ 40) × (N < 2 ^ 40) }
     ensures { Counted (Free w.now (excuses_of src.now c t4.now t6.now) (named names.now z)) z.count result }
 {
-    let mut fx = [0u16; finder::FEW_SLOTS];
+    let mut fx = [0u16; N];
     count_by(w, src, c, names, z, t4, t6, &mut fx)
 }
 
-fn count_many(
-    w: &[u32],
-    src: &[u8],
-    c: Counts,
-    names: &[u32],
-    z: Sort,
-    t4: &[u32],
-    t6: &[u32],
-) -> usize
-    requires { z.base < 2 ^ 40 }
-    ensures { Counted (Free w.now (excuses_of src.now c t4.now t6.now) (named names.now z)) z.count result }
-{
-    let mut fx = [0u16; finder::MANY_SLOTS];
-    count_by(w, src, c, names, z, t4, t6, &mut fx)
-}
-
-fn write_few(
+fn write_in<const N: usize>(
     out: &mut [u32],
     at: usize,
     w: &[u32],
@@ -416,28 +374,10 @@ fn write_few(
     t4: &[u32],
     t6: &[u32],
 ) -> usize
-    requires { (z.base < 2 ^ 40) × Room (Free w.now (excuses_of src.now c t4.now t6.now) (named names.now z)) z.count at out.old }
+    requires { (z.base < 2 ^ 40) × (N < 2 ^ 40) × Room (Free w.now (excuses_of src.now c t4.now t6.now) (named names.now z)) z.count at out.old }
     ensures { Written (Free w.now (excuses_of src.now c t4.now t6.now) (named names.now z)) z.kind z.count at result out.old out.new }
 {
-    let mut fx = [0u16; finder::FEW_SLOTS];
-    write_by(out, at, w, src, c, names, z, t4, t6, &mut fx)
-}
-
-fn write_many(
-    out: &mut [u32],
-    at: usize,
-    w: &[u32],
-    src: &[u8],
-    c: Counts,
-    names: &[u32],
-    z: Sort,
-    t4: &[u32],
-    t6: &[u32],
-) -> usize
-    requires { (z.base < 2 ^ 40) × Room (Free w.now (excuses_of src.now c t4.now t6.now) (named names.now z)) z.count at out.old }
-    ensures { Written (Free w.now (excuses_of src.now c t4.now t6.now) (named names.now z)) z.kind z.count at result out.old out.new }
-{
-    let mut fx = [0u16; finder::MANY_SLOTS];
+    let mut fx = [0u16; N];
     write_by(out, at, w, src, c, names, z, t4, t6, &mut fx)
 }
 
@@ -463,9 +403,9 @@ fn count_sort(
     ensures { Counted (Free w.now (excuses_of src.now c t4.now t6.now) (named names.now z)) z.count result }
 {
     if excuse_count(c) <= FEW_EXCUSES {
-        return count_few(w, src, c, names, z, t4, t6);
+        return count_in::<{ finder::FEW_SLOTS }>(w, src, c, names, z, t4, t6);
     }
-    count_many(w, src, c, names, z, t4, t6)
+    count_in::<{ finder::MANY_SLOTS }>(w, src, c, names, z, t4, t6)
 }
 
 fn write_sort(
@@ -483,9 +423,9 @@ fn write_sort(
     ensures { Written (Free w.now (excuses_of src.now c t4.now t6.now) (named names.now z)) z.kind z.count at result out.old out.new }
 {
     if excuse_count(c) <= FEW_EXCUSES {
-        return write_few(out, at, w, src, c, names, z, t4, t6);
+        return write_in::<{ finder::FEW_SLOTS }>(out, at, w, src, c, names, z, t4, t6);
     }
-    write_many(out, at, w, src, c, names, z, t4, t6)
+    write_in::<{ finder::MANY_SLOTS }>(out, at, w, src, c, names, z, t4, t6)
 }
 
 // Whether more rows are to be listed than there is room for. Where every row has room none is counted.
@@ -521,16 +461,16 @@ fn list_unused(
     t4: &[u32],
     t6: &[u32],
     t7: &[u32],
-) -> Listing
+) -> Result<usize, ListingError>
     ensures { ByBits w.now (excuses_of src.now c t4.now t6.now) (named t7.now (rule_sort c)) (named t1.now (token_sort c)) result out.old out.new }
 {
     tables::zero(out);
     if is_crowded(out.len() / 2, w, src, c, t1, t4, t6, t7) {
-        return Listing::NoRoom;
+        return Err(ListingError::NoRoom);
     }
     let at = write_sort(out, 0, w, src, c, t7, reach::rule_sort(c), t4, t6);
     let all = write_sort(out, at, w, src, c, t1, reach::token_sort(c), t4, t6);
-    Listing::Unused(all)
+    Ok(all)
 }
 
 // The list behind a marking. Where the report has no room for it the work bits are zero too.
@@ -543,20 +483,14 @@ fn list_marked(
     t4: &[u32],
     t6: &[u32],
     t7: &[u32],
-) -> Listing
+) -> Result<usize, ListingError>
     ensures { ByBits work.old (excuses_of src.now c t4.now t6.now) (named t7.now (rule_sort c)) (named t1.now (token_sort c)) result out.old out.new × BitsLeft result work.old work.new }
 {
     let l = list_unused(out, work, src, c, t1, t4, t6, t7);
-    match l {
-        Listing::NoRoom => {
-            tables::zero(work);
-            l
-        }
-        Listing::Unused(_) => l,
-        Listing::OfUnsound => l,
-        Listing::OfInvalid(_) => l,
-        Listing::NoWords => l,
+    if let Err(ListingError::NoRoom) = l {
+        tables::zero(work);
     }
+    l
 }
 
 // A bit for each row that is used, without the list; 44 and validate's number come first, and a refusal leaves zeros.
@@ -577,24 +511,24 @@ pub fn mark(
     i1: &[u32],
     i7: &[u32],
     work: &mut [u32],
-) -> Marking
-    ensures { MarkedBits src.now c g (record { t1 = t1.entry.now; t2 = t2.now; t3 = t3.now; t4 = t4.now; t5 = t5.now; t6 = t6.now; t7 = t7.now; t8 = t8.now; t9 = t9.now; t10 = t10.now }) (record { tokens = i1.now; rules = i7.now }) result work.old work.new }
+) -> Result<(), MarkingError>
+    ensures { MarkedBits src.now c g (record { t1 = t1.now; t2 = t2.now; t3 = t3.now; t4 = t4.now; t5 = t5.now; t6 = t6.now; t7 = t7.now; t8 = t8.now; t9 = t9.now; t10 = t10.now }) (record { tokens = i1.now; rules = i7.now }) result work.old work.new }
 {
     match validator::validate(src, c, g, t1, t2, t3, t4, t5, t6, t7, t8, t9, t10, i1, i7) {
-        Validity::Valid => {
+        Ok(()) => {
             let start = g.start;
             if reach::mark_used(work, src, c, start, t1, t7, t8, t9, i1, i7) {
-                return Marking::AllMarked;
+                return Ok(());
             }
-            Marking::MarksNoWords
+            Err(MarkingError::MarksNoWords)
         }
-        Validity::UnsoundTables => {
+        Err(ValidityError::UnsoundTables) => {
             tables::zero(work);
-            Marking::MarksUnsound
+            Err(MarkingError::MarksUnsound)
         }
-        Validity::Invalid(f) => {
+        Err(ValidityError::Invalid(f)) => {
             tables::zero(work);
-            Marking::MarksInvalid(f)
+            Err(MarkingError::MarksInvalid(f))
         }
     }
 }
@@ -618,24 +552,24 @@ pub fn report(
     i7: &[u32],
     work: &mut [u32],
     out: &mut [u32],
-) -> Listing
-    ensures { Reported src.now c g (record { t1 = t1.entry.now; t2 = t2.now; t3 = t3.now; t4 = t4.now; t5 = t5.now; t6 = t6.now; t7 = t7.now; t8 = t8.now; t9 = t9.now; t10 = t10.now }) (record { tokens = i1.now; rules = i7.now }) result work.old work.new out.old out.new }
+) -> Result<usize, ListingError>
+    ensures { Reported src.now c g (record { t1 = t1.now; t2 = t2.now; t3 = t3.now; t4 = t4.now; t5 = t5.now; t6 = t6.now; t7 = t7.now; t8 = t8.now; t9 = t9.now; t10 = t10.now }) (record { tokens = i1.now; rules = i7.now }) result work.old work.new out.old out.new }
 {
     match mark(
         src, c, g, t1, t2, t3, t4, t5, t6, t7, t8, t9, t10, i1, i7, work,
     ) {
-        Marking::AllMarked => list_marked(work, out, src, c, t1, t4, t6, t7),
-        Marking::MarksUnsound => {
+        Ok(()) => list_marked(work, out, src, c, t1, t4, t6, t7),
+        Err(MarkingError::MarksUnsound) => {
             tables::zero(out);
-            Listing::OfUnsound
+            Err(ListingError::OfUnsound)
         }
-        Marking::MarksInvalid(f) => {
+        Err(MarkingError::MarksInvalid(f)) => {
             tables::zero(out);
-            Listing::OfInvalid(f)
+            Err(ListingError::OfInvalid(f))
         }
-        Marking::MarksNoWords => {
+        Err(MarkingError::MarksNoWords) => {
             tables::zero(out);
-            Listing::NoWords
+            Err(ListingError::NoWords)
         }
     }
 }

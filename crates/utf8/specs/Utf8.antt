@@ -1,10 +1,8 @@
 -- RFC 3629, sections 3 and 4: the well-formed sequences, and the code point of each.
-use Rattle.std.specs.Prelude.{ℕ, zero, suc, ◌+◌, ◌-◌, ◌*◌, ◌<◌, ◌≤◌, List, [], ◌∷◌, true, false, ltb, eqb, length, drop}
+use Rattle.std.specs.Prelude.{ℕ, zero, suc, ◌+◌, ◌-◌, ◌*◌, ◌<◌, ◌≤◌, List, [], ◌∷◌, true, false, ltb, eqb, length, drop, Option, Some, None}
 use Rattle.scan.specs.Scan.{within}
 use Rattle.utf8.specs.declared.Lead.{Lead}
 use Rattle.utf8.specs.declared.Lead.TheVariants.{One, More, Never}
-use Rattle.utf8.specs.declared.Decoded.{Decoded}
-use Rattle.utf8.specs.declared.Decoded.TheVariants.{Point, Bad}
 
 -- RFC 3629, 4, the first octets: 00-7F; C2-DF; E0 (then A0-BF), E1-EC, ED (then 80-9F), EE-EF; F0 (then 90-BF), F1-F3, F4 (then 80-8F).
 unfoldable pub lead_of : ℕ → Lead
@@ -44,40 +42,40 @@ lead_of a =
     ]
 
 -- RFC 3629, 3: n following octets, the next between low and high and the others (UTF8-tail) 80-BF, "leaving 6 bits in each" for the character number v.
-unfoldable pub follow : ℕ → ℕ → ℕ → ℕ → List ℕ → ℕ → Decoded
-follow zero low high v l i = Point v i
-follow (suc n) low high v [] i = Bad
+unfoldable pub follow : ℕ → ℕ → ℕ → ℕ → List ℕ → ℕ → Option (ℕ × ℕ)
+follow zero low high v l i = Some (v, i)
+follow (suc n) low high v [] i = None
 follow (suc n) low high v (b ∷ bs) i =
-    elim (within low high b) [ true ↦ follow n 128 191 (v * 64 + (b - 128)) bs (i + 1) | false ↦ Bad ]
+    elim (within low high b) [ true ↦ follow n 128 191 (v * 64 + (b - 128)) bs (i + 1) | false ↦ None ]
 
 -- RFC 3629, 3: the same following octets, of a whole source from an index on.
-unfoldable pub follow_at : ℕ → ℕ → ℕ → ℕ → List ℕ → ℕ → Decoded
+unfoldable pub follow_at : ℕ → ℕ → ℕ → ℕ → List ℕ → ℕ → Option (ℕ × ℕ)
 follow_at n low high v s i = follow n low high v (drop i s) i
 
 -- RFC 3629, 4: "UTF8-char = UTF8-1 / UTF8-2 / UTF8-3 / UTF8-4", by what its first octet says; the octets bs stand behind it.
-unfoldable pub begun : Lead → List ℕ → ℕ → Decoded
-begun (One p) bs i = Point p (i + 1)
+unfoldable pub begun : Lead → List ℕ → ℕ → Option (ℕ × ℕ)
+begun (One p) bs i = Some (p, i + 1)
 begun (More n low high v) bs i = follow n low high v bs (i + 1)
-begun Never bs i = Bad
+begun Never bs i = None
 
 -- RFC 3629, 3, "Decoding a UTF-8 character": the one a list begins with, whose first octet has index i, and the index behind it.
-unfoldable pub decode : List ℕ → ℕ → Decoded
-decode [] i = Bad
+unfoldable pub decode : List ℕ → ℕ → Option (ℕ × ℕ)
+decode [] i = None
 decode (a ∷ bs) i = begun (lead_of a) bs i
 
 -- RFC 3629, 3: the same, of a whole source and an index in it.
-unfoldable pub decode_at : List ℕ → ℕ → Decoded
+unfoldable pub decode_at : List ℕ → ℕ → Option (ℕ × ℕ)
 decode_at s i = decode (drop i s) i
 
 -- Document 01's numbers: "0 accepted", with the code point and the index behind it; "40 not UTF-8".
-unfoldable pub numbers : Decoded → List ℕ
-numbers (Point p j) = 0 ∷ p ∷ j ∷ []
-numbers Bad = 40 ∷ []
+unfoldable pub numbers : Option (ℕ × ℕ) → List ℕ
+numbers (Some (p, j)) = 0 ∷ p ∷ j ∷ []
+numbers None = 40 ∷ []
 
 -- Document 01: "All places are byte offsets, half open": a code point has at least one byte and lies in the source.
-abbrev pub Decodes : List ℕ → ℕ → Decoded → Type 0
-Decodes s i (Point p j) = (i < j) × (j ≤ length s)
-Decodes s i Bad = Unit {0}
+abbrev pub Decodes : List ℕ → ℕ → Option (ℕ × ℕ) → Type 0
+Decodes s i (Some (p, j)) = (i < j) × (j ≤ length s)
+Decodes s i None = Unit {0}
 
 -- RFC 3629, 3: "Up to 21 bits may be needed": how large v may be where n octets still follow.
 abbrev pub cap : ℕ → ℕ

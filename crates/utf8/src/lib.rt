@@ -13,14 +13,6 @@ pub enum Lead {
     Never,
 }
 
-#[derive(Clone, Copy)]
-pub enum Decoded {
-    // The code point, and the index behind it.
-    Point(u32, usize),
-    // No well-formed sequence begins here.
-    Bad,
-}
-
 // Unicode White_Space, line by line as PropList.txt has it.
 pub fn is_white(p: u32) -> bool
     ensures { result ≡ is_white p }
@@ -55,7 +47,7 @@ pub fn is_white(p: u32) -> bool
 // The rows of RFC 3629's syntax, by their first byte.
 pub fn lead_of(a: u8) -> Lead
     ensures value { result ≡ lead_of a }
-    ensures Fitting { Fitting result }
+    ensures fitting { Fitting result }
 {
     if a < 128 {
         return Lead::One(a as u32);
@@ -87,33 +79,34 @@ pub fn lead_of(a: u8) -> Lead
     Lead::Never
 }
 
-// The code point that begins at `i`.
-pub fn decode(s: &[u8], i: usize) -> Decoded
+// The code point that begins at `i`, and the index behind it; none where no well-formed sequence begins.
+pub fn decode(s: &[u8], i: usize) -> Option<(u32, usize)>
     ensures value { result ≡ decode_at s.now i }
     ensures decodes { Decodes s.now i result }
 {
     if s.len() <= i {
-        return Decoded::Bad;
+        return None;
     }
     let a = s[i];
     match lead_of(a) {
-        Lead::One(p) => Decoded::Point(p, i + 1),
+        Lead::One(p) => Some((p, i + 1)),
         Lead::More(count, low, high, bits) => {
             let mut j = i + 1;
             let mut n = count;
             let mut lo = low;
             let mut hi = high;
             let mut v = bits;
+            // by hand: over a slice or a range of the bytes that follow the same loop takes longer, as measured
             while 0 < n {
                 if s.len() <= j {
-                    return Decoded::Bad;
+                    return None;
                 }
                 let b = s[j];
                 if b < lo {
-                    return Decoded::Bad;
+                    return None;
                 }
                 if hi < b {
-                    return Decoded::Bad;
+                    return None;
                 }
                 v = v * 64 + (b - 128) as u32;
                 lo = 128;
@@ -121,8 +114,8 @@ pub fn decode(s: &[u8], i: usize) -> Decoded
                 n -= 1;
                 j += 1;
             }
-            Decoded::Point(v, j)
+            Some((v, j))
         }
-        Lead::Never => Decoded::Bad,
+        Lead::Never => None,
     }
 }

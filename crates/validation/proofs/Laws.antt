@@ -1,4 +1,5 @@
 -- What the functions' proofs cite: what is left of a definition behind each test, and the tests put together. Assumes nothing.
+use Rattle.std.specs.Prelude.{Option, Some, None, Ok, Err}
 use Prim.Native.Nat.{ℕ, zero, suc, ◌+◌, ◌-◌, ◌≤◌, ◌<◌}
 use mathlib.Core.Path.{◌≡◌, refl, sym, ◌∙◌}
 use mathlib.Core.List.{List, [], ◌∷◌, ◌++◌, append_assoc}
@@ -8,7 +9,6 @@ use borrow.Author.Tests.{eq-eqb, ne_eqb, not-true, not-false}
 use lib.Dec.{eqb}
 use Rattle.tables.specs.Table.{cell, find_name, zeroed}
 use Rattle.tables.specs.Layout.{tokens, precedences, implicit, epps, unused, rules, productions, symbols, key_name, kind_name, rule_row, symbols_from, symbols_to, known_row, no_row, width}
-use Rattle.tables.specs.declared.Found.{Found}
 use Rattle.tables.proofs.Cases.{find_cases}
 use Rattle.tables.proofs.Ends.{chained_inside}
 use Rattle.symbols.specs.Symbols.{row_number, lexicon, named_row, row_for, Knows}
@@ -16,24 +16,19 @@ use Rattle.links.specs.Links.{is_of_rule}
 use Rattle.grammar.specs.Sound.{Tables, Indexes, Sound}
 use Rattle.grammar.specs.declared.Counts.{Counts}
 use Rattle.grammar.specs.declared.Singles.{Singles}
-use Rattle.grammar.specs.declared.Part.{Part}
-use Rattle.grammar.specs.declared.Part.TheVariants.{Absent, At}
 use Rattle.productions.specs.Cells.{cell_of, production_at}
 use Rattle.productions.specs.declared.Production.{Production}
-use Rattle.productions.specs.declared.Prec.{Prec}
-use Rattle.productions.specs.declared.Prec.TheVariants.{PrecAt}
 use Rattle.sound.specs.Test.{count_at, sound_test}
 use Rattle.sound.proofs.Iff.{sound_iff}
 use Rattle.validation.specs.Faults.{first, upto, unless, is_row, known, start_faults, prec_given, prec_faults, name_faults, kind_faults, kinds_faults, production_faults, of_rule, rules_faults, epp_faults, epps_faults, faults, validity}
 use Rattle.validation.specs.Walk.{SymbolsKnown, Walkable, symbol_faults, symbols_faults, failing, AllFaults, all_faults, fault_listing}
-use Rattle.validation.specs.declared.Test.TheVariants.{Failed}
 use Rattle.validation.specs.declared.Flaw.{Flaw}
 use Rattle.validation.specs.declared.Flaw.TheVariants.{NoStartRule, InvalidStartRule, UnknownRuleRef, UnknownTokenRef, UnknownEppKey}
-use Rattle.validation.specs.declared.FaultListing.TheVariants.{FaultsUnsound}
-use Rattle.validation.specs.declared.Validity.TheVariants.{Valid, UnsoundTables}
+use Rattle.validation.specs.declared.FaultsError.TheVariants.{FaultsUnsound}
+use Rattle.validation.specs.declared.ValidityError.TheVariants.{UnsoundTables}
 
 -- nothing is first of no faults alone
-pub first_none : (xs : List Flaw) → first xs ≡ Valid → xs ≡ []
+pub first_none : (xs : List Flaw) → first xs ≡ Ok tt → xs ≡ []
 first_none [] e = refl
 first_none (x ∷ xs) e = let z : ◌≡◌ {A = ℕ} 0 1 = cc in absurd (omega arith)
 
@@ -44,19 +39,19 @@ upto_same zero f g h = refl
 upto_same (suc n) f g h = rw (upto_same n f g (λ i l. h i (omega arith)), h n (omega arith))
 
 -- a name among the rows
-pub known_is : (src t : List ℕ) (w n a b : ℕ) (f g : Found) → f ≡ find_name src w 0 n t a b → f ≡ g → is_row g ≡ known src t w n a b
+pub known_is : (src t : List ℕ) (w n a b : ℕ) (f g : Option ℕ) → f ≡ find_name src w 0 n t a b → f ≡ g → is_row g ≡ known src t w n a b
 unfolding known
 known_is src t w n a b f g e h = rw (← e, h)
 
 -- the start rule, a `%prec` and a symbol, behind the tests of their names
-pub start_none : (src t7 : List ℕ) (n : ℕ) (p : Part) → p ≡ Absent → failing (Failed NoStartRule) ≡ start_faults src p t7 n
+pub start_none : (src t7 : List ℕ) (n : ℕ) (p : Option (ℕ × ℕ)) → p ≡ None → failing (Err NoStartRule) ≡ start_faults src p t7 n
 start_none src t7 n p h = rw h
 
 module _ (src : List ℕ) (n a b : ℕ) (q k : Bool) where
-  pub start_at : (t7 : List ℕ) (p : Part) → p ≡ At a b → q ≡ known src t7 (width rules) n a b → q ≡ k → unless k (InvalidStartRule a b) ≡ start_faults src p t7 n
+  pub start_at : (t7 : List ℕ) (p : Option (ℕ × ℕ)) → p ≡ Some (a, b) → q ≡ known src t7 (width rules) n a b → q ≡ k → unless k (InvalidStartRule a b) ≡ start_faults src p t7 n
   start_at t7 p h e f = rw (h, ← e, f)
 
-  pub prec_at : (t1 t2 : List ℕ) (m : ℕ) (p : Prec) (r l : Bool) → p ≡ PrecAt a b → q ≡ known src t1 (width tokens) n a b → q ≡ k → r ≡ known src t2 (width precedences) m a b → r ≡ l → prec_given k l a b ≡ prec_faults src p t1 n t2 m
+  pub prec_at : (t1 t2 : List ℕ) (m : ℕ) (p : Option (ℕ × ℕ)) (r l : Bool) → p ≡ Some (a, b) → q ≡ known src t1 (width tokens) n a b → q ≡ k → r ≡ known src t2 (width precedences) m a b → r ≡ l → prec_given k l a b ≡ prec_faults src p t1 n t2 m
   prec_at t1 t2 m p r l h e f i j = rw (h, ← e, f, ← i, j)
 
   pub name_token : (t1 t7 : List ℕ) (kind m : ℕ) → (kind ≡ 1 → ⊥) → q ≡ known src t1 (width tokens) n a b → q ≡ k → unless k (UnknownTokenRef a b) ≡ name_faults src kind a b t1 n t7 m
@@ -76,7 +71,7 @@ module _ (src : List ℕ) (n a b : ℕ) (q k : Bool) where
 told_row : (src : List ℕ) (w n : ℕ) (t : List ℕ) (a b : ℕ) → n ≤ no_row → (f : Flaw) → elim (eqb (row_number (find_name src w 0 n t a b)) no_row) [ true ↦ f ∷ [] | false ↦ [] ] ≡ unless (known src t w n a b) f
 unfolding known
 told_row src w n t a b h f =
-    find_cases (λ (o : Found). elim (eqb (row_number o) no_row) [ true ↦ f ∷ [] | false ↦ [] ] ≡ unless (is_row o) f) src w 0 n t a b
+    find_cases (λ (o : Option ℕ). elim (eqb (row_number o) no_row) [ true ↦ f ∷ [] | false ↦ [] ] ≡ unless (is_row o) f) src w 0 n t a b
     (λ r l x before. rw (ne_eqb r no_row (λ y. omega arith)))
     (λ none. refl)
 
@@ -134,7 +129,7 @@ module _ (t8 : List ℕ) (k r : ℕ) (fs : List Flaw) where
 
 -- the tests in two halves, behind the counts of the tables
 module _ (src : List ℕ) (c : Counts) (n1 n7 : ℕ) (h1 : n1 ≡ count_at c tokens) (h7 : n7 ≡ count_at c rules) where
-  pub start_rules_are : (t1 t2 t7 t8 t9 : List ℕ) (p : Part) (n2 n8 : ℕ) → n2 ≡ count_at c precedences → n8 ≡ count_at c productions → (fs : List Flaw) → fs ≡ start_faults src p t7 n7 → fs ++ rules_faults src t1 n1 t2 n2 t7 n7 t8 t9 n8 ≡ start_faults src p t7 (count_at c rules) ++ rules_faults src t1 (count_at c tokens) t2 (count_at c precedences) t7 (count_at c rules) t8 t9 (count_at c productions)
+  pub start_rules_are : (t1 t2 t7 t8 t9 : List ℕ) (p : Option (ℕ × ℕ)) (n2 n8 : ℕ) → n2 ≡ count_at c precedences → n8 ≡ count_at c productions → (fs : List Flaw) → fs ≡ start_faults src p t7 n7 → fs ++ rules_faults src t1 n1 t2 n2 t7 n7 t8 t9 n8 ≡ start_faults src p t7 (count_at c rules) ++ rules_faults src t1 (count_at c tokens) t2 (count_at c precedences) t7 (count_at c rules) t8 t9 (count_at c productions)
   start_rules_are t1 t2 t7 t8 t9 p n2 n8 h2 h8 fs e = rw (e, h1, h2, h7, h8)
 
   pub epps_unused_are : (t1 t4 t5 t6 t7 : List ℕ) (n4 n5 n6 : ℕ) → n4 ≡ count_at c implicit → n5 ≡ count_at c epps → n6 ≡ count_at c unused → epps_faults src t1 n1 t4 n4 t5 n5 ++ kinds_faults src (width unused) t6 t1 n1 t7 n7 0 n6 ≡ epps_faults src t1 (count_at c tokens) t4 (count_at c implicit) t5 (count_at c epps) ++ kinds_faults src (width unused) t6 t1 (count_at c tokens) t7 (count_at c rules) 0 (count_at c unused)
@@ -159,7 +154,7 @@ module _ (src : List ℕ) (c : Counts) (g : Singles) where
     pub tested_walkable : not q ≡ false → Walkable src c T.t1 T.t7 T.t8 T.t9 X.rules
     tested_walkable h = sound_walkable src c g T X ((sound_iff src c g T X).0 (sym e ∙ not-false q h))
 
-    pub unsound : not q ≡ true → UnsoundTables ≡ validity src c g T X
+    pub unsound : not q ≡ true → Err UnsoundTables ≡ validity src c g T X
     unfolding validity
     unsound h = rw (validity, ← e, not-true q h)
 
@@ -168,7 +163,7 @@ module _ (src : List ℕ) (c : Counts) (g : Singles) where
     sound h = rw (validity, ← e, not-false q h)
 
     -- the list of all faults
-    pub listing_unsound : (t u : List ℕ) → u ≡ zeroed t → not q ≡ true → ◌≡◌ {A = AllFaults} (record { answer = FaultsUnsound; cells = u }) (fault_listing src c g T X t)
+    pub listing_unsound : (t u : List ℕ) → u ≡ zeroed t → not q ≡ true → ◌≡◌ {A = AllFaults} (record { answer = Err FaultsUnsound; cells = u }) (fault_listing src c g T X t)
     unfolding fault_listing
     listing_unsound t u z h = rw (fault_listing, ← e, not-true q h, z)
 

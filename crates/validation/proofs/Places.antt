@@ -1,4 +1,5 @@
 -- The place of every fault of sound tables lies in the source. Assumes nothing.
+use Rattle.std.specs.Prelude.{Option, Some, None, Err}
 use Prim.Native.Nat.{ℕ, zero, suc, ◌+◌, ◌-◌, ◌≤◌, ◌<◌}
 use mathlib.Core.Path.{◌≡◌, refl}
 use mathlib.Core.List.{List, [], ◌∷◌, ◌++◌}
@@ -14,13 +15,9 @@ use Rattle.tables.specs.Layout.{tokens, precedences, implicit, epps, unused, rul
 use Rattle.tables.proofs.Ends.{chained_inside}
 use Rattle.tables.proofs.Rows.{row_cell}
 use Rattle.grammar.specs.declared.Counts.{Counts}
-use Rattle.grammar.specs.declared.Part.{Part}
-use Rattle.grammar.specs.declared.Part.TheVariants.{Absent, At}
 use Rattle.grammar.specs.declared.Singles.{Singles}
 use Rattle.grammar.specs.State.{Passed}
 use Rattle.grammar.specs.Sound.{Tables, Indexes, Given, Lies, Sound}
-use Rattle.productions.specs.declared.Prec.{Prec}
-use Rattle.productions.specs.declared.Prec.TheVariants.{NoPrec, PrecAt}
 use Rattle.productions.specs.Cells.{cell_of, prec_of, production_at}
 use Rattle.sound.specs.Test.{count_at}
 use Rattle.sound.proofs.Iff.{sound_iff}
@@ -28,7 +25,7 @@ use Rattle.validation.specs.Faults.{flaw_numbers, upto, unless, known, start_fau
 use Rattle.validation.specs.Places.{FaultInside, FaultsInside}
 use Rattle.validation.specs.declared.Flaw.{Flaw}
 use Rattle.validation.specs.declared.Flaw.TheVariants.{NoStartRule, InvalidStartRule, UnknownRuleRef, UnknownTokenRef, UnknownPrecToken, NoPrecForToken, UnknownEppKey}
-use Rattle.validation.specs.declared.Validity.TheVariants.{Invalid}
+use Rattle.validation.specs.declared.ValidityError.TheVariants.{Invalid}
 use Rattle.validation.proofs.Order.{validity_flaw}
 
 -- ---- lists of faults
@@ -54,26 +51,26 @@ module _ (src : List ℕ) where
 -- ---- the tests one by one
 
 -- a `%prec` name's place
-abbrev LiesPrec : List ℕ → Prec → Type 0
-LiesPrec src NoPrec = Unit {0}
-LiesPrec src (PrecAt a b) = Passed src a b
+abbrev LiesPrec : List ℕ → Option (ℕ × ℕ) → Type 0
+LiesPrec src None = Unit {0}
+LiesPrec src (Some (a, b)) = Passed src a b
 
 prec_lies : (src : List ℕ) (f a b : ℕ) → Given src f a b → LiesPrec src (prec_of f a b)
 unfolding prec_of
 prec_lies src f a b g = go (eqb f 1) refl
   where
-    go : (q : Bool) → eqb f 1 ≡ q → LiesPrec src (elim q [ true ↦ PrecAt a b | false ↦ NoPrec ])
+    go : (q : Bool) → eqb f 1 ≡ q → LiesPrec src (elim q [ true ↦ Some (a, b) | false ↦ None ])
     go true e = ⊎_elim (λ x. let z = eqb-true f 1 e in let y = x.0 in absurd (omega arith)) (λ x. x.1) g
     go false e = tt
 
 module _ (src : List ℕ) where
-  start_inside : (t7 : List ℕ) (p : Part) (n : ℕ) → Lies src p → FaultsInside src (start_faults src p t7 n)
-  start_inside t7 Absent n l = (record { onward = omega arith; inside = omega arith }, tt)
-  start_inside t7 (At a b) n l = each_unless src (known src t7 (width rules) n a b) (InvalidStartRule a b) l
+  start_inside : (t7 : List ℕ) (p : Option (ℕ × ℕ)) (n : ℕ) → Lies src p → FaultsInside src (start_faults src p t7 n)
+  start_inside t7 None n l = (record { onward = omega arith; inside = omega arith }, tt)
+  start_inside t7 (Some (a, b)) n l = each_unless src (known src t7 (width rules) n a b) (InvalidStartRule a b) l
 
-  prec_inside : (t1 t2 : List ℕ) (p : Prec) (n m : ℕ) → LiesPrec src p → FaultsInside src (prec_faults src p t1 n t2 m)
-  prec_inside t1 t2 NoPrec n m l = tt
-  prec_inside t1 t2 (PrecAt a b) n m l = go (known src t1 (width tokens) n a b) (known src t2 (width precedences) m a b)
+  prec_inside : (t1 t2 : List ℕ) (p : Option (ℕ × ℕ)) (n m : ℕ) → LiesPrec src p → FaultsInside src (prec_faults src p t1 n t2 m)
+  prec_inside t1 t2 None n m l = tt
+  prec_inside t1 t2 (Some (a, b)) n m l = go (known src t1 (width tokens) n a b) (known src t2 (width precedences) m a b)
     where
       go : (q k : Bool) → FaultsInside src (prec_given q k a b)
       go false k = (l, tt)
@@ -137,7 +134,7 @@ module _ (src : List ℕ) (c : Counts) (g : Singles) (T : Tables) (X : Indexes) 
           (kinds_inside src T.t1 T.t7 T.t9 (width symbols) (count_at c tokens) (count_at c rules) _ _ (λ k h. symbol k (omega (arith, i, h))))
 
   -- so that validation's answer is at 0..0 or at a place of the source
-  pub flaw_inside : (f : Flaw) → validity src c g T X ≡ Invalid f → (length src ≤ 65536) × Passed src (get_or (flaw_numbers f) 1 0) (get_or (flaw_numbers f) 2 0)
+  pub flaw_inside : (f : Flaw) → validity src c g T X ≡ Err (Invalid f) → (length src ≤ 65536) × Passed src (get_or (flaw_numbers f) 1 0) (get_or (flaw_numbers f) 2 0)
   flaw_inside f e =
       let v = (validity_flaw src c g T X f).0 e in
       let s = (sound_iff src c g T X).0 v.0 in

@@ -1,4 +1,5 @@
 -- The list of all faults against validation, how long it can be, and that its contract allows one outcome. Assumes nothing.
+use Rattle.std.specs.Prelude.{Option, Some, None, Result, Ok, Err}
 use Prim.Native.Nat.{ℕ, zero, suc, ◌+◌, ◌*◌, ◌-◌, ◌≤◌, ◌<◌}
 use mathlib.Core.Path.{◌≡◌, refl, sym, ap, ◌∙◌}
 use mathlib.Core.List.{List, [], ◌∷◌, ◌++◌}
@@ -14,12 +15,8 @@ use Rattle.tables.specs.Rows.{end_before, Chained}
 use Rattle.tables.specs.Layout.{tokens, precedences, implicit, epps, unused, rules, productions, symbols, key_name, rule_row, symbols_from, symbols_to, width, fault_width}
 use Rattle.tables.proofs.Rows.{row_cell}
 use Rattle.grammar.specs.declared.Counts.{Counts}
-use Rattle.grammar.specs.declared.Part.{Part}
-use Rattle.grammar.specs.declared.Part.TheVariants.{Absent, At}
 use Rattle.grammar.specs.declared.Singles.{Singles}
 use Rattle.grammar.specs.Sound.{Tables, Indexes}
-use Rattle.productions.specs.declared.Prec.{Prec}
-use Rattle.productions.specs.declared.Prec.TheVariants.{NoPrec, PrecAt}
 use Rattle.productions.specs.Cells.{cell_of, production_at}
 use Rattle.sound.specs.Test.{count_at, sound_test}
 use Rattle.sound.proofs.Iff.{sound_iff}
@@ -27,9 +24,9 @@ use Rattle.validation.specs.Faults.{flaw_number, flaw_numbers, first, upto, unle
 use Rattle.validation.specs.Walk.{AllFaults, all_faults, all_faults_if, fault_listing, tests_of}
 use Rattle.validation.specs.declared.Flaw.{Flaw}
 use Rattle.validation.specs.declared.Flaw.TheVariants.{NoStartRule, InvalidStartRule, UnknownRuleRef, UnknownTokenRef, UnknownPrecToken, NoPrecForToken, UnknownEppKey}
-use Rattle.validation.specs.declared.Validity.{Validity}
-use Rattle.validation.specs.declared.Validity.TheVariants.{Valid, UnsoundTables, Invalid}
-use Rattle.validation.specs.declared.FaultListing.TheVariants.{Faulted, FaultsUnsound}
+use Rattle.validation.specs.declared.ValidityError.{ValidityError}
+use Rattle.validation.specs.declared.ValidityError.TheVariants.{UnsoundTables, Invalid}
+use Rattle.validation.specs.declared.FaultsError.TheVariants.{FaultsUnsound}
 
 -- ---- how long the list can be
 
@@ -38,13 +35,13 @@ unless_one : (b : Bool) (f : Flaw) → length (unless b f) ≤ 1
 unless_one true f = omega arith
 unless_one false f = omega arith
 
-start_most : (src t7 : List ℕ) (p : Part) (n : ℕ) → length (start_faults src p t7 n) ≤ 1
-start_most src t7 Absent n = omega arith
-start_most src t7 (At a b) n = unless_one (known src t7 (width rules) n a b) (InvalidStartRule a b)
+start_most : (src t7 : List ℕ) (p : Option (ℕ × ℕ)) (n : ℕ) → length (start_faults src p t7 n) ≤ 1
+start_most src t7 None n = omega arith
+start_most src t7 (Some (a, b)) n = unless_one (known src t7 (width rules) n a b) (InvalidStartRule a b)
 
-prec_one : (src t1 t2 : List ℕ) (p : Prec) (n m : ℕ) → length (prec_faults src p t1 n t2 m) ≤ 1
-prec_one src t1 t2 NoPrec n m = omega arith
-prec_one src t1 t2 (PrecAt a b) n m = given (known src t1 (width tokens) n a b) (known src t2 (width precedences) m a b)
+prec_one : (src t1 t2 : List ℕ) (p : Option (ℕ × ℕ)) (n m : ℕ) → length (prec_faults src p t1 n t2 m) ≤ 1
+prec_one src t1 t2 None n m = omega arith
+prec_one src t1 t2 (Some (a, b)) n m = given (known src t1 (width tokens) n a b) (known src t2 (width precedences) m a b)
   where
     given : (q k : Bool) → length (prec_given q k a b) ≤ 1
     given false k = omega arith
@@ -151,16 +148,16 @@ module _ (src t1 t2 t7 t8 t9 : List ℕ) (n m l : ℕ) where
 -- ---- the list against validation, by the test of soundness and the faults
 
 abbrev listing : Bool → List Flaw → List ℕ → AllFaults
-listing q fs t = elim q [ true ↦ all_faults fs t | false ↦ record { answer = FaultsUnsound; cells = replicate (length t) 0 } ]
+listing q fs t = elim q [ true ↦ all_faults fs t | false ↦ record { answer = Err FaultsUnsound; cells = replicate (length t) 0 } ]
 
-abbrev outcome : Bool → List Flaw → Validity
-outcome q fs = elim q [ true ↦ first fs | false ↦ UnsoundTables ]
+abbrev outcome : Bool → List Flaw → Result (Unit {0}) ValidityError
+outcome q fs = elim q [ true ↦ first fs | false ↦ Err UnsoundTables ]
 
-clash_some : (b : Bool) (f : Flaw) (fs : List Flaw) (t : List ℕ) → (all_faults_if b (f ∷ fs) t).answer ≡ Faulted 0 → ⊥
+clash_some : (b : Bool) (f : Flaw) (fs : List Flaw) (t : List ℕ) → (all_faults_if b (f ∷ fs) t).answer ≡ Ok 0 → ⊥
 clash_some true f fs t e = let z : suc (length fs) ≡ 0 = cc in omega (arith, z)
 clash_some false f fs t e = let z : ◌≡◌ {A = ℕ} 0 1 = cc in omega arith
 
-none_iff : (q : Bool) (fs : List Flaw) (t : List ℕ) → ((listing q fs t).answer ≡ Faulted 0) ↔ (outcome q fs ≡ Valid)
+none_iff : (q : Bool) (fs : List Flaw) (t : List ℕ) → ((listing q fs t).answer ≡ Ok 0) ↔ (outcome q fs ≡ Ok tt)
 none_iff true [] t = (λ e. refl, λ e. rw (le-leb (0 * fault_width) (length t) (omega arith)))
 none_iff true (f ∷ fs) t = (λ e. absurd (clash_some (leb (length (f ∷ fs) * fault_width) (length t)) f fs t e), λ e. let z : ◌≡◌ {A = ℕ} 0 1 = cc in absurd (omega arith))
 none_iff false fs t = (λ e. let z : ◌≡◌ {A = ℕ} 0 1 = cc in absurd (omega arith), λ e. let z : ◌≡◌ {A = ℕ} 0 1 = cc in absurd (omega arith))
@@ -176,17 +173,17 @@ head_number (UnknownEppKey a b) = refl
 
 -- the first row of a list that has one
 abbrev Leads : Bool → List Flaw → List ℕ → Type 0
-Leads q fs t = (f : Flaw) × (outcome q fs ≡ Invalid f) × (cell fault_width (listing q fs t).cells 0 0 ≡ get_or (flaw_numbers f) 0 0)
+Leads q fs t = (f : Flaw) × (outcome q fs ≡ Err (Invalid f)) × (cell fault_width (listing q fs t).cells 0 0 ≡ get_or (flaw_numbers f) 0 0)
 
-first_of : (q : Bool) (fs : List Flaw) (t : List ℕ) (n : ℕ) → (listing q fs t).answer ≡ Faulted n → 0 < n → Leads q fs t
+first_of : (q : Bool) (fs : List Flaw) (t : List ℕ) (n : ℕ) → (listing q fs t).answer ≡ Ok n → 0 < n → Leads q fs t
 first_of true [] t n e h = none (leb (0 * fault_width) (length t)) e
   where
-    none : (b : Bool) → (all_faults_if b [] t).answer ≡ Faulted n → Leads true [] t
+    none : (b : Bool) → (all_faults_if b [] t).answer ≡ Ok n → Leads true [] t
     none true e = let z : 0 ≡ n = cc in absurd (omega (arith, z))
     none false e = let z : ◌≡◌ {A = ℕ} 0 1 = cc in absurd (omega arith)
 first_of true (f ∷ fs) t n e h = (f, refl, some (leb (length (f ∷ fs) * fault_width) (length t)) e)
   where
-    some : (b : Bool) → (all_faults_if b (f ∷ fs) t).answer ≡ Faulted n → cell fault_width (all_faults_if b (f ∷ fs) t).cells 0 0 ≡ get_or (flaw_numbers f) 0 0
+    some : (b : Bool) → (all_faults_if b (f ∷ fs) t).answer ≡ Ok n → cell fault_width (all_faults_if b (f ∷ fs) t).cells 0 0 ≡ get_or (flaw_numbers f) 0 0
     some true e = head_number f
     some false e = let z : ◌≡◌ {A = ℕ} 0 1 = cc in absurd (omega arith)
 first_of false fs t n e h = let z : ◌≡◌ {A = ℕ} 0 1 = cc in absurd (omega arith)
@@ -216,12 +213,12 @@ module _ (src : List ℕ) (c : Counts) (g : Singles) (T : Tables) (X : Indexes) 
 
   module _ (t : List ℕ) where
     -- "The list is empty exactly when validation accepts."
-    pub faults_none : ((fault_listing src c g T X t).answer ≡ Faulted 0) ↔ (validity src c g T X ≡ Valid)
+    pub faults_none : ((fault_listing src c g T X t).answer ≡ Ok 0) ↔ (validity src c g T X ≡ Ok tt)
     unfolding fault_listing validity
     faults_none = none_iff (sound_test src c g T X) all t
 
     -- "Its first entry has validation's number."
-    pub faults_first : (n : ℕ) → (fault_listing src c g T X t).answer ≡ Faulted n → 0 < n → (f : Flaw) × (validity src c g T X ≡ Invalid f) × (cell fault_width (fault_listing src c g T X t).cells 0 0 ≡ get_or (flaw_numbers f) 0 0)
+    pub faults_first : (n : ℕ) → (fault_listing src c g T X t).answer ≡ Ok n → 0 < n → (f : Flaw) × (validity src c g T X ≡ Err (Invalid f)) × (cell fault_width (fault_listing src c g T X t).cells 0 0 ≡ get_or (flaw_numbers f) 0 0)
     unfolding fault_listing validity
     faults_first = first_of (sound_test src c g T X) all t
 

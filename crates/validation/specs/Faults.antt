@@ -1,23 +1,17 @@
 -- Document 01, "Validation, then use": "Order: start; rules in order, their productions in order, `%prec` (33, then 34), symbols left to right; `%epp` as declared
 -- (a difference); expected unused." Validation is the first of all faults in that order.
-use Rattle.std.specs.Prelude.{ℕ, zero, suc, ◌+◌, ◌-◌, List, [], ◌∷◌, ◌++◌, Bool, true, false, ◌||◌, eqb}
-use Rattle.tables.specs.declared.Found.{Found}
-use Rattle.tables.specs.declared.Found.TheVariants.{RowAt, NoRow}
+use Rattle.std.specs.Prelude.{ℕ, zero, suc, ◌+◌, ◌-◌, List, [], ◌∷◌, ◌++◌, Bool, true, false, ◌||◌, eqb, Option, Some, None, Result, Ok, Err}
 use Rattle.tables.specs.Table.{cell, find_name}
 use Rattle.tables.specs.Layout.{tokens, precedences, implicit, epps, unused, rules, productions, symbols, key_name, rule_row, kind_name, width}
 use Rattle.grammar.specs.declared.Counts.{Counts}
-use Rattle.grammar.specs.declared.Part.{Part}
-use Rattle.grammar.specs.declared.Part.TheVariants.{Absent, At}
 use Rattle.grammar.specs.declared.Singles.{Singles}
 use Rattle.grammar.specs.Sound.{Tables, Indexes}
-use Rattle.productions.specs.declared.Prec.{Prec}
-use Rattle.productions.specs.declared.Prec.TheVariants.{NoPrec, PrecAt}
 use Rattle.productions.specs.Cells.{cell_of, production_at}
 use Rattle.sound.specs.Test.{count_at, sound_test}
 use Rattle.validation.specs.declared.Flaw.{Flaw}
 use Rattle.validation.specs.declared.Flaw.TheVariants.{NoStartRule, InvalidStartRule, UnknownRuleRef, UnknownTokenRef, UnknownPrecToken, NoPrecForToken, UnknownEppKey}
-use Rattle.validation.specs.declared.Validity.{Validity}
-use Rattle.validation.specs.declared.Validity.TheVariants.{Valid, UnsoundTables, Invalid}
+use Rattle.validation.specs.declared.ValidityError.{ValidityError}
+use Rattle.validation.specs.declared.ValidityError.TheVariants.{UnsoundTables, Invalid}
 
 -- "30 NoStartRule, 34 NoPrecForToken"; "31 InvalidStartRule, 32 UnknownRuleRef, 35 UnknownEPP"; "33 UnknownToken"
 abbrev pub flaw_number : Flaw → ℕ
@@ -53,15 +47,15 @@ fault_place (UnknownEppKey a b) = a ∷ b ∷ []
 abbrev pub fault_cells : Flaw → List ℕ
 fault_cells f = flaw_number f ∷ fault_place f
 
-abbrev pub validity_numbers : Validity → List ℕ
-validity_numbers Valid = 0 ∷ 0 ∷ 0 ∷ []
-validity_numbers UnsoundTables = 44 ∷ 0 ∷ 0 ∷ []
-validity_numbers (Invalid f) = flaw_numbers f
+abbrev pub validity_numbers : Result (Unit {0}) ValidityError → List ℕ
+validity_numbers (Ok _) = 0 ∷ 0 ∷ 0 ∷ []
+validity_numbers (Err UnsoundTables) = 44 ∷ 0 ∷ 0 ∷ []
+validity_numbers (Err (Invalid f)) = flaw_numbers f
 
 -- the first of the faults, if there is one
-abbrev pub first : List Flaw → Validity
-first [] = Valid
-first (f ∷ fs) = Invalid f
+abbrev pub first : List Flaw → Result (Unit {0}) ValidityError
+first [] = Ok tt
+first (f ∷ fs) = Err (Invalid f)
 
 -- what a function gives for each number below n, one behind the other
 unfoldable pub upto : ℕ → (ℕ → List Flaw) → List Flaw
@@ -74,26 +68,26 @@ unless true f = []
 unless false f = f ∷ []
 
 -- whether one of the n rows has the name
-abbrev pub is_row : Found → Bool
-is_row (RowAt r) = true
-is_row NoRow = false
+abbrev pub is_row : Option ℕ → Bool
+is_row (Some r) = true
+is_row None = false
 
 unfoldable pub known : List ℕ → List ℕ → ℕ → ℕ → ℕ → ℕ → Bool
 known src t w n a b = is_row (find_name src w 0 n t a b)
 
 -- "30 NoStartRule", "31 InvalidStartRule"
-abbrev pub start_faults : List ℕ → Part → List ℕ → ℕ → List Flaw
-start_faults src Absent t7 n = NoStartRule ∷ []
-start_faults src (At a b) t7 n = unless (known src t7 (width rules) n a b) (InvalidStartRule a b)
+abbrev pub start_faults : List ℕ → Option (ℕ × ℕ) → List ℕ → ℕ → List Flaw
+start_faults src None t7 n = NoStartRule ∷ []
+start_faults src (Some (a, b)) t7 n = unless (known src t7 (width rules) n a b) (InvalidStartRule a b)
 
 -- "`%prec` (33, then 34)": one of the two at most
 abbrev pub prec_given : Bool → Bool → ℕ → ℕ → List Flaw
 prec_given false k a b = UnknownPrecToken a b ∷ []
 prec_given true k a b = unless k (NoPrecForToken a b)
 
-abbrev pub prec_faults : List ℕ → Prec → List ℕ → ℕ → List ℕ → ℕ → List Flaw
-prec_faults src NoPrec t1 n t2 m = []
-prec_faults src (PrecAt a b) t1 n t2 m = prec_given (known src t1 (width tokens) n a b) (known src t2 (width precedences) m a b) a b
+abbrev pub prec_faults : List ℕ → Option (ℕ × ℕ) → List ℕ → ℕ → List ℕ → ℕ → List Flaw
+prec_faults src None t1 n t2 m = []
+prec_faults src (Some (a, b)) t1 n t2 m = prec_given (known src t1 (width tokens) n a b) (known src t2 (width precedences) m a b) a b
 
 -- "1 rule, 2 token": a name of a symbol or of an expected unused one
 unfoldable pub name_faults : List ℕ → ℕ → ℕ → ℕ → List ℕ → ℕ → List ℕ → ℕ → List Flaw
@@ -145,9 +139,9 @@ faults src c g t1 t2 t4 t5 t6 t7 t8 t9 =
     ++ (epps_faults src t1 (count_at c tokens) t4 (count_at c implicit) t5 (count_at c epps) ++ kinds_faults src (width unused) t6 t1 (count_at c tokens) t7 (count_at c rules) 0 (count_at c unused)))
 
 -- "44 unsound tables" first, then the first fault
-unfoldable pub validity : List ℕ → Counts → Singles → Tables → Indexes → Validity
+unfoldable pub validity : List ℕ → Counts → Singles → Tables → Indexes → Result (Unit {0}) ValidityError
 validity src c g T X =
     elim (sound_test src c g T X) [
       | true ↦ first (faults src c g T.t1 T.t2 T.t4 T.t5 T.t6 T.t7 T.t8 T.t9)
-      | false ↦ UnsoundTables
+      | false ↦ Err UnsoundTables
     ]

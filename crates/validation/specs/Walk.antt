@@ -1,6 +1,6 @@
 -- Document 02, request One: "a list of all faults it tests for: number and place, one entry for each test that fails, in validation's own order". The walk over the tests
 -- that writes each fault as a row of table 14, and what the list of all faults gives.
-use Rattle.std.specs.Prelude.{ℕ, ◌+◌, ◌*◌, ◌-◌, ◌/◌, ◌<◌, ◌≤◌, List, [], ◌∷◌, ◌++◌, Bool, true, false, not, ◌||◌, eqb, ltb, leb, length, replicate}
+use Rattle.std.specs.Prelude.{ℕ, ◌+◌, ◌*◌, ◌-◌, ◌/◌, ◌<◌, ◌≤◌, List, [], ◌∷◌, ◌++◌, Bool, true, false, not, ◌||◌, eqb, ltb, leb, length, replicate, Result, Ok, Err}
 use Rattle.tables.specs.Table.{cell, put, zeroed}
 use Rattle.tables.specs.Layout.{tokens, precedences, implicit, rules, productions, symbols, epps, unused, width, fault_width, kind_name, known_row, no_row}
 use Rattle.index.specs.Index.{Indexed}
@@ -14,14 +14,10 @@ use Rattle.sound.specs.Test.{count_at, sound_test}
 use Rattle.validation.specs.Faults.{fault_cells, upto, faults}
 use Rattle.validation.specs.declared.Flaw.{Flaw}
 use Rattle.validation.specs.declared.Flaw.TheVariants.{UnknownRuleRef, UnknownTokenRef}
-use Rattle.validation.specs.declared.Test.{Test}
-use Rattle.validation.specs.declared.Test.TheVariants.{Met, Failed}
-use Rattle.validation.specs.declared.Validity.{Validity}
-use Rattle.validation.specs.declared.Validity.TheVariants.{Valid, Invalid}
-use Rattle.validation.specs.declared.Walk.{Walk}
-use Rattle.validation.specs.declared.Walk.TheVariants.{NextRow, Unwritten}
-use Rattle.validation.specs.declared.FaultListing.{FaultListing}
-use Rattle.validation.specs.declared.FaultListing.TheVariants.{Faulted, FaultsUnsound, FaultsNoRoom}
+use Rattle.validation.specs.declared.ValidityError.{ValidityError}
+use Rattle.validation.specs.declared.ValidityError.TheVariants.{Invalid}
+use Rattle.validation.specs.declared.FaultsError.{FaultsError}
+use Rattle.validation.specs.declared.FaultsError.TheVariants.{FaultsUnsound, FaultsNoRoom}
 
 -- ---- what names are looked up by
 
@@ -76,17 +72,17 @@ symbols_faults t9 from to = upto (to - from) (λ i. symbol_faults t9 (from + i))
 -- ---- the walk: how far it came, and table 14
 
 -- the faults of one test
-abbrev pub failing : Test → List Flaw
-failing Met = []
-failing (Failed f) = f ∷ []
+abbrev pub failing : Result (Unit {0}) Flaw → List Flaw
+failing (Ok _) = []
+failing (Err f) = f ∷ []
 
 -- what validation says of a test that comes first
-abbrev pub verdict : Test → Validity
-verdict Met = Valid
-verdict (Failed f) = Invalid f
+abbrev pub verdict : Result (Unit {0}) Flaw → Result (Unit {0}) ValidityError
+verdict (Ok _) = Ok tt
+verdict (Err f) = Err (Invalid f)
 
 pub record Walked : Type 0 where
-  pub answer : Walk
+  pub answer : Result ℕ Flaw
   pub cells : List ℕ
 
 -- whether row `at` of table 14 is free
@@ -95,8 +91,8 @@ fits at t = ltb at (length t / fault_width)
 
 -- each fault takes the next row; the first that has none ends the walk
 unfoldable pub noted : List Flaw → ℕ → List ℕ → Walked
-noted [] at t = record { answer = NextRow at; cells = t }
-noted (f ∷ fs) at t = elim (fits at t) [ true ↦ noted fs (at + 1) (put t (at * fault_width) (fault_cells f)) | false ↦ record { answer = Unwritten f; cells = t } ]
+noted [] at t = record { answer = Ok at; cells = t }
+noted (f ∷ fs) at t = elim (fits at t) [ true ↦ noted fs (at + 1) (put t (at * fault_width) (fault_cells f)) | false ↦ record { answer = Err f; cells = t } ]
 
 -- ---- the list of all faults
 
@@ -106,13 +102,13 @@ fault_rows [] = []
 fault_rows (f ∷ fs) = fault_cells f ++ fault_rows fs
 
 pub record AllFaults : Type 0 where
-  pub answer : FaultListing
+  pub answer : Result ℕ FaultsError
   pub cells : List ℕ
 
 -- "42 with table 14 and place 0..0; the list is zero after either": all rows and then zeros, or zeros alone
 abbrev pub all_faults_if : Bool → List Flaw → List ℕ → AllFaults
-all_faults_if true fs t = record { answer = Faulted (length fs); cells = fault_rows fs ++ replicate (length t - length fs * fault_width) 0 }
-all_faults_if false fs t = record { answer = FaultsNoRoom; cells = zeroed t }
+all_faults_if true fs t = record { answer = Ok (length fs); cells = fault_rows fs ++ replicate (length t - length fs * fault_width) 0 }
+all_faults_if false fs t = record { answer = Err FaultsNoRoom; cells = zeroed t }
 
 abbrev pub all_faults : List Flaw → List ℕ → AllFaults
 all_faults fs t = all_faults_if (leb (length fs * fault_width) (length t)) fs t
@@ -122,7 +118,7 @@ unfoldable pub fault_listing : List ℕ → Counts → Singles → Tables → In
 fault_listing src c g T X t =
     elim (sound_test src c g T X) [
       | true ↦ all_faults (faults src c g T.t1 T.t2 T.t4 T.t5 T.t6 T.t7 T.t8 T.t9) t
-      | false ↦ record { answer = FaultsUnsound; cells = zeroed t }
+      | false ↦ record { answer = Err FaultsUnsound; cells = zeroed t }
     ]
 
 -- how many tests there are: the start, and one for each production's `%prec`, symbol, `%epp` key and expected unused name
@@ -130,7 +126,7 @@ abbrev pub tests_of : Counts → ℕ
 tests_of c = 1 + (count_at c productions + (count_at c symbols + (count_at c epps + count_at c unused)))
 
 -- number, place, table number and count, as the report answers them
-abbrev pub fault_listing_numbers : FaultListing → List ℕ
-fault_listing_numbers (Faulted n) = 0 ∷ 0 ∷ 0 ∷ 0 ∷ n ∷ []
-fault_listing_numbers FaultsUnsound = 44 ∷ 0 ∷ 0 ∷ 0 ∷ 0 ∷ []
-fault_listing_numbers FaultsNoRoom = 42 ∷ 0 ∷ 0 ∷ 14 ∷ 0 ∷ []
+abbrev pub fault_listing_numbers : Result ℕ FaultsError → List ℕ
+fault_listing_numbers (Ok n) = 0 ∷ 0 ∷ 0 ∷ 0 ∷ n ∷ []
+fault_listing_numbers (Err FaultsUnsound) = 44 ∷ 0 ∷ 0 ∷ 0 ∷ 0 ∷ []
+fault_listing_numbers (Err FaultsNoRoom) = 42 ∷ 0 ∷ 0 ∷ 14 ∷ 0 ∷ []

@@ -9,9 +9,7 @@ ghost use Rattle.sound.specs.Test.{count_at};
 ghost use Rattle.validation.specs.Faults.{fault_cells, known, first, start_faults, prec_faults, name_faults, kind_faults, kinds_faults, production_faults, epp_faults, epps_faults, faults};
 ghost use Rattle.validation.specs.Walk.{RuleNames, PrecNames, SymbolNames, KeyNames, SymbolsKnown, symbol_faults, symbols_faults, failing, Walked, noted};
 
-use grammar::{Counts, Part};
-use productions::Prec;
-use tables::Found;
+use grammar::Counts;
 
 // What a reading lacks, by the place of the name.
 #[derive(Clone, Copy)]
@@ -28,32 +26,13 @@ pub enum Flaw {
 }
 
 #[derive(Clone, Copy)]
-pub enum Validity {
-    Valid,
+pub enum ValidityError {
     UnsoundTables,
     Invalid(Flaw),
 }
 
-// What one test comes to.
 #[derive(Clone, Copy)]
-pub enum Test {
-    Met,
-    Failed(Flaw),
-}
-
-// How far a walk over the tests came.
-#[derive(Clone, Copy)]
-pub enum Walk {
-    // The row of table 14 behind the last that was written.
-    NextRow(usize),
-    // The first fault that has no row.
-    Unwritten(Flaw),
-}
-
-#[derive(Clone, Copy)]
-pub enum FaultListing {
-    // How many faults there are.
-    Faulted(usize),
+pub enum FaultsError {
     FaultsUnsound,
     // Table 14 is too small.
     FaultsNoRoom,
@@ -65,8 +44,8 @@ pub fn is_indexed(src: &[u8], t: &[u32], w: u32, n: u32, ix: &[u32], a: u32, b: 
     ensures { result ≡ known src.now t.now w n a b }
 {
     match index::find(src, t, w, tables::NAME, n, ix, a, b) {
-        Found::RowAt(_) => true,
-        Found::NoRow => false,
+        Some(_) => true,
+        None => false,
     }
 }
 
@@ -76,8 +55,8 @@ pub fn is_led(src: &[u8], t: &[u32], w: u32, n: u32, fx: &[u16], a: u32, b: u32)
     ensures { result ≡ known src.now t.now w n a b }
 {
     match finder::meet(src, t, w, tables::NAME, n, fx, a, b) {
-        Found::RowAt(_) => true,
-        Found::NoRow => false,
+        Some(_) => true,
+        None => false,
     }
 }
 
@@ -115,17 +94,23 @@ pub fn guide_names(src: &[u8], c: Counts, t1: &[u32], t4: &[u32], t7: &[u32], fx
     finder::enter_rows(src, t7, tables::RULE_WIDTH, tables::NAME, rules, fx);
 }
 
-pub fn start_fault(src: &[u8], start: Part, t7: &[u32], rules: u32, i7: &[u32]) -> Test
+pub fn start_fault(
+    src: &[u8],
+    start: Option<(u32, u32)>,
+    t7: &[u32],
+    rules: u32,
+    i7: &[u32],
+) -> Result<(), Flaw>
     requires { RuleNames src.now rules t7.now i7.now }
     ensures { failing result ≡ start_faults src.now start t7.now rules }
 {
     match start {
-        Part::Absent => Test::Failed(Flaw::NoStartRule),
-        Part::At(a, b) => {
+        None => Err(Flaw::NoStartRule),
+        Some((a, b)) => {
             if is_indexed(src, t7, tables::RULE_WIDTH, rules, i7, a, b) {
-                Test::Met
+                Ok(())
             } else {
-                Test::Failed(Flaw::InvalidStartRule(a, b))
+                Err(Flaw::InvalidStartRule(a, b))
             }
         }
     }
@@ -134,26 +119,26 @@ pub fn start_fault(src: &[u8], start: Part, t7: &[u32], rules: u32, i7: &[u32]) 
 // A `%prec` name is a token, and has a precedence.
 pub fn prec_fault(
     src: &[u8],
-    p: Prec,
+    p: Option<(u32, u32)>,
     t1: &[u32],
     tokens: u32,
     t2: &[u32],
     precedences: u32,
     fx: &[u16],
-) -> Test
+) -> Result<(), Flaw>
     requires { PrecNames src.now t1.now tokens t2.now precedences fx.now }
     ensures { failing result ≡ prec_faults src.now p t1.now tokens t2.now precedences }
 {
     match p {
-        Prec::NoPrec => Test::Met,
-        Prec::PrecAt(a, b) => {
+        None => Ok(()),
+        Some((a, b)) => {
             if !is_led(src, t1, tables::TOKEN_WIDTH, tokens, fx, a, b) {
-                return Test::Failed(Flaw::UnknownPrecToken(a, b));
+                return Err(Flaw::UnknownPrecToken(a, b));
             }
             if is_led(src, t2, tables::PRECEDENCE_WIDTH, precedences, fx, a, b) {
-                Test::Met
+                Ok(())
             } else {
-                Test::Failed(Flaw::NoPrecForToken(a, b))
+                Err(Flaw::NoPrecForToken(a, b))
             }
         }
     }
@@ -170,20 +155,20 @@ pub fn name_fault(
     t7: &[u32],
     rules: u32,
     fx: &[u16],
-) -> Test
+) -> Result<(), Flaw>
     requires { SymbolNames src.now t1.now tokens t7.now rules fx.now }
     ensures { failing result ≡ name_faults src.now kind a b t1.now tokens t7.now rules }
 {
     if kind == 1 {
         if is_led(src, t7, tables::RULE_WIDTH, rules, fx, a, b) {
-            return Test::Met;
+            return Ok(());
         }
-        return Test::Failed(Flaw::UnknownRuleRef(a, b));
+        return Err(Flaw::UnknownRuleRef(a, b));
     }
     if is_led(src, t1, tables::TOKEN_WIDTH, tokens, fx, a, b) {
-        return Test::Met;
+        return Ok(());
     }
-    Test::Failed(Flaw::UnknownTokenRef(a, b))
+    Err(Flaw::UnknownTokenRef(a, b))
 }
 
 // Row `r` of table 6.
@@ -196,7 +181,7 @@ pub fn unused_fault(
     t7: &[u32],
     rules: u32,
     fx: &[u16],
-) -> Test
+) -> Result<(), Flaw>
     requires { SymbolNames src.now t1.now tokens t7.now rules fx.now }
     ensures { failing result ≡ kind_faults src.now (width unused) t6.now t1.now tokens t7.now rules r }
 {
@@ -215,19 +200,19 @@ pub fn unused_fault(
 }
 
 // Symbol `s` of table 9 says itself whether there is a row for it.
-pub fn symbol_fault(t9: &[u32], s: u32) -> Test
+pub fn symbol_fault(t9: &[u32], s: u32) -> Result<(), Flaw>
     ensures { failing result ≡ symbol_faults t9.now s }
 {
     let w = tables::SYMBOL_WIDTH;
     if tables::cell(t9, w, s, tables::KNOWN_ROW) != tables::NO_ROW {
-        return Test::Met;
+        return Ok(());
     }
     let a = tables::cell(t9, w, s, 1);
     let b = tables::cell(t9, w, s, 2);
     if tables::cell(t9, w, s, 0) == 1 {
-        return Test::Failed(Flaw::UnknownRuleRef(a, b));
+        return Err(Flaw::UnknownRuleRef(a, b));
     }
-    Test::Failed(Flaw::UnknownTokenRef(a, b))
+    Err(Flaw::UnknownTokenRef(a, b))
 }
 
 // The key of row `r` of table 5 is a token, or an implicit one.
@@ -240,7 +225,7 @@ pub fn epp_fault(
     t5: &[u32],
     r: u32,
     fx: &[u16],
-) -> Test
+) -> Result<(), Flaw>
     requires { KeyNames src.now t1.now tokens t4.now implicit fx.now }
     ensures { failing result ≡ epp_faults src.now t1.now tokens t4.now implicit t5.now r }
 {
@@ -248,12 +233,12 @@ pub fn epp_fault(
     let a = tables::cell(t5, w, r, 2);
     let b = tables::cell(t5, w, r, 3);
     if is_led(src, t1, tables::TOKEN_WIDTH, tokens, fx, a, b) {
-        return Test::Met;
+        return Ok(());
     }
     if is_led(src, t4, tables::NAME_WIDTH, implicit, fx, a, b) {
-        return Test::Met;
+        return Ok(());
     }
-    Test::Failed(Flaw::UnknownEppKey(tables::cell(t5, w, r, 0), tables::cell(t5, w, r, 1)))
+    Err(Flaw::UnknownEppKey(tables::cell(t5, w, r, 0), tables::cell(t5, w, r, 1)))
 }
 
 // A fault as its row of table 14.
@@ -272,22 +257,22 @@ pub fn fault_row(f: Flaw) -> [u32; 3]
 }
 
 // A test's fault becomes row `at` of table 14, where that is free.
-pub fn note(v: Test, at: usize, t14: &mut [u32]) -> Walk
+pub fn note(v: Result<(), Flaw>, at: usize, t14: &mut [u32]) -> Result<usize, Flaw>
     ensures { ◌≡◌ {A = Walked} (record { answer = result; cells = t14.new }) (noted (failing v) at t14.old) }
 {
     match v {
-        Test::Met => Walk::NextRow(at),
-        Test::Failed(f) => {
+        Ok(()) => Ok(at),
+        Err(f) => {
             let w = tables::FAULT_WIDTH as usize;
             if t14.len() / w <= at {
-                return Walk::Unwritten(f);
+                return Err(f);
             }
             let row = fault_row(f);
             let to = at * w;
             t14[to] = row[0];
             t14[to + 1] = row[1];
             t14[to + 2] = row[2];
-            Walk::NextRow(at + 1)
+            Ok(at + 1)
         }
     }
 }
@@ -304,46 +289,34 @@ pub fn note_unused(
     fx: &[u16],
     at: usize,
     t14: &mut [u32],
-) -> Walk
+) -> Result<usize, Flaw>
     requires { SymbolNames src.now t1.now tokens t7.now rules fx.now }
     ensures { ◌≡◌ {A = Walked} (record { answer = result; cells = t14.new }) (noted (kinds_faults src.now (width unused) t6.now t1.now tokens t7.now rules 0 n) at t14.old) }
 {
     let mut next = at;
-    let mut r = 0;
-    while r < n {
+    for r in 0..n {
         let v = unused_fault(src, t6, r, t1, tokens, t7, rules, fx);
-        match note(v, next, t14) {
-            Walk::NextRow(m) => {
-                next = m;
-                r += 1;
-            }
-            Walk::Unwritten(f) => {
-                return Walk::Unwritten(f);
-            }
-        }
+        next = note(v, next, t14)?;
     }
-    Walk::NextRow(next)
+    Ok(next)
 }
 
 // The symbols from `from` up to `to`.
-pub fn note_symbols(t9: &[u32], from: u32, to: u32, at: usize, t14: &mut [u32]) -> Walk
+pub fn note_symbols(
+    t9: &[u32],
+    from: u32,
+    to: u32,
+    at: usize,
+    t14: &mut [u32],
+) -> Result<usize, Flaw>
     ensures { ◌≡◌ {A = Walked} (record { answer = result; cells = t14.new }) (noted (symbols_faults t9.now from to) at t14.old) }
 {
     let mut next = at;
-    let mut s = from;
-    while s < to {
+    for s in from..to {
         let v = symbol_fault(t9, s);
-        match note(v, next, t14) {
-            Walk::NextRow(n) => {
-                next = n;
-                s += 1;
-            }
-            Walk::Unwritten(f) => {
-                return Walk::Unwritten(f);
-            }
-        }
+        next = note(v, next, t14)?;
     }
-    Walk::NextRow(next)
+    Ok(next)
 }
 
 // Row `r` of table 8: its `%prec`, then its symbols. What table 7 has to do with them stands in their rows.
@@ -361,7 +334,7 @@ pub fn note_production(
     at: usize,
     t14: &mut [u32],
     fx: &[u16],
-) -> Walk
+) -> Result<usize, Flaw>
     requires { SymbolsKnown src.now t1.now tokens t7.now rules t8.now t9.now (r + 1) × PrecNames src.now t1.now tokens t2.now precedences fx.now }
     ensures { ◌≡◌ {A = Walked} (record { answer = result; cells = t14.new }) (noted (production_faults src.now t1.now tokens t2.now precedences t7.now rules t8.now t9.now r) at t14.old) }
 {
@@ -369,8 +342,8 @@ pub fn note_production(
     let q = p.prec;
     let v = prec_fault(src, q, t1, tokens, t2, precedences, fx);
     match note(v, at, t14) {
-        Walk::NextRow(n) => note_symbols(t9, p.first, p.last, n, t14),
-        Walk::Unwritten(f) => Walk::Unwritten(f),
+        Ok(n) => note_symbols(t9, p.first, p.last, n, t14),
+        Err(f) => Err(f),
     }
 }
 
@@ -385,25 +358,16 @@ pub fn note_epps(
     fx: &[u16],
     at: usize,
     t14: &mut [u32],
-) -> Walk
+) -> Result<usize, Flaw>
     requires { KeyNames src.now t1.now tokens t4.now implicit fx.now }
     ensures { ◌≡◌ {A = Walked} (record { answer = result; cells = t14.new }) (noted (epps_faults src.now t1.now tokens t4.now implicit t5.now n) at t14.old) }
 {
     let mut next = at;
-    let mut r = 0;
-    while r < n {
+    for r in 0..n {
         let v = epp_fault(src, t1, tokens, t4, implicit, t5, r, fx);
-        match note(v, next, t14) {
-            Walk::NextRow(m) => {
-                next = m;
-                r += 1;
-            }
-            Walk::Unwritten(f) => {
-                return Walk::Unwritten(f);
-            }
-        }
+        next = note(v, next, t14)?;
     }
-    Walk::NextRow(next)
+    Ok(next)
 }
 
 // The `%epp` keys and the expected unused names, the other two, by a finder of their names.
@@ -418,7 +382,7 @@ pub fn note_named(
     fx: &[u16],
     at: usize,
     t14: &mut [u32],
-) -> Walk
+) -> Result<usize, Flaw>
     requires { KeyNames src.now t1.now (count_at c tokens) t4.now (count_at c implicit) fx.now × SymbolNames src.now t1.now (count_at c tokens) t7.now (count_at c rules) fx.now }
     ensures { ◌≡◌ {A = Walked} (record { answer = result; cells = t14.new }) (noted (epps_faults src.now t1.now (count_at c tokens) t4.now (count_at c implicit) t5.now (count_at c epps) ++ kinds_faults src.now (width unused) t6.now t1.now (count_at c tokens) t7.now (count_at c rules) 0 (count_at c unused)) at t14.old) }
 {
@@ -428,7 +392,7 @@ pub fn note_named(
     let unused = sound::rows_of(c, tables::UNUSED);
     let rules = sound::rows_of(c, tables::RULES);
     match note_epps(src, t1, tokens, t4, implicit, t5, epps, fx, at, t14) {
-        Walk::NextRow(n) => note_unused(src, t6, unused, t1, tokens, t7, rules, fx, n, t14),
-        Walk::Unwritten(f) => Walk::Unwritten(f),
+        Ok(n) => note_unused(src, t6, unused, t1, tokens, t7, rules, fx, n, t14),
+        Err(f) => Err(f),
     }
 }

@@ -1,15 +1,15 @@
 // Validation of a reading, and the list of all its faults: the walks over the tests of `validation`.
 #![tactic(auto)]
 
-ghost use Rattle.std.specs.Prelude.{◌≡◌, ◌++◌, ◌+◌, ◌≤◌};
+ghost use Rattle.std.specs.Prelude.{◌≡◌, ◌++◌, ◌+◌, ◌^◌, ◌<◌, ◌≤◌};
 ghost use Rattle.tables.specs.Layout.{tokens, precedences, implicit, epps, unused, rules, productions, width};
 ghost use Rattle.sound.specs.Test.{count_at};
 ghost use Rattle.validation.specs.Faults.{first, start_faults, kinds_faults, production_faults, rule_faults, rules_faults, epps_faults, faults, validity};
 ghost use Rattle.links.specs.Links.{Linked};
 ghost use Rattle.validation.specs.Walk.{PrecNames, SymbolNames, KeyNames, AllNames, looks_up, SymbolsKnown, Walkable, verdict, Walked, noted, AllFaults, fault_listing};
 
-use grammar::{Counts, Part, Singles};
-use validation::{FaultListing, Test, Validity, Walk};
+use grammar::{Counts, Singles};
+use validation::{FaultsError, Flaw, ValidityError};
 
 // Rules and productions that links are kept for: those of a large dialect, and the most that 65,536 bytes can hold.
 const FEW_RULES: usize = 1024;
@@ -51,14 +51,15 @@ pub fn note_rule(
     at: usize,
     t14: &mut [u32],
     fx: &[u16],
-) -> Walk
+) -> Result<usize, Flaw>
     requires { SymbolsKnown src.now t1.now tokens t7.now rules t8.now t9.now n × Linked t8.now 0 n heads.now nexts.now × PrecNames src.now t1.now tokens t2.now precedences fx.now }
     ensures { ◌≡◌ {A = Walked} (record { answer = result; cells = t14.new }) (noted (rule_faults src.now t1.now tokens t2.now precedences t7.now rules t8.now t9.now n k) at t14.old) }
 {
     let mut next = at;
     let mut r = links::first_of(t8, heads, 0, n, k);
+    // by hand: the next row is where the rule's link leads
     while r < n {
-        match validation::note_production(
+        next = validation::note_production(
             src,
             t1,
             tokens,
@@ -72,17 +73,10 @@ pub fn note_rule(
             next,
             t14,
             fx,
-        ) {
-            Walk::NextRow(m) => {
-                next = m;
-                r = links::next_of(t8, nexts, n, r, k);
-            }
-            Walk::Unwritten(f) => {
-                return Walk::Unwritten(f);
-            }
-        }
+        )?;
+        r = links::next_of(t8, nexts, n, r, k);
     }
-    Walk::NextRow(next)
+    Ok(next)
 }
 
 // Rules in order, their productions in order, which are linked.
@@ -102,14 +96,13 @@ pub fn note_linked(
     at: usize,
     t14: &mut [u32],
     fx: &[u16],
-) -> Walk
+) -> Result<usize, Flaw>
     requires { SymbolsKnown src.now t1.now tokens t7.now rules t8.now t9.now n × Linked t8.now 0 n heads.now nexts.now × PrecNames src.now t1.now tokens t2.now precedences fx.now }
     ensures { ◌≡◌ {A = Walked} (record { answer = result; cells = t14.new }) (noted (rules_faults src.now t1.now tokens t2.now precedences t7.now rules t8.now t9.now n) at t14.old) }
 {
     let mut next = at;
-    let mut k = 0;
-    while k < rules {
-        match note_rule(
+    for k in 0..rules {
+        next = note_rule(
             src,
             t1,
             tokens,
@@ -126,21 +119,13 @@ pub fn note_linked(
             next,
             t14,
             fx,
-        ) {
-            Walk::NextRow(m) => {
-                next = m;
-                k += 1;
-            }
-            Walk::Unwritten(f) => {
-                return Walk::Unwritten(f);
-            }
-        }
+        )?;
     }
-    Walk::NextRow(next)
+    Ok(next)
 }
 
-// The same with links for as many rules and productions as a large dialect has.
-pub fn note_few(
+// The same with links that are made first, for `R` rules and `P` productions: as many as a large dialect has, or as a source can have.
+pub fn note_in<const R: usize, const P: usize>(
     src: &[u8],
     t1: &[u32],
     tokens: u32,
@@ -154,53 +139,12 @@ pub fn note_few(
     at: usize,
     t14: &mut [u32],
     fx: &[u16],
-) -> Walk
-    requires { SymbolsKnown src.now t1.now tokens t7.now rules t8.now t9.now n × (n ≤ 65535) × PrecNames src.now t1.now tokens t2.now precedences fx.now }
+) -> Result<usize, Flaw>
+    requires { SymbolsKnown src.now t1.now tokens t7.now rules t8.now t9.now n × (n ≤ 65535) × (R < 2 ^ 40) × (P < 2 ^ 40) × PrecNames src.now t1.now tokens t2.now precedences fx.now }
     ensures { ◌≡◌ {A = Walked} (record { answer = result; cells = t14.new }) (noted (rules_faults src.now t1.now tokens t2.now precedences t7.now rules t8.now t9.now n) at t14.old) }
 {
-    let mut heads = [0u16; FEW_RULES];
-    let mut nexts = [0u16; FEW_PRODUCTIONS];
-    links::link(t8, n, &mut heads, &mut nexts);
-    note_linked(
-        src,
-        t1,
-        tokens,
-        t2,
-        precedences,
-        t7,
-        rules,
-        t8,
-        t9,
-        n,
-        &heads,
-        &nexts,
-        at,
-        t14,
-        fx,
-    )
-}
-
-// And for as many as a source can have.
-pub fn note_many(
-    src: &[u8],
-    t1: &[u32],
-    tokens: u32,
-    t2: &[u32],
-    precedences: u32,
-    t7: &[u32],
-    rules: u32,
-    t8: &[u32],
-    t9: &[u32],
-    n: u32,
-    at: usize,
-    t14: &mut [u32],
-    fx: &[u16],
-) -> Walk
-    requires { SymbolsKnown src.now t1.now tokens t7.now rules t8.now t9.now n × (n ≤ 65535) × PrecNames src.now t1.now tokens t2.now precedences fx.now }
-    ensures { ◌≡◌ {A = Walked} (record { answer = result; cells = t14.new }) (noted (rules_faults src.now t1.now tokens t2.now precedences t7.now rules t8.now t9.now n) at t14.old) }
-{
-    let mut heads = [0u16; MANY_RULES];
-    let mut nexts = [0u16; MANY_PRODUCTIONS];
+    let mut heads = [0u16; R];
+    let mut nexts = [0u16; P];
     links::link(t8, n, &mut heads, &mut nexts);
     note_linked(
         src,
@@ -236,7 +180,7 @@ pub fn note_unlinked(
     at: usize,
     t14: &mut [u32],
     fx: &[u16],
-) -> Walk
+) -> Result<usize, Flaw>
     requires { SymbolsKnown src.now t1.now tokens t7.now rules t8.now t9.now n × PrecNames src.now t1.now tokens t2.now precedences fx.now }
     ensures { ◌≡◌ {A = Walked} (record { answer = result; cells = t14.new }) (noted (rules_faults src.now t1.now tokens t2.now precedences t7.now rules t8.now t9.now n) at t14.old) }
 {
@@ -275,13 +219,13 @@ pub fn note_led(
     at: usize,
     t14: &mut [u32],
     fx: &[u16],
-) -> Walk
+) -> Result<usize, Flaw>
     requires { SymbolsKnown src.now t1.now tokens t7.now rules t8.now t9.now n × PrecNames src.now t1.now tokens t2.now precedences fx.now }
     ensures { ◌≡◌ {A = Walked} (record { answer = result; cells = t14.new }) (noted (rules_faults src.now t1.now tokens t2.now precedences t7.now rules t8.now t9.now n) at t14.old) }
 {
     if (rules as usize) < FEW_RULES {
         if (n as usize) < FEW_PRODUCTIONS {
-            return note_few(
+            return note_in::<FEW_RULES, FEW_PRODUCTIONS>(
                 src,
                 t1,
                 tokens,
@@ -315,7 +259,7 @@ pub fn note_led(
             fx,
         );
     }
-    note_many(
+    note_in::<MANY_RULES, MANY_PRODUCTIONS>(
         src,
         t1,
         tokens,
@@ -332,8 +276,8 @@ pub fn note_led(
     )
 }
 
-// The same with a finder for few tokens and precedences, so that little has to be cleared.
-pub fn note_few_precs(
+// The same with a finder of `N` slots: for few tokens and precedences, so that little has to be cleared, or for as many as a source can have.
+pub fn note_precs_in<const N: usize>(
     src: &[u8],
     t1: &[u32],
     tokens: u32,
@@ -346,48 +290,11 @@ pub fn note_few_precs(
     n: u32,
     at: usize,
     t14: &mut [u32],
-) -> Walk
-    requires { SymbolsKnown src.now t1.now tokens t7.now rules t8.now t9.now n }
+) -> Result<usize, Flaw>
+    requires { SymbolsKnown src.now t1.now tokens t7.now rules t8.now t9.now n × (N < 2 ^ 40) }
     ensures { ◌≡◌ {A = Walked} (record { answer = result; cells = t14.new }) (noted (rules_faults src.now t1.now tokens t2.now precedences t7.now rules t8.now t9.now n) at t14.old) }
 {
-    let mut fx = [0u16; FEW_SLOTS];
-    validation::guide_precs(src, t1, tokens, t2, precedences, &mut fx);
-    note_led(
-        src,
-        t1,
-        tokens,
-        t2,
-        precedences,
-        t7,
-        rules,
-        t8,
-        t9,
-        n,
-        at,
-        t14,
-        &fx,
-    )
-}
-
-// And for as many as a source can have.
-pub fn note_many_precs(
-    src: &[u8],
-    t1: &[u32],
-    tokens: u32,
-    t2: &[u32],
-    precedences: u32,
-    t7: &[u32],
-    rules: u32,
-    t8: &[u32],
-    t9: &[u32],
-    n: u32,
-    at: usize,
-    t14: &mut [u32],
-) -> Walk
-    requires { SymbolsKnown src.now t1.now tokens t7.now rules t8.now t9.now n }
-    ensures { ◌≡◌ {A = Walked} (record { answer = result; cells = t14.new }) (noted (rules_faults src.now t1.now tokens t2.now precedences t7.now rules t8.now t9.now n) at t14.old) }
-{
-    let mut fx = [0u16; MANY_SLOTS];
+    let mut fx = [0u16; N];
     validation::guide_precs(src, t1, tokens, t2, precedences, &mut fx);
     note_led(
         src,
@@ -420,7 +327,7 @@ pub fn note_rules(
     n: u32,
     at: usize,
     t14: &mut [u32],
-) -> Walk
+) -> Result<usize, Flaw>
     requires { SymbolsKnown src.now t1.now tokens t7.now rules t8.now t9.now n }
     ensures { ◌≡◌ {A = Walked} (record { answer = result; cells = t14.new }) (noted (rules_faults src.now t1.now tokens t2.now precedences t7.now rules t8.now t9.now n) at t14.old) }
 {
@@ -443,7 +350,7 @@ pub fn note_rules(
         );
     }
     if tokens as u64 + precedences as u64 <= FEW_NAMES {
-        return note_few_precs(
+        return note_precs_in::<FEW_SLOTS>(
             src,
             t1,
             tokens,
@@ -458,7 +365,7 @@ pub fn note_rules(
             t14,
         );
     }
-    note_many_precs(
+    note_precs_in::<MANY_SLOTS>(
         src,
         t1,
         tokens,
@@ -478,7 +385,7 @@ pub fn note_rules(
 pub fn note_start_rules(
     src: &[u8],
     c: Counts,
-    start: Part,
+    start: Option<(u32, u32)>,
     t1: &[u32],
     t2: &[u32],
     t7: &[u32],
@@ -486,7 +393,7 @@ pub fn note_start_rules(
     t9: &[u32],
     i7: &[u32],
     t14: &mut [u32],
-) -> Walk
+) -> Result<usize, Flaw>
     requires { Walkable src.now c t1.now t7.now t8.now t9.now i7.now }
     ensures { ◌≡◌ {A = Walked} (record { answer = result; cells = t14.new }) (noted (start_faults src.now start t7.now (count_at c rules) ++ rules_faults src.now t1.now (count_at c tokens) t2.now (count_at c precedences) t7.now (count_at c rules) t8.now t9.now (count_at c productions)) 0 t14.old) }
 {
@@ -495,27 +402,25 @@ pub fn note_start_rules(
     let rules = sound::rows_of(c, tables::RULES);
     let n = sound::rows_of(c, tables::PRODUCTIONS);
     let v = validation::start_fault(src, start, t7, rules, i7);
-    match validation::note(v, 0, t14) {
-        Walk::NextRow(at) => note_rules(
-            src,
-            t1,
-            tokens,
-            t2,
-            precedences,
-            t7,
-            rules,
-            t8,
-            t9,
-            n,
-            at,
-            t14,
-        ),
-        Walk::Unwritten(f) => Walk::Unwritten(f),
-    }
+    let at = validation::note(v, 0, t14)?;
+    note_rules(
+        src,
+        t1,
+        tokens,
+        t2,
+        precedences,
+        t7,
+        rules,
+        t8,
+        t9,
+        n,
+        at,
+        t14,
+    )
 }
 
-// The same with a finder for few names.
-pub fn note_few_names(
+// The same with a finder of `N` slots: for few names, or for as many as a source can have.
+pub fn note_names_in<const N: usize>(
     src: &[u8],
     c: Counts,
     t1: &[u32],
@@ -525,29 +430,11 @@ pub fn note_few_names(
     t7: &[u32],
     at: usize,
     t14: &mut [u32],
-) -> Walk
+) -> Result<usize, Flaw>
+    requires { N < 2 ^ 40 }
     ensures { ◌≡◌ {A = Walked} (record { answer = result; cells = t14.new }) (noted (epps_faults src.now t1.now (count_at c tokens) t4.now (count_at c implicit) t5.now (count_at c epps) ++ kinds_faults src.now (width unused) t6.now t1.now (count_at c tokens) t7.now (count_at c rules) 0 (count_at c unused)) at t14.old) }
 {
-    let mut fx = [0u16; FEW_SLOTS];
-    validation::guide_names(src, c, t1, t4, t7, &mut fx);
-    validation::note_named(src, c, t1, t4, t5, t6, t7, &fx, at, t14)
-}
-
-// And for as many as a source can have.
-pub fn note_many_names(
-    src: &[u8],
-    c: Counts,
-    t1: &[u32],
-    t4: &[u32],
-    t5: &[u32],
-    t6: &[u32],
-    t7: &[u32],
-    at: usize,
-    t14: &mut [u32],
-) -> Walk
-    ensures { ◌≡◌ {A = Walked} (record { answer = result; cells = t14.new }) (noted (epps_faults src.now t1.now (count_at c tokens) t4.now (count_at c implicit) t5.now (count_at c epps) ++ kinds_faults src.now (width unused) t6.now t1.now (count_at c tokens) t7.now (count_at c rules) 0 (count_at c unused)) at t14.old) }
-{
-    let mut fx = [0u16; MOST_SLOTS];
+    let mut fx = [0u16; N];
     validation::guide_names(src, c, t1, t4, t7, &mut fx);
     validation::note_named(src, c, t1, t4, t5, t6, t7, &fx, at, t14)
 }
@@ -563,7 +450,7 @@ pub fn note_epps_unused(
     t7: &[u32],
     at: usize,
     t14: &mut [u32],
-) -> Walk
+) -> Result<usize, Flaw>
     ensures { ◌≡◌ {A = Walked} (record { answer = result; cells = t14.new }) (noted (epps_faults src.now t1.now (count_at c tokens) t4.now (count_at c implicit) t5.now (count_at c epps) ++ kinds_faults src.now (width unused) t6.now t1.now (count_at c tokens) t7.now (count_at c rules) 0 (count_at c unused)) at t14.old) }
 {
     if sound::rows_of(c, tables::EPPS) == 0 {
@@ -576,9 +463,9 @@ pub fn note_epps_unused(
     let implicit = sound::rows_of(c, tables::IMPLICIT);
     let rules = sound::rows_of(c, tables::RULES);
     if tokens as u64 + implicit as u64 + rules as u64 <= FEW_NAMES {
-        return note_few_names(src, c, t1, t4, t5, t6, t7, at, t14);
+        return note_names_in::<FEW_SLOTS>(src, c, t1, t4, t5, t6, t7, at, t14);
     }
-    note_many_names(src, c, t1, t4, t5, t6, t7, at, t14)
+    note_names_in::<MOST_SLOTS>(src, c, t1, t4, t5, t6, t7, at, t14)
 }
 
 // The tests behind 44, in their order, from row 0 of table 14 on.
@@ -597,15 +484,13 @@ pub fn note_faults(
     i1: &[u32],
     i7: &[u32],
     t14: &mut [u32],
-) -> Walk
+) -> Result<usize, Flaw>
     requires { Walkable src.now c t1.now t7.now t8.now t9.now i7.now }
     ensures { ◌≡◌ {A = Walked} (record { answer = result; cells = t14.new }) (noted (faults src.now c g t1.now t2.now t4.now t5.now t6.now t7.now t8.now t9.now) 0 t14.old) }
 {
     let start = g.start;
-    match note_start_rules(src, c, start, t1, t2, t7, t8, t9, i7, t14) {
-        Walk::NextRow(at) => note_epps_unused(src, c, t1, t4, t5, t6, t7, at, t14),
-        Walk::Unwritten(f) => Walk::Unwritten(f),
-    }
+    let at = note_start_rules(src, c, start, t1, t2, t7, t8, t9, i7, t14)?;
+    note_epps_unused(src, c, t1, t4, t5, t6, t7, at, t14)
 }
 
 // ---- the first fault alone
@@ -623,12 +508,12 @@ pub fn production_fault(
     t9: &[u32],
     r: u32,
     fx: &[u16],
-) -> Test
+) -> Result<(), Flaw>
     requires { SymbolsKnown src.now t1.now tokens t7.now rules t8.now t9.now (r + 1) × PrecNames src.now t1.now tokens t2.now precedences fx.now }
     ensures { verdict result ≡ first (production_faults src.now t1.now tokens t2.now precedences t7.now rules t8.now t9.now r) }
 {
     let mut none = [0u32; 1];
-    match validation::note_production(
+    validation::note_production(
         src,
         t1,
         tokens,
@@ -642,10 +527,8 @@ pub fn production_fault(
         0,
         &mut none,
         fx,
-    ) {
-        Walk::NextRow(_) => Test::Met,
-        Walk::Unwritten(f) => Test::Failed(f),
-    }
+    )?;
+    Ok(())
 }
 
 // The first fault of all rules, in one pass over the `n` productions: that of the foremost rule, and of its first production. No production need be found by its rule.
@@ -661,28 +544,20 @@ pub fn fault_led(
     t9: &[u32],
     n: u32,
     fx: &[u16],
-) -> Test
+) -> Result<(), Flaw>
     requires { SymbolsKnown src.now t1.now tokens t7.now rules t8.now t9.now n × PrecNames src.now t1.now tokens t2.now precedences fx.now }
     ensures { verdict result ≡ first (rules_faults src.now t1.now tokens t2.now precedences t7.now rules t8.now t9.now n) }
 {
-    let mut best = Test::Met;
+    let mut best = Ok(());
     let mut owner = rules;
-    let mut r = 0;
-    while r < n {
+    for r in 0..n {
         let rule = tables::cell(t8, tables::PRODUCTION_WIDTH, r, tables::RULE_ROW);
         if rule < owner {
-            match production_fault(src, t1, tokens, t2, precedences, t7, rules, t8, t9, r, fx) {
-                Test::Met => {
-                    r += 1;
-                }
-                Test::Failed(f) => {
-                    best = Test::Failed(f);
-                    owner = rule;
-                    r += 1;
-                }
+            let v = production_fault(src, t1, tokens, t2, precedences, t7, rules, t8, t9, r, fx);
+            if let Err(f) = v {
+                best = Err(f);
+                owner = rule;
             }
-        } else {
-            r += 1;
         }
     }
     best
@@ -698,14 +573,14 @@ pub fn names_fault(
     t6: &[u32],
     t7: &[u32],
     fx: &[u16],
-) -> Validity
+) -> Result<(), ValidityError>
     requires { KeyNames src.now t1.now (count_at c tokens) t4.now (count_at c implicit) fx.now × SymbolNames src.now t1.now (count_at c tokens) t7.now (count_at c rules) fx.now }
     ensures { result ≡ first (epps_faults src.now t1.now (count_at c tokens) t4.now (count_at c implicit) t5.now (count_at c epps) ++ kinds_faults src.now (width unused) t6.now t1.now (count_at c tokens) t7.now (count_at c rules) 0 (count_at c unused)) }
 {
     let mut none = [0u32; 1];
     match validation::note_named(src, c, t1, t4, t5, t6, t7, fx, 0, &mut none) {
-        Walk::NextRow(_) => Validity::Valid,
-        Walk::Unwritten(f) => Validity::Invalid(f),
+        Ok(_) => Ok(()),
+        Err(f) => Err(ValidityError::Invalid(f)),
     }
 }
 
@@ -713,7 +588,7 @@ pub fn names_fault(
 pub fn start_rules_fault(
     src: &[u8],
     c: Counts,
-    start: Part,
+    start: Option<(u32, u32)>,
     t1: &[u32],
     t2: &[u32],
     t7: &[u32],
@@ -721,20 +596,16 @@ pub fn start_rules_fault(
     t9: &[u32],
     i7: &[u32],
     fx: &[u16],
-) -> Test
+) -> Result<(), Flaw>
     requires { Walkable src.now c t1.now t7.now t8.now t9.now i7.now × PrecNames src.now t1.now (count_at c tokens) t2.now (count_at c precedences) fx.now }
     ensures { verdict result ≡ first (start_faults src.now start t7.now (count_at c rules) ++ rules_faults src.now t1.now (count_at c tokens) t2.now (count_at c precedences) t7.now (count_at c rules) t8.now t9.now (count_at c productions)) }
 {
     let rules = sound::rows_of(c, tables::RULES);
-    match validation::start_fault(src, start, t7, rules, i7) {
-        Test::Met => {
-            let tokens = sound::rows_of(c, tables::TOKENS);
-            let precedences = sound::rows_of(c, tables::PRECEDENCES);
-            let n = sound::rows_of(c, tables::PRODUCTIONS);
-            fault_led(src, t1, tokens, t2, precedences, t7, rules, t8, t9, n, fx)
-        }
-        Test::Failed(f) => Test::Failed(f),
-    }
+    validation::start_fault(src, start, t7, rules, i7)?;
+    let tokens = sound::rows_of(c, tables::TOKENS);
+    let precedences = sound::rows_of(c, tables::PRECEDENCES);
+    let n = sound::rows_of(c, tables::PRODUCTIONS);
+    fault_led(src, t1, tokens, t2, precedences, t7, rules, t8, t9, n, fx)
 }
 
 // One finder for every name that is looked up: tokens, precedences, implicit tokens and rules.
@@ -773,19 +644,19 @@ pub fn find_led(
     t9: &[u32],
     i7: &[u32],
     fx: &[u16],
-) -> Validity
+) -> Result<(), ValidityError>
     requires { Walkable src.now c t1.now t7.now t8.now t9.now i7.now × AllNames src.now c t1.now t2.now t4.now t7.now fx.now }
     ensures { result ≡ first (faults src.now c g t1.now t2.now t4.now t5.now t6.now t7.now t8.now t9.now) }
 {
     let start = g.start;
     match start_rules_fault(src, c, start, t1, t2, t7, t8, t9, i7, fx) {
-        Test::Met => names_fault(src, c, t1, t4, t5, t6, t7, fx),
-        Test::Failed(f) => Validity::Invalid(f),
+        Ok(()) => names_fault(src, c, t1, t4, t5, t6, t7, fx),
+        Err(f) => Err(ValidityError::Invalid(f)),
     }
 }
 
-// With a finder for few names, which is soon cleared.
-pub fn find_few(
+// With a finder of `N` slots: for few names, which is soon cleared, or for as many as a source can have.
+pub fn find_in<const N: usize>(
     src: &[u8],
     c: Counts,
     g: Singles,
@@ -798,34 +669,11 @@ pub fn find_few(
     t8: &[u32],
     t9: &[u32],
     i7: &[u32],
-) -> Validity
-    requires { Walkable src.now c t1.now t7.now t8.now t9.now i7.now }
+) -> Result<(), ValidityError>
+    requires { Walkable src.now c t1.now t7.now t8.now t9.now i7.now × (N < 2 ^ 40) }
     ensures { result ≡ first (faults src.now c g t1.now t2.now t4.now t5.now t6.now t7.now t8.now t9.now) }
 {
-    let mut fx = [0u16; FEW_SLOTS];
-    guide_all(src, c, t1, t2, t4, t7, &mut fx);
-    find_led(src, c, g, t1, t2, t4, t5, t6, t7, t8, t9, i7, &fx)
-}
-
-// And for as many as a source can have.
-pub fn find_many(
-    src: &[u8],
-    c: Counts,
-    g: Singles,
-    t1: &[u32],
-    t2: &[u32],
-    t4: &[u32],
-    t5: &[u32],
-    t6: &[u32],
-    t7: &[u32],
-    t8: &[u32],
-    t9: &[u32],
-    i7: &[u32],
-) -> Validity
-    requires { Walkable src.now c t1.now t7.now t8.now t9.now i7.now }
-    ensures { result ≡ first (faults src.now c g t1.now t2.now t4.now t5.now t6.now t7.now t8.now t9.now) }
-{
-    let mut fx = [0u16; MOST_SLOTS];
+    let mut fx = [0u16; N];
     guide_all(src, c, t1, t2, t4, t7, &mut fx);
     find_led(src, c, g, t1, t2, t4, t5, t6, t7, t8, t9, i7, &fx)
 }
@@ -862,7 +710,7 @@ pub fn find_fault(
     t9: &[u32],
     i1: &[u32],
     i7: &[u32],
-) -> Validity
+) -> Result<(), ValidityError>
     requires { Walkable src.now c t1.now t7.now t8.now t9.now i7.now }
     ensures { result ≡ first (faults src.now c g t1.now t2.now t4.now t5.now t6.now t7.now t8.now t9.now) }
 {
@@ -871,9 +719,9 @@ pub fn find_fault(
         return find_led(src, c, g, t1, t2, t4, t5, t6, t7, t8, t9, i7, &none);
     }
     if name_count(c) <= FEW_NAMES {
-        return find_few(src, c, g, t1, t2, t4, t5, t6, t7, t8, t9, i7);
+        return find_in::<FEW_SLOTS>(src, c, g, t1, t2, t4, t5, t6, t7, t8, t9, i7);
     }
-    find_many(src, c, g, t1, t2, t4, t5, t6, t7, t8, t9, i7)
+    find_in::<MOST_SLOTS>(src, c, g, t1, t2, t4, t5, t6, t7, t8, t9, i7)
 }
 
 // Validation changes nothing lent; 44 comes first.
@@ -893,11 +741,11 @@ pub fn validate(
     t10: &[u32],
     i1: &[u32],
     i7: &[u32],
-) -> Validity
-    ensures { result ≡ validity src.now c g (record { t1 = t1.entry.now; t2 = t2.now; t3 = t3.now; t4 = t4.now; t5 = t5.now; t6 = t6.now; t7 = t7.now; t8 = t8.now; t9 = t9.now; t10 = t10.now }) (record { tokens = i1.now; rules = i7.now }) }
+) -> Result<(), ValidityError>
+    ensures { result ≡ validity src.now c g (record { t1 = t1.now; t2 = t2.now; t3 = t3.now; t4 = t4.now; t5 = t5.now; t6 = t6.now; t7 = t7.now; t8 = t8.now; t9 = t9.now; t10 = t10.now }) (record { tokens = i1.now; rules = i7.now }) }
 {
     if !sound::sound(src, c, g, t1, t2, t3, t4, t5, t6, t7, t8, t9, t10, i1, i7) {
-        return Validity::UnsoundTables;
+        return Err(ValidityError::UnsoundTables);
     }
     find_fault(src, c, g, t1, t2, t4, t5, t6, t7, t8, t9, i1, i7)
 }
@@ -920,18 +768,18 @@ pub fn faults(
     i1: &[u32],
     i7: &[u32],
     t14: &mut [u32],
-) -> FaultListing
-    ensures { ◌≡◌ {A = AllFaults} (record { answer = result; cells = t14.new }) (fault_listing src.now c g (record { t1 = t1.entry.now; t2 = t2.now; t3 = t3.now; t4 = t4.now; t5 = t5.now; t6 = t6.now; t7 = t7.now; t8 = t8.now; t9 = t9.now; t10 = t10.now }) (record { tokens = i1.now; rules = i7.now }) t14.old) }
+) -> Result<usize, FaultsError>
+    ensures { ◌≡◌ {A = AllFaults} (record { answer = result; cells = t14.new }) (fault_listing src.now c g (record { t1 = t1.now; t2 = t2.now; t3 = t3.now; t4 = t4.now; t5 = t5.now; t6 = t6.now; t7 = t7.now; t8 = t8.now; t9 = t9.now; t10 = t10.now }) (record { tokens = i1.now; rules = i7.now }) t14.old) }
 {
     tables::zero(t14);
     if !sound::sound(src, c, g, t1, t2, t3, t4, t5, t6, t7, t8, t9, t10, i1, i7) {
-        return FaultListing::FaultsUnsound;
+        return Err(FaultsError::FaultsUnsound);
     }
     match note_faults(src, c, g, t1, t2, t4, t5, t6, t7, t8, t9, i1, i7, t14) {
-        Walk::NextRow(n) => FaultListing::Faulted(n),
-        Walk::Unwritten(_) => {
+        Ok(n) => Ok(n),
+        Err(_) => {
             tables::zero(t14);
-            FaultListing::FaultsNoRoom
+            Err(FaultsError::FaultsNoRoom)
         }
     }
 }

@@ -1,4 +1,5 @@
 -- What the value of an `%epp` row is without a scan: the quoted text without its escapes, written in full or not at all. Assumes nothing.
+use Rattle.std.specs.Prelude.{Option, Some, None, Result, Ok, Err}
 use Prim.Native.Nat.{ℕ, ◌+◌, ◌-◌, ◌≤◌, ◌<◌}
 use mathlib.Core.Path.{◌≡◌, refl, sym, ap, ◌∙◌}
 use mathlib.Core.List.{List, [], ◌∷◌, ◌++◌}
@@ -8,10 +9,11 @@ use lib.Dec.{eqb, leb, ltb}
 use lib.ListN.{length, get_or, take, drop, replicate, take-append-drop}
 use lib.Seq.{slice, take-add, take-append_seam, drop_at, drop-append-le, get_or-drop, get_or-append_seam, length-take-le, length-slice}
 use borrow.Author.Tests.{eqb-true, eqb-false, eq-eqb, ne_eqb, leb-false, le-leb}
+use Rattle.scan.proofs.Tuples.{some_2}
 use Rattle.scan.specs.Scan.{is_eol}
 use Rattle.scan.proofs.Bytes.{on_test, drop_key}
-use Rattle.words.specs.declared.Quote.{Quote}
-use Rattle.words.specs.declared.Quote.TheVariants.{Closed, NotOpened, LineInside, BadEscape, NotClosed}
+use Rattle.words.specs.declared.QuoteError.{QuoteError}
+use Rattle.words.specs.declared.QuoteError.TheVariants.{NotOpened, LineInside, BadEscape, NotClosed}
 use Rattle.words.specs.Words.{is_quote}
 use Rattle.words.specs.Strings.{Mode, plain as bare, escape, string, string_from, string_at}
 use Rattle.words.proofs.Strings.{string_opens, string_placed}
@@ -21,9 +23,6 @@ use Rattle.grammar.specs.declared.Counts.{Counts}
 use Rattle.grammar.specs.declared.Singles.{Singles}
 use Rattle.grammar.specs.Sound.{Tables, Indexes}
 use Rattle.sound.specs.Test.{count_at, sound_test}
-use Rattle.values.specs.declared.Text.{Text}
-use Rattle.values.specs.declared.Text.TheVariants.{TextAt, NoText}
-use Rattle.values.specs.declared.Valuation.TheVariants.{Written}
 use Rattle.values.specs.Value.{valuation_numbers, plain, Spells, empty, byte, escaped, IsString, text_to, text_by, text_at, Valued, fitted, text_value, epp_value}
 use Rattle.values.specs.Allowed.{Allowed, ValueAt, ValueIs}
 use Rattle.values.proofs.Laws.{closed_inside, text_whole, value_text}
@@ -100,7 +99,7 @@ module _ (q to : ℕ) where
         spells = rw (plain, g) (escaped b.quote r.spells);
       }
 
-  scan : (l : List ℕ) (mode : Mode) (i : ℕ) → string q mode l i ≡ Closed to → Got mode l i
+  scan : (l : List ℕ) (mode : Mode) (i : ℕ) → string q mode l i ≡ Ok to → Got mode l i
   unfolding string
   scan [] bare i e = absurd (clash (cc))
   scan [] (escape b) i e = absurd (clash (cc))
@@ -110,13 +109,13 @@ module _ (q to : ℕ) where
       (λ g. on_test Is (eqb c 92) _ _ (λ t e. scan_escape c cs i (eqb-true c 92 t) (scan cs (escape i) (i + 1) e))
       (λ t e. scan_byte c cs i (eqb-false c q f) g (eqb-false c 92 t) (scan cs bare (i + 1) e)))) z
     where
-      Is : Quote → Type 0
-      Is r = r ≡ Closed to → Scanned q (c ∷ cs) i to
+      Is : Result ℕ QuoteError → Type 0
+      Is r = r ≡ Ok to → Scanned q (c ∷ cs) i to
   scan (c ∷ cs) (escape b) i z =
       on_test Is (is_quote c) _ _ (λ t e. record { first = c; more = cs; is = refl; quote = t; scanned = scan cs bare (i + 1) e }) (λ t e. absurd (clash (cc))) z
     where
-      Is : Quote → Type 0
-      Is r = r ≡ Closed to → Behind q (c ∷ cs) i to
+      Is : Result ℕ QuoteError → Type 0
+      Is r = r ≡ Ok to → Behind q (c ∷ cs) i to
 
   -- a backslash, and what may stand behind it
   run_backslash : (cs : List ℕ) (i : ℕ) → eqb 92 q ≡ false → string q bare (92 ∷ cs) i ≡ string q (escape i) cs (i + 1)
@@ -128,22 +127,22 @@ module _ (q to : ℕ) where
   run_behind c cs b i e = rw (string, e)
 
   -- and the other way
-  run : {t v : List ℕ} (rest : List ℕ) (i : ℕ) → is_quote q ≡ true → Spells q t v → to ≡ i + length t + 1 → string q bare (t ++ q ∷ rest) i ≡ Closed to
+  run : {t v : List ℕ} (rest : List ℕ) (i : ℕ) → is_quote q ≡ true → Spells q t v → to ≡ i + length t + 1 → string q bare (t ++ q ∷ rest) i ≡ Ok to
   unfolding string is_eol
-  run rest i o empty k = rw (string, eq-eqb q q refl) (ap Closed (omega arith))
+  run rest i o empty k = rw (string, eq-eqb q q refl) (ap Ok (omega arith))
   run rest i o (byte {c} f e g s) k = rw (string, ne_eqb c q f, e, ne_eqb c 92 g) (run rest (i + 1) o s (omega arith))
   run rest i o (escaped {c} {t} e s) k = run_backslash (c ∷ t ++ q ∷ rest) i (ne_eqb 92 q (λ z. quote_no_escape q o (sym z))) ∙ run_behind c (t ++ q ∷ rest) i (i + 1) e ∙ run rest (i + 1 + 1) o s (omega arith)
 
 module _ (src : List ℕ) (from to : ℕ) where
   -- A string is read exactly where one stands, and spells its text without the backslashes.
-  pub string_spells : string_at src from ≡ Closed to → IsString src from to (plain (slice (from + 1) (to - 1) src))
+  pub string_spells : string_at src from ≡ Ok to → IsString src from to (plain (slice (from + 1) (to - 1) src))
   unfolding string_at string_from
   string_spells z =
       on_test Is (leb (length src) from) _ _ (λ f e. absurd (clash (cc)))
       (λ f. on_test Is (is_quote (get_or src from 0)) _ _ (λ t e. here (leb-false _ _ f) t (scan (get_or src from 0) to (drop (from + 1) src) bare (from + 1) e)) (λ t e. absurd (clash (cc)))) z
     where
-      Is : Quote → Type 0
-      Is r = r ≡ Closed to → IsString src from to (plain (slice (from + 1) (to - 1) src))
+      Is : Result ℕ QuoteError → Type 0
+      Is r = r ≡ Ok to → IsString src from to (plain (slice (from + 1) (to - 1) src))
 
       here : from < length src → is_quote (get_or src from 0) ≡ true → Scanned (get_or src from 0) (drop (from + 1) src) (from + 1) to → IsString src from to (plain (slice (from + 1) (to - 1) src))
       here h o r =
@@ -159,7 +158,7 @@ module _ (src : List ℕ) (from to : ℕ) where
             spells = rw p r.spells;
           }
 
-  pub spells_string : (v : List ℕ) → IsString src from to v → string_at src from ≡ Closed to
+  pub spells_string : (v : List ℕ) → IsString src from to v → string_at src from ≡ Ok to
   unfolding string_from
   spells_string v x =
       let a = x.onward in
@@ -171,19 +170,19 @@ module _ (src : List ℕ) (from to : ℕ) where
       (run (get_or src from 0) to (drop (to - 1 + 1) src) (from + 1) x.opens x.spells (omega arith))
 
   -- a text is that of a whole string
-  text_string : (a b : ℕ) (r : Quote) → text_by r from to ≡ TextAt a b → (r ≡ Closed to) × (a ≡ from + 1) × (b ≡ to - 1)
-  text_string a b (Closed end) e = go (eqb end to) refl e
+  text_string : (a b : ℕ) (r : Result ℕ QuoteError) → text_by r from to ≡ Some (a, b) → (r ≡ Ok to) × (a ≡ from + 1) × (b ≡ to - 1)
+  text_string a b (Ok end) e = go (eqb end to) refl e
     where
-      go : (t : Bool) → eqb end to ≡ t → text_to t from end ≡ TextAt a b → (Closed end ≡ Closed to) × (a ≡ from + 1) × (b ≡ to - 1)
+      go : (t : Bool) → eqb end to ≡ t → text_to t from end ≡ Some (a, b) → (◌≡◌ {A = Result ℕ QuoteError} (Ok end) (Ok to)) × (a ≡ from + 1) × (b ≡ to - 1)
       go true t e =
           let k = eqb-true end to t in
-          let x : end - 1 ≡ b = cc in
-          (ap Closed k, cc, omega arith)
+          let d = some_2 e in
+          (ap Ok k, sym d.0, omega arith)
       go false t e = absurd (clash (cc))
-  text_string a b (NotOpened k) e = absurd (clash (cc))
-  text_string a b (LineInside k) e = absurd (clash (cc))
-  text_string a b (BadEscape k) e = absurd (clash (cc))
-  text_string a b (NotClosed k) e = absurd (clash (cc))
+  text_string a b (Err (NotOpened k)) e = absurd (clash (cc))
+  text_string a b (Err (LineInside k)) e = absurd (clash (cc))
+  text_string a b (Err (BadEscape k)) e = absurd (clash (cc))
+  text_string a b (Err (NotClosed k)) e = absurd (clash (cc))
 
 module _ (src : List ℕ) (c : Counts) (g : Singles) (T : Tables) (X : Indexes) (row : ℕ) (out : List ℕ) where
   abbrev start : ℕ
@@ -193,7 +192,7 @@ module _ (src : List ℕ) (c : Counts) (g : Singles) (T : Tables) (X : Indexes) 
   end = cell (width epps) T.t5 row (value + 1)
 
   -- The value that is written is the quoted text without its escapes, with zeros behind it.
-  pub value_is : (n : ℕ) → (epp_value src c g T X row out).answer ≡ Written n → ValueIs src T.t5 row out n (epp_value src c g T X row out).out
+  pub value_is : (n : ℕ) → (epp_value src c g T X row out).answer ≡ Ok n → ValueIs src T.t5 row out n (epp_value src c g T X row out).out
   unfolding epp_value text_at
   value_is n =
       on_test Is (sound_test src c g T X) _ _
@@ -201,21 +200,21 @@ module _ (src : List ℕ) (c : Counts) (g : Singles) (T : Tables) (X : Indexes) 
       (λ s e. absurd (clash (cc)))
     where
       Is : Valued → Type 0
-      Is o = o.answer ≡ Written n → ValueIs src T.t5 row out n o.out
+      Is o = o.answer ≡ Ok n → ValueIs src T.t5 row out n o.out
 
       fits : (v : List ℕ) (b : Bool) → ValueAt src T.t5 row v → Is (fitted b v out)
       fits v true x e = record { text = v; there = x; count = sym (cc); cells = refl }
       fits v false x e = absurd (clash (cc))
 
-      text : (t : Text) → text_at src T.t5 row ≡ t → Is (text_value t src out)
-      text (TextAt a b) e k =
+      text : (t : Option (ℕ × ℕ)) → text_at src T.t5 row ≡ t → Is (text_value t src out)
+      text (Some (a, b)) e k =
           let s = text_string src start end a b (string_at src start) e in
           let x : ValueAt src T.t5 row (plain (slice a b src)) = rw (s.1, s.2) (string_spells src start end s.0) in
           fits (plain (slice a b src)) (leb (length (plain (slice a b src))) (length out)) x k
-      text NoText e k = absurd (clash (cc))
+      text None e k = absurd (clash (cc))
 
   -- after any other answer the text out is all zeros
-  pub value_refused : ((n : ℕ) → (epp_value src c g T X row out).answer ≡ Written n → ⊥) → (epp_value src c g T X row out).out ≡ zeroed out
+  pub value_refused : ((n : ℕ) → (epp_value src c g T X row out).answer ≡ Ok n → ⊥) → (epp_value src c g T X row out).out ≡ zeroed out
   unfolding epp_value
   value_refused =
       on_test Is (sound_test src c g T X) _ _
@@ -223,33 +222,33 @@ module _ (src : List ℕ) (c : Counts) (g : Singles) (T : Tables) (X : Indexes) 
       (λ s e. refl)
     where
       Is : Valued → Type 0
-      Is o = ((n : ℕ) → o.answer ≡ Written n → ⊥) → o.out ≡ zeroed out
+      Is o = ((n : ℕ) → o.answer ≡ Ok n → ⊥) → o.out ≡ zeroed out
 
       fits : (v : List ℕ) (b : Bool) → Is (fitted b v out)
       fits v true f = absurd (f (length v) refl)
       fits v false f = refl
 
-      text : (t : Text) → Is (text_value t src out)
-      text (TextAt a b) f = fits (plain (slice a b src)) (leb (length (plain (slice a b src))) (length out)) f
-      text NoText f = refl
+      text : (t : Option (ℕ × ℕ)) → Is (text_value t src out)
+      text (Some (a, b)) f = fits (plain (slice a b src)) (leb (length (plain (slice a b src))) (length out)) f
+      text None f = refl
 
   -- Any two outcomes that the contract allows are equal.
   pub valued_one : (o p : Valued) → Allowed src c g T X row out o → Allowed src c g T X row out p → o ≡ p
   valued_one o p e h = e ∙ sym h
 
   module _ (s : sound_test src c g T X ≡ true) (l : row < count_at c epps) where
-    at_string : string_at src start ≡ Closed end → epp_value src c g T X row out ≡ text_value (TextAt (start + 1) (end - 1)) src out
+    at_string : string_at src start ≡ Ok end → epp_value src c g T X row out ≡ text_value (Some (start + 1, end - 1)) src out
     at_string e =
         sym (value_text src c g T X row out true (sym s) refl _ refl l _ (text_whole src T.t5 row start end refl refl _ refl end e refl) _ refl)
 
     -- Where a string stands at a row's value, and there is room for what it spells, that is written.
-    pub value_there : (v : List ℕ) → ValueAt src T.t5 row v → length v ≤ length out → epp_value src c g T X row out ≡ record { answer = Written (length v); out = v ++ replicate (length out - length v) 0 }
+    pub value_there : (v : List ℕ) → ValueAt src T.t5 row v → length v ≤ length out → epp_value src c g T X row out ≡ record { answer = Ok (length v); out = v ++ replicate (length out - length v) 0 }
     value_there v x h =
         let p : plain (slice (start + 1) (end - 1) src) ≡ v = sym (spells_plain x.spells) in
         at_string (spells_string src start end v x) ∙ rw (p, le-leb (length v) (length out) h)
 
     -- A value whose place is that of a string is never refused as unsound.
-    pub value_not_44 : string_at src start ≡ Closed end → get_or (valuation_numbers (epp_value src c g T X row out).answer) 0 0 ≡ 44 → ⊥
+    pub value_not_44 : string_at src start ≡ Ok end → get_or (valuation_numbers (epp_value src c g T X row out).answer) 0 0 ≡ 44 → ⊥
     value_not_44 e k = fits v (leb (length v) (length out)) (rw (at_string e) at k)
       where
         v : List ℕ

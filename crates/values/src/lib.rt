@@ -7,19 +7,10 @@ ghost use Rattle.grammar.specs.Sound.{Tables};
 ghost use Rattle.values.specs.Value.{Copied, copied, Within, text_at, Valued, text_value, epp_value};
 
 use grammar::{Counts, Singles};
-use words::Quote;
-
-// The place of a value's text, between its quotes.
-#[derive(Clone, Copy)]
-pub enum Text {
-    TextAt(usize, usize),
-    NoText,
-}
+use words::QuoteError;
 
 #[derive(Clone, Copy)]
-pub enum Valuation {
-    // How many bytes the value has.
-    Written(usize),
+pub enum ValuationError {
     OfUnsoundTables,
     PastCount,
     // The value's place is no string.
@@ -30,11 +21,7 @@ pub enum Valuation {
 pub fn zero(out: &mut [u8])
     ensures { out.new ≡ zeroed out.old }
 {
-    let mut i = 0;
-    while i < out.len() {
-        out[i] = 0;
-        i += 1;
-    }
+    out.fill(0);
 }
 
 // Past the end there is nothing to write.
@@ -52,59 +39,61 @@ pub fn copy_text(out: &mut [u8], src: &[u8], from: usize, to: usize) -> usize
     ensures { ◌≡◌ {A = Copied} (record { count = result; cells = out.new }) (copied src.now from to out.old) }
 {
     let mut k = 0;
-    let mut i = from;
-    while i < to {
+    for i in from..to {
         let c = src[i];
         if c != b'\\' {
             set_byte(out, k, c);
             k += 1;
         }
-        i += 1;
     }
     k
 }
 
-// The text of row `row` of table 5, if the value's place is that of a whole string.
-pub fn text_of(src: &[u8], t5: &[u32], row: u32) -> Text
+// The text of row `row` of table 5, between its quotes, if the value's place is that of a whole string.
+pub fn text_of(src: &[u8], t5: &[u32], row: u32) -> Option<(usize, usize)>
     ensures is { result ≡ text_at src.now t5.now row }
     ensures inside { Within src.now result }
 {
     let from = tables::cell(t5, tables::EPP_WIDTH, row, 4) as usize;
     let to = tables::cell(t5, tables::EPP_WIDTH, row, 5) as usize;
     if src.len() < from {
-        return Text::NoText;
+        return None;
     }
     match words::parse_string(src, from) {
-        Quote::Closed(end) => {
+        Ok(end) => {
             if end == to {
-                Text::TextAt(from + 1, end - 1)
+                Some((from + 1, end - 1))
             } else {
-                Text::NoText
+                None
             }
         }
-        Quote::NotOpened(_) => Text::NoText,
-        Quote::LineInside(_) => Text::NoText,
-        Quote::BadEscape(_) => Text::NoText,
-        Quote::NotClosed(_) => Text::NoText,
+        Err(QuoteError::NotOpened(_)) => None,
+        Err(QuoteError::LineInside(_)) => None,
+        Err(QuoteError::BadEscape(_)) => None,
+        Err(QuoteError::NotClosed(_)) => None,
     }
 }
 
 // The text without its escapes, where there is room for it.
-pub fn write_text(src: &[u8], t: Text, out: &mut [u8]) -> Valuation
+pub fn write_text(
+    src: &[u8],
+    t: Option<(usize, usize)>,
+    out: &mut [u8],
+) -> Result<usize, ValuationError>
     requires { Within src.now t }
     ensures { ◌≡◌ {A = Valued} (record { answer = result; out = out.new }) (text_value t src.now out.old) }
 {
     zero(out);
     match t {
-        Text::TextAt(from, to) => {
+        Some((from, to)) => {
             let n = copy_text(out, src, from, to);
             if out.len() < n {
                 zero(out);
-                return Valuation::NoTextRoom;
+                return Err(ValuationError::NoTextRoom);
             }
-            Valuation::Written(n)
+            Ok(n)
         }
-        Text::NoText => Valuation::NotString,
+        None => Err(ValuationError::NotString),
     }
 }
 
@@ -127,16 +116,16 @@ pub fn epp_value(
     i7: &[u32],
     row: u32,
     out: &mut [u8],
-) -> Valuation
-    ensures { ◌≡◌ {A = Valued} (record { answer = result; out = out.new }) (epp_value src.now c g (record { t1 = t1.entry.now; t2 = t2.now; t3 = t3.now; t4 = t4.now; t5 = t5.now; t6 = t6.now; t7 = t7.now; t8 = t8.now; t9 = t9.now; t10 = t10.now }) (record { tokens = i1.now; rules = i7.now }) row out.old) }
+) -> Result<usize, ValuationError>
+    ensures { ◌≡◌ {A = Valued} (record { answer = result; out = out.new }) (epp_value src.now c g (record { t1 = t1.now; t2 = t2.now; t3 = t3.now; t4 = t4.now; t5 = t5.now; t6 = t6.now; t7 = t7.now; t8 = t8.now; t9 = t9.now; t10 = t10.now }) (record { tokens = i1.now; rules = i7.now }) row out.old) }
 {
     if !sound::sound(src, c, g, t1, t2, t3, t4, t5, t6, t7, t8, t9, t10, i1, i7) {
         zero(out);
-        return Valuation::OfUnsoundTables;
+        return Err(ValuationError::OfUnsoundTables);
     }
     if sound::rows_of(c, tables::EPPS) <= row {
         zero(out);
-        return Valuation::PastCount;
+        return Err(ValuationError::PastCount);
     }
     let t = text_of(src, t5, row);
     write_text(src, t, out)

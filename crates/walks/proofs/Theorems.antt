@@ -1,10 +1,10 @@
 -- Calls from a fresh record give the report's rows in order, and then the end for ever. Assumes nothing.
+use Rattle.std.specs.Prelude.{Option, Some, None, Result, Ok}
 use Prim.Native.Nat.{ℕ, zero, suc, ◌+◌, ◌<◌, ◌≤◌}
-use mathlib.Core.Path.{◌≡◌, refl, sym, ap, ◌∙◌}
+use mathlib.Core.Path.{◌≡◌, refl, ap, ◌∙◌}
 use mathlib.Core.List.{List}
 use native.Mathlib.Omega.{arith}
 use native.Mathlib.Decide.{dec_lt}
-use lib.ListN.{length}
 use Rattle.tables.specs.Table.{cell}
 use Rattle.tables.specs.Layout.{tokens, rules}
 use Rattle.grammar.specs.declared.Counts.{Counts}
@@ -12,22 +12,16 @@ use Rattle.grammar.specs.declared.Singles.{Singles}
 use Rattle.grammar.specs.Sound.{Tables, Indexes}
 use Rattle.sound.specs.Test.{count_at}
 use Rattle.sound.proofs.Iff.{sound_iff}
-use Rattle.validation.specs.declared.Validity.TheVariants.{Valid}
-use Rattle.validation.specs.Faults.{validity}
 use Rattle.validation.proofs.Order.{validity_first}
 use Rattle.reach.specs.Reach.{Grammar, grammar_of}
-use Rattle.usage.specs.declared.Listing.TheVariants.{Unused}
-use Rattle.usage.specs.declared.Marking.TheVariants.{AllMarked}
 use Rattle.usage.specs.Report.{Excuses, excuses_of, Free, Reported, MarkedBits}
 use Rattle.usage.specs.Standing.{StandsIn, UnusedRow, unused_rule, unused_token, Before, by_kind, by_row, UnusedRows}
 use Rattle.usage.proofs.Outcome.{free_rule, rule_free, free_token, token_free, all_marked, report_marks}
 use Rattle.usage.proofs.Standing.{report_rows}
-use Rattle.walks.specs.declared.Next.{Next}
-use Rattle.walks.specs.declared.Next.TheVariants.{NextUnused, NoneLeft}
+use Rattle.walks.specs.declared.NextError.{NextError}
 use Rattle.walks.specs.declared.Standing.{Standing}
-use Rattle.walks.specs.Walk.{fresh, FirstFrom, NoneFrom, Passes, rule_next, token_next, none_next, Fitting, Advanced, fitting, unfitting}
+use Rattle.walks.specs.Walk.{FirstFrom, NoneFrom, Passes, rule_next, token_next, none_next, Advanced, fitting, unfitting}
 use Rattle.walks.specs.Sequence.{FreshCalls, passed_row, stands_behind}
-use Rattle.walks.proofs.Once.{first_none}
 
 -- ---- one sort of rows: those of its kind that stand in the report before row k lie below a, and those from row k on do not
 
@@ -128,7 +122,7 @@ module _ (src : List ℕ) (c : Counts) (g : Singles) (T : Tables) (X : Indexes) 
   abbrev excuses : Excuses
   excuses = excuses_of src c T.t4 T.t6
 
-  module _ (ws₀ ws : List ℕ) (marked : MarkedBits src c g T X AllMarked ws₀ ws) (n : ℕ) (out : List ℕ) (rows : UnusedRows grammar excuses n out) where
+  module _ (ws₀ ws : List ℕ) (marked : MarkedBits src c g T X (Ok tt) ws₀ ws) (n : ℕ) (out : List ℕ) (rows : UnusedRows grammar excuses n out) where
     abbrev FreeRule : ℕ → Type 0
     FreeRule = Free ws excuses grammar.rules
 
@@ -161,13 +155,13 @@ module _ (src : List ℕ) (c : Counts) (g : Singles) (T : Tables) (X : Indexes) 
         go (unused_token e l u) = is_token e l (token_free grammar excuses ws refl (omega arith) (all_marked src c g T X ws₀ ws marked).1.2 (cell 2 out k 1) l u)
 
     -- what a call gives that has row k before it
-    record Given (s t : Standing) (m : Next) (k : ℕ) : Type 0 where
-      pub said : m ≡ NextUnused (cell 2 out k 0) (cell 2 out k 1)
+    record Given (s t : Standing) (m : Result (Option (ℕ × ℕ)) NextError) (k : ℕ) : Type 0 where
+      pub said : m ≡ Ok (Some (cell 2 out k 0, cell 2 out k 1))
       pub record_is : t ≡ passed_row (cell 2 out k 0) (cell 2 out k 1) s
       pub stands : Stands t (suc k)
 
-    module _ (s t : Standing) (m : Next) (k : ℕ) (h : k < n) (z : Stands s k) where
-      rule_given : (r : ℕ) → cell 2 out k 0 ≡ 1 → cell 2 out k 1 < count_at c rules → r ≡ cell 2 out k 1 → m ≡ NextUnused 1 r → t ≡ record { rules = r + 1; tokens = s.tokens } → Given s t m k
+    module _ (s t : Standing) (m : Result (Option (ℕ × ℕ)) NextError) (k : ℕ) (h : k < n) (z : Stands s k) where
+      rule_given : (r : ℕ) → cell 2 out k 0 ≡ 1 → cell 2 out k 1 < count_at c rules → r ≡ cell 2 out k 1 → m ≡ Ok (Some (1, r)) → t ≡ record { rules = r + 1; tokens = s.tokens } → Given s t m k
       unfolding passed_row
       rule_given r e l q a b =
           record {
@@ -182,7 +176,7 @@ module _ (src : List ℕ) (c : Counts) (g : Singles) (T : Tables) (X : Indexes) 
                 });
           }
 
-      token_given : (r : ℕ) → cell 2 out k 0 ≡ 2 → cell 2 out k 1 < count_at c tokens → r ≡ cell 2 out k 1 → m ≡ NextUnused 2 r → t ≡ record { rules = s.rules; tokens = r + 1 } → Given s t m k
+      token_given : (r : ℕ) → cell 2 out k 0 ≡ 2 → cell 2 out k 1 < count_at c tokens → r ≡ cell 2 out k 1 → m ≡ Ok (Some (2, r)) → t ≡ record { rules = s.rules; tokens = r + 1 } → Given s t m k
       unfolding passed_row
       token_given r e l q a b =
           record {
@@ -206,13 +200,13 @@ module _ (src : List ℕ) (c : Counts) (g : Singles) (T : Tables) (X : Indexes) 
       given_of_lem (is_token e l f) (none_next o x a b) = absurd (one_there out n rows.rises 2 FreeToken (count_at c tokens) token_listed z.tokens_split h e l f x)
 
     -- what a call gives behind the last row
-    over_of : (s t : Standing) (m : Next) (k : ℕ) → n ≤ k → Stands s k → Passes ws excuses grammar.rules grammar.tokens s m t → (m ≡ NoneLeft) × (t ≡ s)
+    over_of : (s t : Standing) (m : Result (Option (ℕ × ℕ)) NextError) (k : ℕ) → n ≤ k → Stands s k → Passes ws excuses grammar.rules grammar.tokens s m t → (m ≡ Ok None) × (t ≡ s)
     over_of s t m k h z (rule_next r x a b) = absurd (none_behind out n rows.rises 1 FreeRule (count_at c rules) rule_listed z.rules_split r h x)
     over_of s t m k h z (token_next r o x a b) = absurd (none_behind out n rows.rises 2 FreeToken (count_at c tokens) token_listed z.tokens_split r h x)
     over_of s t m k h z (none_next o x a b) = (a, b)
 
     -- the tables are sound and the words enough, so that no call is refused
-    passes_of : (s t : Standing) (m : Next) (k : ℕ) → Stands s k → Advanced src c g T X ws s m t → Passes ws excuses grammar.rules grammar.tokens s m t
+    passes_of : (s t : Standing) (m : Result (Option (ℕ × ℕ)) NextError) (k : ℕ) → Stands s k → Advanced src c g T X ws s m t → Passes ws excuses grammar.rules grammar.tokens s m t
     passes_of s t m k z (fitting f p) = p
     passes_of s t m k z (unfitting h a b) =
         let y = all_marked src c g T X ws₀ ws marked in
@@ -225,14 +219,14 @@ module _ (src : List ℕ) (c : Counts) (g : Singles) (T : Tables) (X : Indexes) 
 
     -- ---- the sequence of calls
 
-    module _ (N : ℕ) (at : ℕ → Standing) (said : ℕ → Next) (w : FreshCalls src c g T X ws N at said) where
+    module _ (N : ℕ) (at : ℕ → Standing) (said : ℕ → Result (Option (ℕ × ℕ)) NextError) (w : FreshCalls src c g T X ws N at said) where
       stands_fresh : Stands (at 0) 0
       stands_fresh = rw w.begins (record { rules_split = split_fresh out n rows.rises 1; tokens_split = split_fresh out n rows.rises 2; rules_inside = omega arith; tokens_inside = omega arith })
 
       given_at : (k : ℕ) → k < N → k < n → Stands (at k) k → Given (at k) (at (suc k)) (said k) k
       given_at k h l z = given_of_lem (at k) (at (suc k)) (said k) k l z (row_is k l) (passes_of (at k) (at (suc k)) (said k) k z (w.calls k h))
 
-      over_at : (k : ℕ) → k < N → n ≤ k → Stands (at k) k → (said k ≡ NoneLeft) × (at (suc k) ≡ at k)
+      over_at : (k : ℕ) → k < N → n ≤ k → Stands (at k) k → (said k ≡ Ok None) × (at (suc k) ≡ at k)
       over_at k h l z = over_of (at k) (at (suc k)) (said k) k l z (passes_of (at k) (at (suc k)) (said k) k z (w.calls k h))
 
       stands_at : (k : ℕ) → k ≤ N → Stands (at k) k
@@ -250,11 +244,11 @@ module _ (src : List ℕ) (c : Counts) (g : Singles) (T : Tables) (X : Indexes) 
           ]
 
       -- call k gives row k of the report,
-      pub walk_gives : (k : ℕ) → k < N → k < n → said k ≡ NextUnused (cell 2 out k 0) (cell 2 out k 1)
+      pub walk_gives : (k : ℕ) → k < N → k < n → said k ≡ Ok (Some (cell 2 out k 0, cell 2 out k 1))
       walk_gives k h l = (given_at k h l (stands_at k (omega arith))).said
 
       -- and behind the last row each call says the end, and leaves the record
-      pub walk_ends : (k : ℕ) → k < N → n ≤ k → (said k ≡ NoneLeft) × (at (suc k) ≡ at k)
+      pub walk_ends : (k : ℕ) → k < N → n ≤ k → (said k ≡ Ok None) × (at (suc k) ≡ at k)
       walk_ends k h l = over_at k h l (stands_at k (omega arith))
 
       -- the record after k calls, by the report's rows
@@ -273,9 +267,9 @@ module _ (src : List ℕ) (c : Counts) (g : Singles) (T : Tables) (X : Indexes) 
           ]
 
   -- with the bits of a report that was given its own rows are walked
-  module _ (n : ℕ) (ws₀ ws out₀ out : List ℕ) (p : Reported src c g T X (Unused n) ws₀ ws out₀ out) (N : ℕ) (at : ℕ → Standing) (said : ℕ → Next) (w : FreshCalls src c g T X ws N at said) where
-    pub report_walked : (k : ℕ) → k < N → k < n → said k ≡ NextUnused (cell 2 out k 0) (cell 2 out k 1)
+  module _ (n : ℕ) (ws₀ ws out₀ out : List ℕ) (p : Reported src c g T X (Ok n) ws₀ ws out₀ out) (N : ℕ) (at : ℕ → Standing) (said : ℕ → Result (Option (ℕ × ℕ)) NextError) (w : FreshCalls src c g T X ws N at said) where
+    pub report_walked : (k : ℕ) → k < N → k < n → said k ≡ Ok (Some (cell 2 out k 0, cell 2 out k 1))
     report_walked = walk_gives ws₀ ws (report_marks src c g T X n ws₀ ws out₀ out p) n out (report_rows src c g T X n ws₀ ws out₀ out p) N at said w
 
-    pub report_over : (k : ℕ) → k < N → n ≤ k → (said k ≡ NoneLeft) × (at (suc k) ≡ at k)
+    pub report_over : (k : ℕ) → k < N → n ≤ k → (said k ≡ Ok None) × (at (suc k) ≡ at k)
     report_over = walk_ends ws₀ ws (report_marks src c g T X n ws₀ ws out₀ out p) n out (report_rows src c g T X n ws₀ ws out₀ out p) N at said w

@@ -10,7 +10,6 @@ ghost use Rattle.walks.specs.Walk.{next_spot, Sought, Passes, Fitting, Advanced}
 use grammar::{Counts, Singles};
 use places::Spot;
 use reach::Sort;
-use tables::Found;
 
 // How many rule rows and how many token rows a walk has passed. A fresh one is all zero.
 #[derive(Clone, Copy)]
@@ -20,10 +19,7 @@ pub struct Standing {
 }
 
 #[derive(Clone, Copy)]
-pub enum Next {
-    // Kind and row.
-    NextUnused(u32, u32),
-    NoneLeft,
+pub enum NextError {
     // Unsound tables, a record past the counts, or too few work words.
     NotFitting,
 }
@@ -31,14 +27,14 @@ pub enum Next {
 // What a call answers, and where the walk stands behind it.
 #[derive(Clone, Copy)]
 pub struct Moved {
-    pub answer: Next,
+    pub answer: Result<Option<(u32, u32)>, NextError>,
     pub at: Standing,
 }
 
 // An answer with line and column of its place.
 #[derive(Clone, Copy)]
 pub struct NextAt {
-    pub answer: Next,
+    pub answer: Result<Option<(u32, u32)>, NextError>,
     pub spot: Spot,
 }
 
@@ -59,18 +55,11 @@ fn first_free(
     t4: &[u32],
     t6: &[u32],
     from: u32,
-) -> Found
+) -> Option<u32>
     requires { z.base < 2 ^ 40 }
     ensures { Sought (Free w.now (excuses_of src.now c t4.now t6.now) (named names.now z)) from z.count result }
 {
-    let mut row = from;
-    while row < z.count {
-        if usage::is_free(w, src, c, names, z, t4, t6, row) {
-            return Found::RowAt(row);
-        }
-        row += 1;
-    }
-    Found::NoRow
+    (from..z.count).find(|row| usage::is_free(w, src, c, names, z, t4, t6, *row))
 }
 
 // The next row by the bits, rules first.
@@ -89,23 +78,23 @@ fn pass(
     let rules = reach::rule_sort(c);
     let tokens = reach::token_sort(c);
     match first_free(w, src, c, t7, rules, t4, t6, at.rules) {
-        Found::RowAt(r) => Moved {
-            answer: Next::NextUnused(1, r),
+        Some(r) => Moved {
+            answer: Ok(Some((1, r))),
             at: Standing {
                 rules: r + 1,
                 tokens: at.tokens,
             },
         },
-        Found::NoRow => match first_free(w, src, c, t1, tokens, t4, t6, at.tokens) {
-            Found::RowAt(r) => Moved {
-                answer: Next::NextUnused(2, r),
+        None => match first_free(w, src, c, t1, tokens, t4, t6, at.tokens) {
+            Some(r) => Moved {
+                answer: Ok(Some((2, r))),
                 at: Standing {
                     rules: at.rules,
                     tokens: r + 1,
                 },
             },
-            Found::NoRow => Moved {
-                answer: Next::NoneLeft,
+            None => Moved {
+                answer: Ok(None),
                 at,
             },
         },
@@ -132,7 +121,7 @@ fn is_fitting(
     work: &[u32],
     at: Standing,
 ) -> bool
-    ensures { Says result (Fitting src.now c g (record { t1 = t1.entry.now; t2 = t2.now; t3 = t3.now; t4 = t4.now; t5 = t5.now; t6 = t6.now; t7 = t7.now; t8 = t8.now; t9 = t9.now; t10 = t10.now }) (record { tokens = i1.now; rules = i7.now }) work.now at) }
+    ensures { Says result (Fitting src.now c g (record { t1 = t1.now; t2 = t2.now; t3 = t3.now; t4 = t4.now; t5 = t5.now; t6 = t6.now; t7 = t7.now; t8 = t8.now; t9 = t9.now; t10 = t10.now }) (record { tokens = i1.now; rules = i7.now }) work.now at) }
 {
     let rules = sound::rows_of(c, tables::RULES);
     let tokens = sound::rows_of(c, tables::TOKENS);
@@ -168,7 +157,7 @@ fn advance(
     work: &[u32],
     at: Standing,
 ) -> Moved
-    ensures { Advanced src.now c g (record { t1 = t1.entry.now; t2 = t2.now; t3 = t3.now; t4 = t4.now; t5 = t5.now; t6 = t6.now; t7 = t7.now; t8 = t8.now; t9 = t9.now; t10 = t10.now }) (record { tokens = i1.now; rules = i7.now }) work.now at result.answer result.at }
+    ensures { Advanced src.now c g (record { t1 = t1.now; t2 = t2.now; t3 = t3.now; t4 = t4.now; t5 = t5.now; t6 = t6.now; t7 = t7.now; t8 = t8.now; t9 = t9.now; t10 = t10.now }) (record { tokens = i1.now; rules = i7.now }) work.now at result.answer result.at }
 {
     if is_fitting(
         src, c, g, t1, t2, t3, t4, t5, t6, t7, t8, t9, t10, i1, i7, work, at,
@@ -176,7 +165,7 @@ fn advance(
         return pass(work, src, c, t1, t4, t6, t7, at);
     }
     Moved {
-        answer: Next::NotFitting,
+        answer: Err(NextError::NotFitting),
         at,
     }
 }
@@ -201,7 +190,7 @@ pub fn step(
     work: &[u32],
     at: Standing,
 ) -> Stepped
-    ensures advanced { Advanced src.now c g (record { t1 = t1.entry.now; t2 = t2.now; t3 = t3.now; t4 = t4.now; t5 = t5.now; t6 = t6.now; t7 = t7.now; t8 = t8.now; t9 = t9.now; t10 = t10.now }) (record { tokens = i1.now; rules = i7.now }) work.now at result.next.answer result.at }
+    ensures advanced { Advanced src.now c g (record { t1 = t1.now; t2 = t2.now; t3 = t3.now; t4 = t4.now; t5 = t5.now; t6 = t6.now; t7 = t7.now; t8 = t8.now; t9 = t9.now; t10 = t10.now }) (record { tokens = i1.now; rules = i7.now }) work.now at result.next.answer result.at }
     ensures spot_value { result.next.spot ≡ next_spot src.now result.next.answer }
 {
     let p = advance(
@@ -238,7 +227,7 @@ pub fn next_unused(
     work: &[u32],
     at: &mut Standing,
 ) -> NextAt
-    ensures advanced { Advanced src.now c g (record { t1 = t1.entry.now; t2 = t2.now; t3 = t3.now; t4 = t4.now; t5 = t5.now; t6 = t6.now; t7 = t7.now; t8 = t8.now; t9 = t9.now; t10 = t10.now }) (record { tokens = i1.now; rules = i7.now }) work.now at.old result.answer at.new }
+    ensures advanced { Advanced src.now c g (record { t1 = t1.now; t2 = t2.now; t3 = t3.now; t4 = t4.now; t5 = t5.now; t6 = t6.now; t7 = t7.now; t8 = t8.now; t9 = t9.now; t10 = t10.now }) (record { tokens = i1.now; rules = i7.now }) work.now at.old result.answer at.new }
     ensures spot_value { result.spot ≡ next_spot src.now result.answer }
 {
     let s = step(

@@ -1,4 +1,5 @@
 -- A text is determined by its octets; a byte below 80 in a text is a code point of its own; what lies between two boundaries is a text. Assumes nothing.
+use Rattle.std.specs.Prelude.{Some}
 use Prim.Native.Nat.{ℕ, zero, suc, ◌+◌, ◌-◌, ◌/◌, ◌%◌, ◌≤◌, ◌<◌}
 use mathlib.Core.Path.{◌≡◌, refl, sym, ◌∙◌, ap, ap₂}
 use mathlib.Core.List.{List, [], ◌∷◌, ◌++◌, append_assoc, append_cancel_left, tail-eq_of_cons-eq}
@@ -8,9 +9,9 @@ use native.Mathlib.Omega.{arith}
 use native.Mathlib.Decide.{dec_lt}
 use lib.ListN.{length, get_or, take, drop, length-append, length-drop, take-append-drop, get_or-append}
 use lib.Seq.{take_at, get_or-append-add, slice, take-take, take-length, take-suc, get_or-drop}
+use Rattle.scan.proofs.Tuples.{some_2}
 use Rattle.utf8.specs.Utf8.{decode}
 use Rattle.utf8.proofs.Utf8.{decode_past}
-use Rattle.utf8.specs.declared.Decoded.TheVariants.{Point}
 use Rattle.whole.specs.Encode.{Scalar, Scalars, encode, encoded, Text}
 use Rattle.whole.proofs.Encode.{decode_encode, encode_1, encode_2, encode_3, encode_4}
 
@@ -24,9 +25,9 @@ Begins b = (b < 128) ⊎ (191 < b)
 -- the octets determine the text
 first_same : (x y : ℕ) (l m : List ℕ) → Scalar x → Scalar y → encode x ++ l ≡ encode y ++ m → x ≡ y
 first_same x y l m s t e =
-    let a : decode (encode y ++ m) 0 ≡ Point x (0 + length (encode x)) = rw e at (decode_encode x l 0 s) in
+    let a : decode (encode y ++ m) 0 ≡ Some (x, 0 + length (encode x)) = rw e at (decode_encode x l 0 s) in
     let b = decode_encode y m 0 t in
-    cc
+    (some_2 (sym a ∙ b)).0
 
 pub encoded_same : (xs ys : List ℕ) → Scalars xs → Scalars ys → encoded xs ≡ encoded ys → xs ≡ ys
 unfolding encoded

@@ -1,4 +1,5 @@
 -- The decoder's definition and RFC 3629's encoding are inverse to one another. Assumes nothing.
+use Rattle.std.specs.Prelude.{Option, Some, None}
 use Prim.Native.Nat.{ℕ, suc, ◌+◌, ◌-◌, ◌*◌, ◌/◌, ◌%◌, ◌≤◌, ◌<◌}
 use mathlib.Core.Path.{◌≡◌, refl, sym, ◌∙◌, ap, ap₂}
 use mathlib.Core.List.{List, [], ◌∷◌, ◌++◌}
@@ -9,11 +10,10 @@ use native.Mathlib.Decide.{dec_lt, ℕ_discrete}
 use lib.ListN.{length}
 use lib.Dec.{leb}
 use borrow.Author.Tests.{lt-ltb, le-ltb, le-leb, leb-true}
+use Rattle.scan.proofs.Tuples.{some_2}
 use Rattle.utf8.specs.Utf8.{lead_of, follow, begun, decode}
 use Rattle.utf8.proofs.Utf8 as lead
 use Rattle.utf8.specs.declared.Lead.TheVariants.{One, More, Never}
-use Rattle.utf8.specs.declared.Decoded.{Decoded}
-use Rattle.utf8.specs.declared.Decoded.TheVariants.{Point, Bad}
 use Rattle.whole.specs.Encode.{Scalar, encode}
 
 -- the four lengths
@@ -39,29 +39,29 @@ follow_in : (n low high v b : ℕ) (bs : List ℕ) (i : ℕ) → low ≤ b → b
 unfolding follow
 follow_in n low high v b bs i h k = rw (le-leb low b h, le-leb b high k, follow)
 
-follow_end : (low high v : ℕ) (l : List ℕ) (i : ℕ) → follow 0 low high v l i ≡ Point v i
+follow_end : (low high v : ℕ) (l : List ℕ) (i : ℕ) → follow 0 low high v l i ≡ Some (v, i)
 unfolding follow
 follow_end low high v l i = refl
 
 -- sequences of two, three and four bytes
 module _ (a low high v b : ℕ) (h : low ≤ b) (k : b ≤ high) where
-  decode_2 : (l : List ℕ) (i : ℕ) → More 1 low high v ≡ lead_of a → decode (a ∷ b ∷ l) i ≡ Point (v * 64 + (b - 128)) (i + 1 + 1)
+  decode_2 : (l : List ℕ) (i : ℕ) → More 1 low high v ≡ lead_of a → decode (a ∷ b ∷ l) i ≡ Some (v * 64 + (b - 128), i + 1 + 1)
   unfolding decode begun
   decode_2 l i e = rw (← e, follow_in 0 low high v b l (i + 1) h k) (follow_end _ _ _ _ _)
 
   module _ (b' : ℕ) (h' : 128 ≤ b') (k' : b' ≤ 191) where
-    decode_3 : (l : List ℕ) (i : ℕ) → More 2 low high v ≡ lead_of a → decode (a ∷ b ∷ b' ∷ l) i ≡ Point ((v * 64 + (b - 128)) * 64 + (b' - 128)) (i + 1 + 1 + 1)
+    decode_3 : (l : List ℕ) (i : ℕ) → More 2 low high v ≡ lead_of a → decode (a ∷ b ∷ b' ∷ l) i ≡ Some ((v * 64 + (b - 128)) * 64 + (b' - 128), i + 1 + 1 + 1)
     unfolding decode begun
     decode_3 l i e = rw (← e, follow_in 1 low high v b (b' ∷ l) (i + 1) h k, follow_in 0 _ _ _ b' l _ h' k') (follow_end _ _ _ _ _)
 
     module _ (b'' : ℕ) (h'' : 128 ≤ b'') (k'' : b'' ≤ 191) where
-      decode_4 : (l : List ℕ) (i : ℕ) → More 3 low high v ≡ lead_of a → decode (a ∷ b ∷ b' ∷ b'' ∷ l) i ≡ Point (((v * 64 + (b - 128)) * 64 + (b' - 128)) * 64 + (b'' - 128)) (i + 1 + 1 + 1 + 1)
+      decode_4 : (l : List ℕ) (i : ℕ) → More 3 low high v ≡ lead_of a → decode (a ∷ b ∷ b' ∷ b'' ∷ l) i ≡ Some (((v * 64 + (b - 128)) * 64 + (b' - 128)) * 64 + (b'' - 128), i + 1 + 1 + 1 + 1)
       unfolding decode begun
       decode_4 l i e =
           rw (← e, follow_in 2 low high v b (b' ∷ b'' ∷ l) (i + 1) h k, follow_in 1 _ _ _ b' (b'' ∷ l) _ h' k', follow_in 0 _ _ _ b'' l _ h'' k'') (follow_end _ _ _ _ _)
 
-point : {p q i j : ℕ} → p ≡ q → i ≡ j → Point p i ≡ Point q j
-point e f = ap₂ Point e f
+point : {p q i j : ℕ} → p ≡ q → i ≡ j → ◌≡◌ {A = Option (ℕ × ℕ)} (Some (p, i)) (Some (q, j))
+point e f = rw (e, f)
 
 -- the arithmetic of the lengths
 module _ (c : ℕ) where
@@ -85,7 +85,7 @@ module _ (c : ℕ) where
 
 -- (a) An encoding, with anything behind it, is decoded to its scalar value and its length.
 abbrev Back : ℕ → List ℕ → ℕ → Type 0
-Back c l i = decode (encode c ++ l) i ≡ Point c (i + length (encode c))
+Back c l i = decode (encode c ++ l) i ≡ Some (c, i + length (encode c))
 
 module _ (c : ℕ) (l : List ℕ) (i : ℕ) where
   back_1 : c < 0x80 → Back c l i
@@ -131,7 +131,7 @@ module _ (c : ℕ) (l : List ℕ) (i : ℕ) where
               ]
         ]
 
-  pub decode_encode : Scalar c → decode (encode c ++ l) i ≡ Point c (i + length (encode c))
+  pub decode_encode : Scalar c → decode (encode c ++ l) i ≡ Some (c, i + length (encode c))
   decode_encode s =
       elim (dec_lt c 0x80) [
         | yes h ↦ back_1 h
@@ -212,7 +212,7 @@ rows a =
     ]
 
 -- a byte that was followed: it lies between the bounds, and the rest is followed
-record Next (n low high v : ℕ) (l : List ℕ) (i : ℕ) (d : Decoded) : Type 0 where
+record Next (n low high v : ℕ) (l : List ℕ) (i : ℕ) (d : Option (ℕ × ℕ)) : Type 0 where
   b : ℕ
   bs : List ℕ
   same : l ≡ b ∷ bs
@@ -220,19 +220,19 @@ record Next (n low high v : ℕ) (l : List ℕ) (i : ℕ) (d : Decoded) : Type 0
   below : b ≤ high
   then : follow n 128 191 (v * 64 + (b - 128)) bs (i + 1) ≡ d
 
-next : (n low high v : ℕ) (l : List ℕ) (i p j : ℕ) → follow (suc n) low high v l i ≡ Point p j → Next n low high v l i (Point p j)
+next : (n low high v : ℕ) (l : List ℕ) (i p j : ℕ) → follow (suc n) low high v l i ≡ Some (p, j) → Next n low high v l i (Some (p, j))
 unfolding follow
 next n low high v [] i p j e = let z : ◌≡◌ {A = ℕ} 0 1 = cc in absurd (omega arith)
 next n low high v (b ∷ bs) i p j e = go (leb low b) (leb b high) refl refl e
   where
-    go : (t u : Bool) → leb low b ≡ t → leb b high ≡ u → elim (t && u) [ true ↦ follow n 128 191 (v * 64 + (b - 128)) bs (i + 1) | false ↦ Bad ] ≡ Point p j → Next n low high v (b ∷ bs) i (Point p j)
+    go : (t u : Bool) → leb low b ≡ t → leb b high ≡ u → ◌≡◌ {A = Option (ℕ × ℕ)} (elim (t && u) [ true ↦ follow n 128 191 (v * 64 + (b - 128)) bs (i + 1) | false ↦ None ]) (Some (p, j)) → Next n low high v (b ∷ bs) i (Some (p, j))
     go true true f g d = record { b = b; bs = bs; same = refl; above = leb-true low b f; below = leb-true b high g; then = d }
     go true false f g d = let z : ◌≡◌ {A = ℕ} 0 1 = cc in absurd (omega arith)
     go false u f g d = let z : ◌≡◌ {A = ℕ} 0 1 = cc in absurd (omega arith)
 
-over : (low high v : ℕ) (l : List ℕ) (i p j : ℕ) → follow 0 low high v l i ≡ Point p j → (v ≡ p) × (i ≡ j)
+over : (low high v : ℕ) (l : List ℕ) (i p j : ℕ) → follow 0 low high v l i ≡ Some (p, j) → (v ≡ p) × (i ≡ j)
 unfolding follow
-over low high v l i p j e = (cc, cc)
+over low high v l i p j e = some_2 e
 
 -- the arithmetic backwards: the octets of the sum are the bytes
 module _ (a b p : ℕ) where
@@ -258,7 +258,7 @@ module _ (a b p : ℕ) where
       rw (encode_4 p g, x, w, y, z)
 
 module _ (a i p j : ℕ) where
-  front_2 : (l : List ℕ) → 194 ≤ a → a < 224 → follow 1 128 191 (a - 192) l (i + 1) ≡ Point p j → Front (a ∷ l) i p j
+  front_2 : (l : List ℕ) → 194 ≤ a → a < 224 → follow 1 128 191 (a - 192) l (i + 1) ≡ Some (p, j) → Front (a ∷ l) i p j
   front_2 l h k e =
       let x = next 0 128 191 (a - 192) l (i + 1) p j e in
       let o = over _ _ _ _ _ _ _ x.then in
@@ -267,7 +267,7 @@ module _ (a i p j : ℕ) where
       record { rest = x.bs; same = rw f (ap (◌∷◌ a) x.same); scalar = inl (omega arith); end = rw f (sym o.1 ∙ omega arith) }
 
   module _ (low high : ℕ) where
-    front_3 : (l : List ℕ) → 224 ≤ a → a < 240 → 128 ≤ low → high ≤ 191 → 32 ≤ (a - 224) * 64 + (low - 128) → ((a - 224) * 64 + (high - 128) < 864) ⊎ (895 < (a - 224) * 64 + (low - 128)) → follow 2 low high (a - 224) l (i + 1) ≡ Point p j → Front (a ∷ l) i p j
+    front_3 : (l : List ℕ) → 224 ≤ a → a < 240 → 128 ≤ low → high ≤ 191 → 32 ≤ (a - 224) * 64 + (low - 128) → ((a - 224) * 64 + (high - 128) < 864) ⊎ (895 < (a - 224) * 64 + (low - 128)) → follow 2 low high (a - 224) l (i + 1) ≡ Some (p, j) → Front (a ∷ l) i p j
     front_3 l h k m n least gap e =
         let x = next 1 low high (a - 224) l (i + 1) p j e in
         let y = next 0 128 191 _ x.bs _ p j x.then in
@@ -277,7 +277,7 @@ module _ (a i p j : ℕ) where
         let s : Scalar p = elim gap [ inl g ↦ inl (omega arith) | inr g ↦ inr (omega arith, omega arith) ] in
         record { rest = y.bs; same = rw f (ap (◌∷◌ a) (x.same ∙ ap (◌∷◌ x.b) y.same)); scalar = s; end = rw f (sym o.1 ∙ omega arith) }
 
-    front_4 : (l : List ℕ) → 240 ≤ a → 128 ≤ low → high ≤ 191 → 16 ≤ (a - 240) * 64 + (low - 128) → (a - 240) * 64 + (high - 128) < 272 → follow 3 low high (a - 240) l (i + 1) ≡ Point p j → Front (a ∷ l) i p j
+    front_4 : (l : List ℕ) → 240 ≤ a → 128 ≤ low → high ≤ 191 → 16 ≤ (a - 240) * 64 + (low - 128) → (a - 240) * 64 + (high - 128) < 272 → follow 3 low high (a - 240) l (i + 1) ≡ Some (p, j) → Front (a ∷ l) i p j
     front_4 l h m n least most e =
         let x = next 2 low high (a - 240) l (i + 1) p j e in
         let y = next 1 128 191 _ x.bs _ p j x.then in
@@ -287,17 +287,17 @@ module _ (a i p j : ℕ) where
         let f = octets_4 a x.b p y.b z.b q h (omega arith) (omega arith) y.above y.below z.above z.below (omega arith) in
         record { rest = z.bs; same = rw f (ap (◌∷◌ a) (x.same ∙ ap (◌∷◌ x.b) (y.same ∙ ap (◌∷◌ y.b) z.same))); scalar = inr (omega arith, omega arith); end = rw f (sym o.1 ∙ omega arith) }
 
-pub decode_front : (l : List ℕ) (i p j : ℕ) → decode l i ≡ Point p j → Front l i p j
+pub decode_front : (l : List ℕ) (i p j : ℕ) → decode l i ≡ Some (p, j) → Front l i p j
 unfolding decode begun
 decode_front [] i p j e = let z : ◌≡◌ {A = ℕ} 0 1 = cc in absurd (omega arith)
 decode_front (a ∷ l) i p j e = go (rows a)
   where
     go : Rows a → Front (a ∷ l) i p j
-    go (never r) = let d = rw (← r) at e in let z : ◌≡◌ {A = ℕ} 0 1 = cc in absurd (omega arith)
+    go (never r) = let d : ◌≡◌ {A = Option (ℕ × ℕ)} None (Some (p, j)) = rw (← r) at e in let z : ◌≡◌ {A = ℕ} 0 1 = cc in absurd (omega arith)
     go (in-1 r h) =
-        let d : Point a (i + 1) ≡ Point p j = rw (← r) at e in
-        let q : a ≡ p = cc in
-        let k : i + 1 ≡ j = cc in
+        let d : ◌≡◌ {A = Option (ℕ × ℕ)} (Some (a, i + 1)) (Some (p, j)) = rw (← r) at e in
+        let q : a ≡ p = (some_2 d).0 in
+        let k : i + 1 ≡ j = (some_2 d).1 in
         let f : encode p ≡ p ∷ [] = encode_1 p (omega arith) in
         record { rest = l; same = rw (f, q); scalar = inl (omega arith); end = rw f (sym k) }
     go (in-2 r h k) = front_2 a i p j l h k (rw (← r) at e)

@@ -1,4 +1,5 @@
 -- One law for each way through the checking loop. Assumes nothing.
+use Rattle.std.specs.Prelude.{Option, Some, None, Result, Ok, Err}
 use Prim.Native.Nat.{ℕ, zero, suc, ◌+◌, ◌-◌, ◌≤◌, ◌<◌}
 use mathlib.Core.Path.{◌≡◌, refl, sym, ◌∙◌}
 use mathlib.Core.List.{List, [], ◌∷◌}
@@ -12,10 +13,6 @@ use Rattle.scan.proofs.Bytes.{drop_at}
 use Rattle.scan.proofs.Runs.{run_keeps, run_past}
 use Rattle.utf8.specs.Utf8.{lead_of, begun, decode, decode_at}
 use Rattle.utf8.proofs.Utf8.{decode_past}
-use Rattle.utf8.specs.declared.Decoded.{Decoded}
-use Rattle.utf8.specs.declared.Decoded.TheVariants.{Point, Bad}
-use Rattle.whole.specs.declared.Checked.{Checked}
-use Rattle.whole.specs.declared.Checked.TheVariants.{Good, BadAt}
 use Rattle.whole.specs.Whole.{check, check_at}
 
 -- the bytes of a code point are passed over
@@ -25,7 +22,7 @@ skip k [] i = rw (drop-nil k)
 skip zero (a ∷ bs) i = let e : i + 0 ≡ i = omega arith in rw e
 skip (suc k) (a ∷ bs) i = let e : i + suc k ≡ i + 1 + k = omega arith in rw e (skip k bs (i + 1))
 
-pub check_point : (l : List ℕ) (i p j : ℕ) → decode l i ≡ Point p j → check 0 l i ≡ check 0 (drop (j - i) l) j
+pub check_point : (l : List ℕ) (i p j : ℕ) → decode l i ≡ Some (p, j) → check 0 l i ≡ check 0 (drop (j - i) l) j
 unfolding check decode
 check_point [] i p j e = let z : ◌≡◌ {A = ℕ} 0 1 = cc in absurd (omega arith)
 check_point (a ∷ bs) i p j e =
@@ -35,36 +32,36 @@ check_point (a ∷ bs) i p j e =
     rw (e, f, check) (rw g at (skip (j - (i + 1)) bs (i + 1)))
 
 -- a byte that is a code point by itself
-plain : (a : ℕ) (bs : List ℕ) (i : ℕ) → a < 128 → decode (a ∷ bs) i ≡ Point a (i + 1)
+plain : (a : ℕ) (bs : List ℕ) (i : ℕ) → a < 128 → decode (a ∷ bs) i ≡ Some (a, i + 1)
 unfolding decode lead_of begun
 plain a bs i l = rw (lt-ltb a 128 l, lead_of)
 
-pub decode_plain : (s : List ℕ) (i : ℕ) → i < length s → get_or s i 0 < 128 → decode_at s i ≡ Point (get_or s i 0) (i + 1)
+pub decode_plain : (s : List ℕ) (i : ℕ) → i < length s → get_or s i 0 < 128 → decode_at s i ≡ Some (get_or s i 0, i + 1)
 unfolding decode_at
 decode_plain s i h l = rw (drop_at s i h) (plain (get_or s i 0) (drop (i + 1) s) i l)
 
-module _ (s : List ℕ) (i : ℕ) (r : Checked) (inv : check_at s i ≡ r) where
-  pub check_end : length s ≤ i → Good ≡ r
+module _ (s : List ℕ) (i : ℕ) (r : Result (Unit {0}) ℕ) (inv : check_at s i ≡ r) where
+  pub check_end : length s ≤ i → Ok tt ≡ r
   unfolding check check_at
   check_end h = rw (drop_of_length-le s h) at inv
 
-  module _ (d : Decoded) (q : d ≡ decode_at s i) where
-    pub check_on : (p j : ℕ) → d ≡ Point p j → check_at s j ≡ r
+  module _ (d : Option (ℕ × ℕ)) (q : d ≡ decode_at s i) where
+    pub check_on : (p j : ℕ) → d ≡ Some (p, j) → check_at s j ≡ r
     unfolding check_at decode_at
     check_on p j e =
-        let f : decode (drop i s) i ≡ Point p j = sym q ∙ e in
+        let f : decode (drop i s) i ≡ Some (p, j) = sym q ∙ e in
         let h = decode_past (drop i s) i p j f in
         let g : i + (j - i) ≡ j = omega arith in
         rw (check_point (drop i s) i p j f, drop-drop (j - i) i s, g) at inv
 
-    pub check_bad : i < length s → d ≡ Bad → BadAt i ≡ r
+    pub check_bad : i < length s → d ≡ None → Err i ≡ r
     unfolding check check_at decode_at
     check_bad h e =
-        let f : decode (drop i s) i ≡ Bad = sym q ∙ e in
+        let f : decode (drop i s) i ≡ None = sym q ∙ e in
         let g = drop_at s i h in
         rw (g, rw g at f, check) at inv
 
-    pub check_less : (p j : ℕ) → i < length s → d ≡ Point p j → length s - j < length s - i
+    pub check_less : (p j : ℕ) → i < length s → d ≡ Some (p, j) → length s - j < length s - i
     unfolding decode_at
     check_less p j h e = let k = decode_past (drop i s) i p j (sym q ∙ e) in omega arith
 
@@ -73,7 +70,7 @@ module _ (s : List ℕ) (i : ℕ) (r : Checked) (inv : check_at s i ≡ r) where
 
 -- a run of such bytes, the first of which was tested
 module _ (s : List ℕ) (i e : ℕ) (x : Runs (in_class Ascii) s i e) where
-  pub check_run : (r : Checked) → check_at s i ≡ r → check_at s e ≡ r
+  pub check_run : (r : Result (Unit {0}) ℕ) → check_at s i ≡ r → check_at s e ≡ r
   unfolding in_class
   check_run r inv = run_keeps (λ k. check_at s k ≡ r) (in_class Ascii) s i e x (λ k h t v. check_plain s k r v h (ltb-true _ _ t)) inv
 

@@ -5,34 +5,28 @@ ghost use Rattle.std.specs.Prelude.{◌≡◌, length};
 ghost use Rattle.whole.specs.Whole.{check_at, Below};
 
 use scan::Class;
-use utf8::Decoded;
 
-#[derive(Clone, Copy)]
-pub enum Checked {
-    Good,
-    // The first byte that begins no well-formed sequence.
-    BadAt(usize),
-}
-
-pub fn check(src: &[u8]) -> Checked
+// An error is the first byte that begins no well-formed sequence.
+pub fn check(src: &[u8]) -> Result<(), usize>
     ensures value { result ≡ check_at src.now 0 }
     ensures below { Below (length src.now) result }
 {
     let mut i = 0;
+    // by hand: a step is a run of bytes or a code point, as long as the callee says
     while i < src.len() {
         // most bytes are code points by themselves, and stand in long runs
         if src[i] < 128 {
             i = scan::far_end(src, i, Class::Ascii);
         } else {
             match utf8::decode(src, i) {
-                Decoded::Point(_, j) => {
+                Some((_, j)) => {
                     i = j;
                 }
-                Decoded::Bad => {
-                    return Checked::BadAt(i);
+                None => {
+                    return Err(i);
                 }
             }
         }
     }
-    Checked::Good
+    Ok(())
 }

@@ -1,4 +1,5 @@
 -- A token holds no LF, from where it was sought to its end, its quotes with it; a tag no line end. Assumes nothing.
+use Rattle.std.specs.Prelude.{Ok}
 use Prim.Native.Nat.{ℕ, ◌+◌, ◌≤◌, ◌<◌}
 use mathlib.Core.Path.{◌≡◌, sym, ◌∙◌}
 use mathlib.Core.List.{List}
@@ -11,10 +12,8 @@ use borrow.Author.Tests.{not-true}
 use Rattle.scan.specs.declared.Place.{Place}
 use Rattle.scan.specs.declared.Class.TheVariants.{TokenStart, TokenByte, Unquoted, TagByte}
 use Rattle.scan.specs.Scan.{is_letter, is_digit, is_eol, in_class}
-use Rattle.words.specs.declared.Token.TheVariants.{Found}
 use Rattle.words.specs.Words.{is_quote, token_at, IsWord, IsQuoted, IsToken, bare_token, quoted_token}
 use Rattle.words.specs.Tags.{tag_at, IsTag}
-use Rattle.words.specs.declared.Tag.TheVariants.{TagTo}
 use Rattle.words.proofs.Meaning.{token_iff, tag_iff}
 
 -- a quote is no LF, and neither is what a quoted token holds
@@ -51,7 +50,7 @@ module _ (s : List ℕ) (from k : ℕ) (h : from ≤ k) (f : get_or s k 0 ≡ 10
   in-token l (quoted_token x) = in-quoted _ l x
 
 -- No byte of a token, its quotes with it, is LF.
-pub token_no_feed : (s : List ℕ) (from : ℕ) (p : Place) (end : ℕ) (quoted : Bool) → token_at s from ≡ Found p end quoted → (k : ℕ) → from ≤ k → k < end → get_or s k 0 ≡ 10 → ⊥
+pub token_no_feed : (s : List ℕ) (from : ℕ) (p : Place) (end : ℕ) (quoted : Bool) → token_at s from ≡ Ok (p, end, quoted) → (k : ℕ) → from ≤ k → k < end → get_or s k 0 ≡ 10 → ⊥
 token_no_feed s from p end quoted e k h l f = in-token s from k h f l ((token_iff s from p end quoted).0 e)
 
 inner_no_end : (c : ℕ) → in_class TagByte c ≡ true → is_eol c ≡ false
@@ -59,7 +58,7 @@ unfolding in_class
 inner_no_end c t = not-true _ ((and-eq-true_iff _ _).0 t).0
 
 -- "50 tag not closed on its line": no byte of a tag, its brackets with it, is a line end's.
-pub tag_no_end : (s : List ℕ) (from : ℕ) (p : Place) (end : ℕ) → tag_at s from ≡ TagTo p end → (k : ℕ) → from ≤ k → k < end → is_eol (get_or s k 0) ≡ false
+pub tag_no_end : (s : List ℕ) (from : ℕ) (p : Place) (end : ℕ) → tag_at s from ≡ Ok (p, end) → (k : ℕ) → from ≤ k → k < end → is_eol (get_or s k 0) ≡ false
 unfolding is_eol
 tag_no_end s from p end e k h l = go ((tag_iff s from p end).0 e)
   where

@@ -1,4 +1,5 @@
 -- What names, tokens, tags and integers are without a scan: the scan answers a place exactly where one stands. Assumes nothing.
+use Rattle.std.specs.Prelude.{Option, Some, None, Result, Ok, Err}
 use Prim.Native.Nat.{ℕ, ◌+◌, ◌^◌, ◌≤◌, ◌<◌}
 use mathlib.Core.Path.{◌≡◌, refl, sym, ◌∙◌}
 use mathlib.Core.List.{List}
@@ -9,6 +10,7 @@ use native.Mathlib.Decide.{ℕ_discrete}
 use lib.Dec.{leb, ltb, eqb}
 use lib.ListN.{length, get_or}
 use borrow.Author.Tests.{leb-false, ltb-true, eqb-true, eqb-false, eq-eqb, ne_eqb}
+use Rattle.scan.proofs.Tuples.{ok_2}
 use Rattle.scan.specs.declared.Place.{Place}
 use Rattle.scan.specs.declared.Class.{Class}
 use Rattle.scan.specs.declared.Class.TheVariants.{NameStart, NameByte, TokenStart, TokenByte, Digit, Unquoted, TagByte}
@@ -18,15 +20,9 @@ use Rattle.scan.proofs.Runs.{run_is, run_one}
 use Rattle.words.specs.Words.{word_at, named, name_at, is_quote, found, closed, quoted_at, bare, token_at, IsWord, IsQuoted, IsToken, bare_token, quoted_token}
 use Rattle.words.specs.Tags.{tag_closed, tag_at, IsTag}
 use Rattle.words.specs.Numbers.{decimal_at, counted, int_at, IsInt}
-use Rattle.words.specs.declared.Word.{Word}
-use Rattle.words.specs.declared.Word.TheVariants.{WordTo, NoWord}
-use Rattle.words.specs.declared.Name.TheVariants.{NameTo}
-use Rattle.words.specs.declared.Token.{Token}
-use Rattle.words.specs.declared.Token.TheVariants.{Found, NoToken}
-use Rattle.words.specs.declared.Tag.{Tag}
-use Rattle.words.specs.declared.Tag.TheVariants.{TagTo, OpenTag, NoTag}
-use Rattle.words.specs.declared.Int.{Int}
-use Rattle.words.specs.declared.Int.TheVariants.{Value}
+use Rattle.words.specs.declared.TagError.{TagError}
+use Rattle.words.specs.declared.TagError.TheVariants.{OpenTag, NoTag}
+use Rattle.words.specs.declared.IntError.{IntError}
 use Rattle.words.proofs.Words.{word_to, quoted_found_lem, token_quoted, token_bare}
 use Rattle.words.proofs.Numbers.{int_value}
 
@@ -35,32 +31,32 @@ clash : ◌≡◌ {A = ℕ} 0 1 → ⊥
 clash z = omega arith
 
 module _ (first rest : Class) (s : List ℕ) (from to : ℕ) where
-  word_is : word_at first rest s from ≡ WordTo to → IsWord first rest s from to
+  word_is : word_at first rest s from ≡ Some to → IsWord first rest s from to
   unfolding word_at
   word_is =
       on_test Is (leb (length s) from) _ _ (λ f q. absurd (clash (cc)))
       (λ f. on_test Is (in_class first (get_or s from 0)) _ _ (λ t q. here (leb-false _ _ f) t (cc)) (λ t q. absurd (clash (cc))))
     where
-      Is : Word → Type 0
-      Is w = w ≡ WordTo to → IsWord first rest s from to
+      Is : Option ℕ → Type 0
+      Is w = w ≡ Some to → IsWord first rest s from to
 
       here : from < length s → in_class first (get_or s from 0) ≡ true → run_end_at (in_class rest) s (from + 1) ≡ to → IsWord first rest s from to
       here h t e = record { inside = h; begins = t; goes_on = rw e at (run_is (in_class rest) s (from + 1) (omega arith)) }
 
-  is_word : IsWord first rest s from to → word_at first rest s from ≡ WordTo to
+  is_word : IsWord first rest s from to → word_at first rest s from ≡ Some to
   is_word x =
       let h = x.inside in
       sym (word_to first rest s from true h (sym x.begins) to refl (run_one (in_class rest) s (from + 1) _ _ x.goes_on (run_is (in_class rest) s (from + 1) (omega arith))))
 
 module _ (s : List ℕ) (from to : ℕ) where
   -- A name is read exactly where one stands: its first byte and each further one of the right class, the next byte not.
-  pub name_iff : (name_at s from ≡ NameTo to) ↔ IsWord NameStart NameByte s from to
+  pub name_iff : (name_at s from ≡ Ok to) ↔ IsWord NameStart NameByte s from to
   unfolding name_at named
   name_iff = (λ e. word_is NameStart NameByte s from to (back (word_at NameStart NameByte s from) e), λ x. rw (is_word NameStart NameByte s from to x))
     where
-      back : (w : Word) → named from w ≡ NameTo to → w ≡ WordTo to
-      back (WordTo j) e = cc
-      back NoWord e = absurd (clash (cc))
+      back : (w : Option ℕ) → named from w ≡ Ok to → w ≡ Some to
+      back (Some j) e = cc
+      back None e = absurd (clash (cc))
 
   start_no_quote : (c : ℕ) → in_class TokenStart c ≡ true → is_quote c ≡ false
   unfolding in_class is_letter is_quote
@@ -93,9 +89,9 @@ module _ (s : List ℕ) (from to : ℕ) where
 
 module _ (s : List ℕ) (from : ℕ) where
   -- what the answer tells
-  abbrev Told : Token → Type 0
-  Told (Found p end quoted) = IsToken s from p end quoted
-  Told (NoToken i) = i ≡ from
+  abbrev Told : Result (Place × ℕ × Bool) ℕ → Type 0
+  Told (Ok (p, end, quoted)) = IsToken s from p end quoted
+  Told (Err i) = i ≡ from
 
   tells : Told (token_at s from)
   unfolding token_at quoted_at closed bare
@@ -113,25 +109,25 @@ module _ (s : List ℕ) (from : ℕ) where
       quoted : is_quote (get_or s from 0) ≡ true → from + 1 < length s → (get_or s (from + 1) 0 ≡ 10 → ⊥) → (to < length s) × (get_or s to 0 ≡ get_or s from 0) → IsQuoted s from to
       quoted t h l c = record { opens = t; first = l; goes_on = run_is (in_class (Unquoted (get_or s from 0))) s (from + 1 + 1) (omega arith); closes = c.1; inside = c.0 }
 
-      go : (w : Word) → word_at TokenStart TokenByte s from ≡ w → Told (bare from w)
-      go (WordTo j) e = bare_token (word_is TokenStart TokenByte s from j e)
-      go NoWord e = refl
+      go : (w : Option ℕ) → word_at TokenStart TokenByte s from ≡ w → Told (bare from w)
+      go (Some j) e = bare_token (word_is TokenStart TokenByte s from j e)
+      go None e = refl
 
   -- A token is read exactly where one stands, bare or quoted,
-  pub token_iff : (p : Place) (end : ℕ) (quoted : Bool) → (token_at s from ≡ Found p end quoted) ↔ IsToken s from p end quoted
+  pub token_iff : (p : Place) (end : ℕ) (quoted : Bool) → (token_at s from ≡ Ok (p, end, quoted)) ↔ IsToken s from p end quoted
   token_iff p end quoted = (λ e. told Told e tells, back)
     where
-      back : {p : Place} {end : ℕ} {quoted : Bool} → IsToken s from p end quoted → token_at s from ≡ Found p end quoted
+      back : {p : Place} {end : ℕ} {quoted : Bool} → IsToken s from p end quoted → token_at s from ≡ Ok (p, end, quoted)
       back (bare_token x) = bare_found_lem s from _ x
       back (quoted_token x) = quote_found s from _ x
 
   -- and is missed, where it was sought, exactly where none stands.
-  pub no_token_iff : (i : ℕ) → (token_at s from ≡ NoToken i) ↔ ((i ≡ from) × ((p : Place) (end : ℕ) (quoted : Bool) → IsToken s from p end quoted → ⊥))
+  pub no_token_iff : (i : ℕ) → (token_at s from ≡ Err i) ↔ ((i ≡ from) × ((p : Place) (end : ℕ) (quoted : Bool) → IsToken s from p end quoted → ⊥))
   no_token_iff i = (λ e. (told Told e tells, λ p end quoted x. clash (let f = (token_iff p end quoted).1 x in cc)), λ x. go (token_at s from) tells x.0 x.1)
     where
-      go : (t : Token) → Told t → i ≡ from → ((p : Place) (end : ℕ) (quoted : Bool) → IsToken s from p end quoted → ⊥) → t ≡ NoToken i
-      go (Found p end quoted) x h f = absurd (f p end quoted x)
-      go (NoToken j) x h f = rw (x, h)
+      go : (t : Result (Place × ℕ × Bool) ℕ) → Told t → i ≡ from → ((p : Place) (end : ℕ) (quoted : Bool) → IsToken s from p end quoted → ⊥) → t ≡ Err i
+      go (Ok (p, end, quoted)) x h f = absurd (f p end quoted x)
+      go (Err j) x h f = rw (x, h)
 
   word_of : {p : Place} {end : ℕ} {quoted : Bool} → IsToken s from p end quoted → quoted ≡ false → IsWord TokenStart TokenByte s from end
   word_of (bare_token x) e = x
@@ -142,7 +138,7 @@ module _ (s : List ℕ) (from : ℕ) where
   bare_iff to = (λ e. word_of (told Told e tells) refl, bare_found_lem s from to)
 
   -- of what is read where no quote stands,
-  pub bare_is : (to : ℕ) (p : Place) (b : Bool) → is_quote (get_or s from 0) ≡ false → token_at s from ≡ Found p to b → IsWord TokenStart TokenByte s from to
+  pub bare_is : (to : ℕ) (p : Place) (b : Bool) → is_quote (get_or s from 0) ≡ false → token_at s from ≡ Ok (p, to, b) → IsWord TokenStart TokenByte s from to
   bare_is to p b u e = go (told Told e tells)
     where
       go : {p : Place} {end : ℕ} {quoted : Bool} → IsToken s from p end quoted → IsWord TokenStart TokenByte s from end
@@ -167,7 +163,7 @@ no_dot s from to k x h l e =
     ]
 
 -- and as what is read.
-pub token_no_dot : (s : List ℕ) (from : ℕ) (p : Place) (end : ℕ) → token_at s from ≡ Found p end false → (k : ℕ) → p.from ≤ k → k < p.to → get_or s k 0 ≡ 46 → ⊥
+pub token_no_dot : (s : List ℕ) (from : ℕ) (p : Place) (end : ℕ) → token_at s from ≡ Ok (p, end, false) → (k : ℕ) → p.from ≤ k → k < p.to → get_or s k 0 ≡ 46 → ⊥
 token_no_dot s from p end e = go ((token_iff s from p end false).0 e) refl
   where
     go : {p : Place} {end : ℕ} {quoted : Bool} → IsToken s from p end quoted → quoted ≡ false → (k : ℕ) → p.from ≤ k → k < p.to → get_or s k 0 ≡ 46 → ⊥
@@ -194,10 +190,10 @@ module _ (s : List ℕ) (from : ℕ) where
       (λ i. record { from = a i; to = b i }, omega arith)
 
   -- what the answer tells
-  abbrev TagTold : Tag → Type 0
-  TagTold (TagTo p end) = IsTag s from p end
-  TagTold (OpenTag i) = (i ≡ from) × (get_or s from 0 ≡ 60) × ((p : Place) (end : ℕ) → IsTag s from p end → ⊥)
-  TagTold (NoTag i) = (i ≡ from) × (get_or s from 0 ≡ 60 → ⊥)
+  abbrev TagTold : Result (Place × ℕ) TagError → Type 0
+  TagTold (Ok (p, end)) = IsTag s from p end
+  TagTold (Err (OpenTag i)) = (i ≡ from) × (get_or s from 0 ≡ 60) × ((p : Place) (end : ℕ) → IsTag s from p end → ⊥)
+  TagTold (Err (NoTag i)) = (i ≡ from) × (get_or s from 0 ≡ 60 → ⊥)
 
   tag_tells : TagTold (tag_at s from)
   unfolding tag_at tag_closed
@@ -223,43 +219,43 @@ module _ (s : List ℕ) (from : ℕ) where
           rw (← e) (at_yes s p.to 62 (omega arith) x.closes)
 
   -- A tag is read exactly where one stands, with its place and its end,
-  pub tag_iff : (p : Place) (end : ℕ) → (tag_at s from ≡ TagTo p end) ↔ IsTag s from p end
+  pub tag_iff : (p : Place) (end : ℕ) → (tag_at s from ≡ Ok (p, end)) ↔ IsTag s from p end
   tag_iff p end = (λ e. told TagTold e tag_tells, λ x. go (tag_at s from) tag_tells x)
     where
-      go : (t : Tag) → TagTold t → IsTag s from p end → t ≡ TagTo p end
-      go (TagTo p' end') y x = let z = tag_one p' p end' end y x in rw (z.0, z.1)
-      go (OpenTag i) y x = absurd (y.2 p end x)
-      go (NoTag i) y x = absurd (y.1 x.opens)
+      go : (t : Result (Place × ℕ) TagError) → TagTold t → IsTag s from p end → t ≡ Ok (p, end)
+      go (Ok (p', end')) y x = let z = tag_one p' p end' end y x in rw (z.0, z.1)
+      go (Err (OpenTag i)) y x = absurd (y.2 p end x)
+      go (Err (NoTag i)) y x = absurd (y.1 x.opens)
 
   -- 50 is given at its `<` exactly where `<` stands and no tag,
-  pub open_tag_iff : (i : ℕ) → (tag_at s from ≡ OpenTag i) ↔ ((i ≡ from) × (get_or s from 0 ≡ 60) × ((p : Place) (end : ℕ) → IsTag s from p end → ⊥))
+  pub open_tag_iff : (i : ℕ) → (tag_at s from ≡ Err (OpenTag i)) ↔ ((i ≡ from) × (get_or s from 0 ≡ 60) × ((p : Place) (end : ℕ) → IsTag s from p end → ⊥))
   open_tag_iff i = (λ e. told TagTold e tag_tells, λ x. go (tag_at s from) tag_tells x)
     where
-      go : (t : Tag) → TagTold t → (i ≡ from) × (get_or s from 0 ≡ 60) × ((p : Place) (end : ℕ) → IsTag s from p end → ⊥) → t ≡ OpenTag i
-      go (TagTo p end) y x = absurd (x.2 p end y)
-      go (OpenTag j) y x = rw (y.0, x.0)
-      go (NoTag j) y x = absurd (y.1 x.1)
+      go : (t : Result (Place × ℕ) TagError) → TagTold t → (i ≡ from) × (get_or s from 0 ≡ 60) × ((p : Place) (end : ℕ) → IsTag s from p end → ⊥) → t ≡ Err (OpenTag i)
+      go (Ok (p, end)) y x = absurd (x.2 p end y)
+      go (Err (OpenTag j)) y x = rw (y.0, x.0)
+      go (Err (NoTag j)) y x = absurd (y.1 x.1)
 
   -- and there is none, where it was sought, exactly where no `<` stands.
-  pub no_tag_iff : (i : ℕ) → (tag_at s from ≡ NoTag i) ↔ ((i ≡ from) × (get_or s from 0 ≡ 60 → ⊥))
+  pub no_tag_iff : (i : ℕ) → (tag_at s from ≡ Err (NoTag i)) ↔ ((i ≡ from) × (get_or s from 0 ≡ 60 → ⊥))
   no_tag_iff i = (λ e. told TagTold e tag_tells, λ x. go (tag_at s from) tag_tells x)
     where
-      go : (t : Tag) → TagTold t → (i ≡ from) × (get_or s from 0 ≡ 60 → ⊥) → t ≡ NoTag i
-      go (TagTo p end) y x = absurd (x.1 y.opens)
-      go (OpenTag j) y x = absurd (x.1 y.1)
-      go (NoTag j) y x = rw (y.0, x.0)
+      go : (t : Result (Place × ℕ) TagError) → TagTold t → (i ≡ from) × (get_or s from 0 ≡ 60 → ⊥) → t ≡ Err (NoTag i)
+      go (Ok (p, end)) y x = absurd (x.1 y.opens)
+      go (Err (OpenTag j)) y x = absurd (x.1 y.1)
+      go (Err (NoTag j)) y x = rw (y.0, x.0)
 
 module _ (s : List ℕ) (from to : ℕ) where
   -- An integer is read exactly where digits stand whose decimal value fits 64 bits.
-  pub int_iff : (v : ℕ) → from ≤ length s → (int_at s from ≡ Value v to) ↔ IsInt s from to v
+  pub int_iff : (v : ℕ) → from ≤ length s → (int_at s from ≡ Ok (v, to)) ↔ IsInt s from to v
   unfolding int_at counted
   int_iff v k = (there, λ x. let d = x.value in let f = x.fits in let h = x.some in sym (int_value s from to (run_one (in_class Digit) s from _ _ x.digits (run_is (in_class Digit) s from k)) h v to (sym d) (below f) (omega arith) (omega arith)))
     where
       below : v < 2 ^ 64 → v ≤ 18446744073709551615
       below f = omega arith
 
-      Is : Int → Type 0
-      Is r = r ≡ Value v to → IsInt s from to v
+      Is : Result (ℕ × ℕ) IntError → Type 0
+      Is r = r ≡ Ok (v, to) → IsInt s from to v
 
       end : ℕ
       end = run_end_at (in_class Digit) s from
@@ -267,9 +263,9 @@ module _ (s : List ℕ) (from to : ℕ) where
       here : from < end → decimal_at s from end < 18446744073709551616 → end ≡ to → decimal_at s from end ≡ v → IsInt s from to v
       here h f e d = record { some = rw e at h; digits = rw e at (run_is (in_class Digit) s from k); value = rw e at d; fits = rw d at f }
 
-      there : int_at s from ≡ Value v to → IsInt s from to v
+      there : int_at s from ≡ Ok (v, to) → IsInt s from to v
       there =
           on_test Is (leb end from) _ _ (λ f q. absurd (clash (cc)))
           (λ f. on_test Is (ltb (decimal_at s from end) 18446744073709551616) _ _
-          (λ t q. here (leb-false _ _ f) (ltb-true _ _ t) (cc) (cc))
+          (λ t q. here (leb-false _ _ f) (ltb-true _ _ t) (ok_2 q).1 (ok_2 q).0)
           (λ t q. absurd (clash (cc))))

@@ -1,4 +1,5 @@
 -- Strings: one law for each way through the scan, as rules for `search`; and where the answers lie. Assumes nothing.
+use Rattle.std.specs.Prelude.{Result, Ok, Err}
 use Prim.Native.Nat.{ℕ, ◌+◌, ◌≤◌, ◌<◌}
 use mathlib.Core.Path.{◌≡◌, refl, sym, ◌∙◌}
 use mathlib.Core.List.{List, [], ◌∷◌}
@@ -12,16 +13,16 @@ use Rattle.scan.specs.Scan.{is_eol}
 use Rattle.scan.proofs.Bytes.{drop_at, drop_key, ends, eol_yes, eol_no, on_test, drop_next, drop_below, drop_ended}
 use Rattle.words.specs.Words.{is_quote}
 use Rattle.words.specs.Strings.{Mode, plain, escape, string, string_from, string_at, Stringed}
-use Rattle.words.specs.declared.Quote.{Quote}
-use Rattle.words.specs.declared.Quote.TheVariants.{Closed, NotOpened, LineInside, BadEscape, NotClosed}
+use Rattle.words.specs.declared.QuoteError.{QuoteError}
+use Rattle.words.specs.declared.QuoteError.TheVariants.{NotOpened, LineInside, BadEscape, NotClosed}
 
 module _ (s : List ℕ) (from : ℕ) where
-  pub string_end_lem : length s ≤ from → NotOpened from ≡ string_at s from
+  pub string_end_lem : length s ≤ from → Err (NotOpened from) ≡ string_at s from
   unfolding string_at
   string_end_lem h = rw (le-leb _ _ h, string_at)
 
   module _ (b : Bool) (h : from < length s) (q : b ≡ is_quote (get_or s from 0)) where
-    pub string_no : not b ≡ true → NotOpened from ≡ string_at s from
+    pub string_no : not b ≡ true → Err (NotOpened from) ≡ string_at s from
     unfolding string_at
     string_no t = rw (lt-leb _ _ h, sym q ∙ not-true b t, string_at)
 
@@ -29,18 +30,18 @@ module _ (s : List ℕ) (from : ℕ) where
     unfolding string_at
     string_opens t = rw (lt-leb _ _ h, sym q ∙ not-false b t, string_at)
 
-module _ (q : ℕ) (s : List ℕ) (j : ℕ) (r : Quote) (inv : string_from q plain s j ≡ r) where
-  pub s_end : length s ≤ j → NotClosed j ≡ r
+module _ (q : ℕ) (s : List ℕ) (j : ℕ) (r : Result ℕ QuoteError) (inv : string_from q plain s j ≡ r) where
+  pub s_end : length s ≤ j → Err (NotClosed j) ≡ r
   unfolding string string_from
   s_end h = rw (drop_of_length-le s h) at inv
 
   module _ (h : j < length s) where
-    pub s_closed : get_or s j 0 ≡ q → Closed (j + 1) ≡ r
+    pub s_closed : get_or s j 0 ≡ q → Ok (j + 1) ≡ r
     unfolding string string_from
     s_closed e = rw (drop_at s j h, eq-eqb _ _ e, string) at inv
 
     module _ (f : get_or s j 0 ≡ q → ⊥) where
-      pub s_line : OneOf ends (get_or s j 0) → LineInside j ≡ r
+      pub s_line : OneOf ends (get_or s j 0) → Err (LineInside j) ≡ r
       unfolding string string_from
       s_line o = rw (drop_at s j h, ne_eqb _ _ f, eol_yes _ o, string) at inv
 
@@ -53,12 +54,12 @@ module _ (q : ℕ) (s : List ℕ) (j : ℕ) (r : Quote) (inv : string_from q pla
         unfolding string string_from is_eol
         back = let g : eqb 92 q ≡ false = ne_eqb _ _ (λ z. f (e ∙ z)) in rw (drop_key s j 92 h e, g, string) at inv
 
-        pub s_last : length s ≤ j + 1 → BadEscape j ≡ r
+        pub s_last : length s ≤ j + 1 → Err (BadEscape j) ≡ r
         unfolding string string_from
         s_last k = rw (drop_of_length-le s k) at back
 
         module _ (k : j + 1 < length s) (b : Bool) (c : b ≡ is_quote (get_or s (j + 1) 0)) where
-          pub s_bad : not b ≡ true → BadEscape j ≡ r
+          pub s_bad : not b ≡ true → Err (BadEscape j) ≡ r
           unfolding string string_from
           s_bad t = rw (drop_at s (j + 1) k, sym c ∙ not-true b t, string) at back
 
@@ -99,5 +100,5 @@ module _ (s : List ℕ) (from : ℕ) where
       (λ e. place (get_or s from 0) s from (drop (from + 1) s) plain (from + 1) refl (omega arith) (omega arith))
       (λ e. refl))
 
-  pub string_placed : (r : Quote) → r ≡ string_at s from → (r ≡ string_at s from) × Stringed s from r
+  pub string_placed : (r : Result ℕ QuoteError) → r ≡ string_at s from → (r ≡ string_at s from) × Stringed s from r
   string_placed r e = (e, rw e strings)

@@ -1,4 +1,5 @@
 -- Tags: one law for each answer, as rules for `search`; and where the answers lie. Assumes nothing.
+use Rattle.std.specs.Prelude.{Result, Err}
 use Prim.Native.Nat.{ℕ, ◌+◌, ◌≤◌, ◌<◌}
 use mathlib.Core.Path.{◌≡◌, refl, sym, ◌∙◌}
 use mathlib.Core.List.{List}
@@ -11,20 +12,21 @@ use Rattle.scan.specs.Scan.{is_at, in_class, run_end_at}
 use Rattle.scan.proofs.Bytes.{on_test, at_true, at_next}
 use Rattle.scan.proofs.Runs.{run_is}
 use Rattle.words.specs.Tags.{tagged, tag_closed, tag_at, Tagged}
-use Rattle.words.specs.declared.Tag.{Tag}
-use Rattle.words.specs.declared.Tag.TheVariants.{OpenTag, NoTag}
+use Rattle.words.specs.declared.TagError.{TagError}
+use Rattle.scan.specs.declared.Place.{Place}
+use Rattle.words.specs.declared.TagError.TheVariants.{OpenTag, NoTag}
 
 module _ (s : List ℕ) (from : ℕ) where
   closed_yes : (to : ℕ) → is_at 62 s to ≡ true → tagged from to ≡ tag_closed s from to
   unfolding tag_closed
   closed_yes to t = rw (t, tag_closed)
 
-  closed_no : (to : ℕ) → is_at 62 s to ≡ false → OpenTag from ≡ tag_closed s from to
+  closed_no : (to : ℕ) → is_at 62 s to ≡ false → Err (OpenTag from) ≡ tag_closed s from to
   unfolding tag_closed
   closed_no to t = rw (t, tag_closed)
 
   module _ (b : Bool) (q : b ≡ is_at 60 s from) where
-    pub tag_none : not b ≡ true → NoTag from ≡ tag_at s from
+    pub tag_none : not b ≡ true → Err (NoTag from) ≡ tag_at s from
     unfolding tag_at
     tag_none t = rw (sym q ∙ not-true b t, tag_at)
 
@@ -37,7 +39,7 @@ module _ (s : List ℕ) (from : ℕ) where
         unfolding tag_at
         tag_found_lem u = rw (sym q ∙ not-false b t, tag_at, ← e) (closed_yes to (sym k ∙ u))
 
-        pub tag_open : c ≡ false → OpenTag from ≡ tag_at s from
+        pub tag_open : c ≡ false → Err (OpenTag from) ≡ tag_at s from
         unfolding tag_at
         tag_open u = rw (sym q ∙ not-false b t, tag_at, ← e) (closed_no to (sym k ∙ u))
 
@@ -54,5 +56,5 @@ module _ (s : List ℕ) (from : ℕ) where
       inside h k = let a = (run_is (in_class TagByte) s (from + 1) (omega arith)).onward in (omega arith, omega arith, omega arith, omega arith)
 
   -- both clauses of `parse_tag`, from the first
-  pub tag_placed : (r : Tag) → r ≡ tag_at s from → (r ≡ tag_at s from) × Tagged s from r
+  pub tag_placed : (r : Result (Place × ℕ) TagError) → r ≡ tag_at s from → (r ≡ tag_at s from) × Tagged s from r
   tag_placed r e = (e, rw e tags)

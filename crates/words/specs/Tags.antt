@@ -1,33 +1,33 @@
 -- Document 02, request Nine: a tag between `<` and `>`.
-use Rattle.std.specs.Prelude.{ℕ, ◌+◌, ◌≤◌, ◌<◌, ◌≡◌, List, [], ◌∷◌, true, false, length, get_or}
+use Rattle.std.specs.Prelude.{ℕ, ◌+◌, ◌≤◌, ◌<◌, ◌≡◌, List, [], ◌∷◌, true, false, length, get_or, Result, Ok, Err}
 use Rattle.scan.specs.declared.Place.{Place}
 use Rattle.scan.specs.declared.Class.TheVariants.{TagByte}
 use Rattle.scan.specs.Scan.{is_at, in_class, run_end_at}
-use Rattle.words.specs.declared.Tag.{Tag}
-use Rattle.words.specs.declared.Tag.TheVariants.{TagTo, OpenTag, NoTag}
+use Rattle.words.specs.declared.TagError.{TagError}
+use Rattle.words.specs.declared.TagError.TheVariants.{OpenTag, NoTag}
 
-abbrev pub tagged : ℕ → ℕ → Tag
-tagged from to = TagTo (record { from = from + 1; to = to }) (to + 1)
+abbrev pub tagged : ℕ → ℕ → Result (Place × ℕ) TagError
+tagged from to = Ok (record { from = from + 1; to = to }, to + 1)
 
 -- the tag whose bytes end at `to`: "50 tag not closed on its line, at `<`"
-unfoldable pub tag_closed : List ℕ → ℕ → ℕ → Tag
-tag_closed s i to = elim (is_at 62 s to) [ true ↦ tagged i to | false ↦ OpenTag i ]
+unfoldable pub tag_closed : List ℕ → ℕ → ℕ → Result (Place × ℕ) TagError
+tag_closed s i to = elim (is_at 62 s to) [ true ↦ tagged i to | false ↦ Err (OpenTag i) ]
 
 -- a `<tag>`: its place leaves the brackets out
-unfoldable pub tag_at : List ℕ → ℕ → Tag
-tag_at s i = elim (is_at 60 s i) [ true ↦ tag_closed s i (run_end_at (in_class TagByte) s (i + 1)) | false ↦ NoTag i ]
+unfoldable pub tag_at : List ℕ → ℕ → Result (Place × ℕ) TagError
+tag_at s i = elim (is_at 60 s i) [ true ↦ tag_closed s i (run_end_at (in_class TagByte) s (i + 1)) | false ↦ Err (NoTag i) ]
 
 -- Places: a tag's place lies between its brackets, and may be empty; 50 is at `<`, or where the tag was sought.
-abbrev pub Tagged : List ℕ → ℕ → Tag → Type 0
-Tagged s from (TagTo p end) = (from < p.from) × (p.from ≤ p.to) × (p.to < end) × (end ≤ length s)
-Tagged s from (OpenTag i) = i ≡ from
-Tagged s from (NoTag i) = i ≡ from
+abbrev pub Tagged : List ℕ → ℕ → Result (Place × ℕ) TagError → Type 0
+Tagged s from (Ok (p, end)) = (from < p.from) × (p.from ≤ p.to) × (p.to < end) × (end ≤ length s)
+Tagged s from (Err (OpenTag i)) = i ≡ from
+Tagged s from (Err (NoTag i)) = i ≡ from
 
 -- 0, the place and the end; 50 at `<`; where there is no tag, which is a refusal behind `%type` alone, the index where it was sought
-unfoldable pub tag_numbers : Tag → List ℕ
-tag_numbers (TagTo p end) = 0 ∷ p.from ∷ p.to ∷ end ∷ []
-tag_numbers (OpenTag i) = 50 ∷ i ∷ []
-tag_numbers (NoTag i) = i ∷ []
+unfoldable pub tag_numbers : Result (Place × ℕ) TagError → List ℕ
+tag_numbers (Ok (p, end)) = 0 ∷ p.from ∷ p.to ∷ end ∷ []
+tag_numbers (Err (OpenTag i)) = 50 ∷ i ∷ []
+tag_numbers (Err (NoTag i)) = i ∷ []
 
 -- What a tag is without a scan: `<`, bytes that are neither `>` nor a line end, and `>`; its place is what stands between, its end is behind `>`.
 pub record IsTag (s : List ℕ) (from : ℕ) (p : Place) (end : ℕ) : Type 0 where

@@ -1,88 +1,82 @@
 -- Document 01, "Words": names and tokens.
-use Rattle.std.specs.Prelude.{ℕ, ◌+◌, ◌≤◌, ◌<◌, ◌≡◌, List, [], ◌∷◌, Bool, true, false, ◌||◌, eqb, leb, length, get_or}
+use Rattle.std.specs.Prelude.{ℕ, ◌+◌, ◌≤◌, ◌<◌, ◌≡◌, List, [], ◌∷◌, Bool, true, false, ◌||◌, eqb, leb, length, get_or, Option, Some, None, Result, Ok, Err}
 use Rattle.scan.specs.declared.Place.{Place}
 use Rattle.scan.specs.declared.Class.{Class}
 use Rattle.scan.specs.declared.Class.TheVariants.{NameStart, NameByte, TokenStart, TokenByte, Unquoted}
 use Rattle.scan.specs.Scan.{is_at, in_class, run_end_at, Runs}
-use Rattle.words.specs.declared.Word.{Word}
-use Rattle.words.specs.declared.Word.TheVariants.{WordTo, NoWord}
-use Rattle.words.specs.declared.Name.{Name}
-use Rattle.words.specs.declared.Name.TheVariants.{NameTo, NoName}
-use Rattle.words.specs.declared.Token.{Token}
-use Rattle.words.specs.declared.Token.TheVariants.{Found, NoToken}
 
 -- a byte of one class, and the run of another class behind it
-unfoldable pub word_at : Class → Class → List ℕ → ℕ → Word
+unfoldable pub word_at : Class → Class → List ℕ → ℕ → Option ℕ
 word_at first rest s i =
     elim (leb (length s) i) [
-      | true ↦ NoWord
-      | false ↦ elim (in_class first (get_or s i 0)) [ true ↦ WordTo (run_end_at (in_class rest) s (i + 1)) | false ↦ NoWord ]
+      | true ↦ None
+      | false ↦ elim (in_class first (get_or s i 0)) [ true ↦ Some (run_end_at (in_class rest) s (i + 1)) | false ↦ None ]
     ]
 
-unfoldable pub named : ℕ → Word → Name
-named i (WordTo to) = NameTo to
-named i NoWord = NoName i
+unfoldable pub named : ℕ → Option ℕ → Result ℕ ℕ
+named i (Some to) = Ok to
+named i None = Err i
 
 -- "A name starts with a letter, `_` or `.`, and goes on with those or digits."
-unfoldable pub name_at : List ℕ → ℕ → Name
+unfoldable pub name_at : List ℕ → ℕ → Result ℕ ℕ
 name_at s i = named i (word_at NameStart NameByte s i)
 
 unfoldable pub is_quote : ℕ → Bool
 is_quote c = eqb c 34 || eqb c 39
 
-abbrev pub found : ℕ → ℕ → ℕ → Bool → Token
-found from to end quoted = Found (record { from = from; to = to }) end quoted
+abbrev pub found : ℕ → ℕ → ℕ → Bool → Result (Place × ℕ × Bool) ℕ
+found from to end quoted = Ok (record { from = from; to = to }, end, quoted)
 
-unfoldable pub closed : ℕ → List ℕ → ℕ → ℕ → Token
-closed q s i to = elim (is_at q s to) [ true ↦ found (i + 1) to (to + 1) true | false ↦ NoToken i ]
+unfoldable pub closed : ℕ → List ℕ → ℕ → ℕ → Result (Place × ℕ × Bool) ℕ
+closed q s i to = elim (is_at q s to) [ true ↦ found (i + 1) to (to + 1) true | false ↦ Err i ]
 
 -- "A quoted token has at least one character, none LF; the first may be the quote itself, and the next quote closes. Its span leaves out the quotes."
-unfoldable pub quoted_at : ℕ → List ℕ → ℕ → Token
+unfoldable pub quoted_at : ℕ → List ℕ → ℕ → Result (Place × ℕ × Bool) ℕ
 quoted_at q s i =
     elim (leb (length s) (i + 1)) [
-      | true ↦ NoToken i
-      | false ↦ elim (eqb (get_or s (i + 1) 0) 10) [ true ↦ NoToken i | false ↦ closed q s i (run_end_at (in_class (Unquoted q)) s (i + 1 + 1)) ]
+      | true ↦ Err i
+      | false ↦ elim (eqb (get_or s (i + 1) 0) 10) [ true ↦ Err i | false ↦ closed q s i (run_end_at (in_class (Unquoted q)) s (i + 1 + 1)) ]
     ]
 
-unfoldable pub bare : ℕ → Word → Token
-bare i (WordTo to) = found i to to false
-bare i NoWord = NoToken i
+unfoldable pub bare : ℕ → Option ℕ → Result (Place × ℕ × Bool) ℕ
+bare i (Some to) = found i to to false
+bare i None = Err i
 
 -- "A bare token has no dots."
-unfoldable pub token_at : List ℕ → ℕ → Token
+unfoldable pub token_at : List ℕ → ℕ → Result (Place × ℕ × Bool) ℕ
 token_at s i =
     elim (leb (length s) i) [
-      | true ↦ NoToken i
+      | true ↦ Err i
       | false ↦ elim (is_quote (get_or s i 0)) [ true ↦ quoted_at (get_or s i 0) s i | false ↦ bare i (word_at TokenStart TokenByte s i) ]
     ]
 
 -- Places: a word is not empty and ends in the source; a token's place lies between where it was sought and its end, and is not empty; 2 and 3 are where the
 -- item was sought.
-abbrev pub Worded : List ℕ → ℕ → Word → Type 0
-Worded s from (WordTo to) = (from < to) × (to ≤ length s)
-Worded s from NoWord = Unit {0}
+abbrev pub Worded : List ℕ → ℕ → Option ℕ → Type 0
+Worded s from (Some to) = (from < to) × (to ≤ length s)
+Worded s from None = Unit {0}
 
-abbrev pub Named : List ℕ → ℕ → Name → Type 0
-Named s from (NameTo to) = (from < to) × (to ≤ length s)
-Named s from (NoName i) = i ≡ from
+abbrev pub Named : List ℕ → ℕ → Result ℕ ℕ → Type 0
+Named s from (Ok to) = (from < to) × (to ≤ length s)
+Named s from (Err i) = i ≡ from
 
-abbrev pub Tokened : List ℕ → ℕ → Token → Type 0
-Tokened s from (Found p end quoted) = (from ≤ p.from) × (p.from < p.to) × (p.to ≤ end) × (end ≤ length s)
-Tokened s from (NoToken i) = i ≡ from
+abbrev pub Tokened : List ℕ → ℕ → Result (Place × ℕ × Bool) ℕ → Type 0
+Tokened s from (Ok (p, end, quoted)) = (from ≤ p.from) × (p.from < p.to) × (p.to ≤ end) × (end ≤ length s)
+Tokened s from (Err i) = i ≡ from
 
 -- document 01's number and values: 0 and the end; 2 IllegalName where it was sought
-unfoldable pub name_numbers : Name → List ℕ
-name_numbers (NameTo to) = 0 ∷ to ∷ []
-name_numbers (NoName i) = 2 ∷ i ∷ []
+unfoldable pub name_numbers : Result ℕ ℕ → List ℕ
+name_numbers (Ok to) = 0 ∷ to ∷ []
+name_numbers (Err i) = 2 ∷ i ∷ []
 
 abbrev flag : Bool → ℕ
 flag true = 1
 flag false = 0
 
 -- 0, the place, the end, and 1 where quoted; 3 IllegalString where it was sought
-unfoldable pub token_numbers : Token → List ℕ
-token_numbers (Found p end quoted) = 0 ∷ p.from ∷ p.to ∷ end ∷ flag quoted ∷ []
-token_numbers (NoToken i) = 3 ∷ i ∷ []
+unfoldable pub token_numbers : Result (Place × ℕ × Bool) ℕ → List ℕ
+token_numbers (Ok (p, end, quoted)) = 0 ∷ p.from ∷ p.to ∷ end ∷ flag quoted ∷ []
+token_numbers (Err i) = 3 ∷ i ∷ []
 
 -- What names and tokens are without a scan: the first byte of the right class, each further one too, and the next byte not.
 pub record IsWord (first rest : Class) (s : List ℕ) (from to : ℕ) : Type 0 where

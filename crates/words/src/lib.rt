@@ -9,31 +9,8 @@ ghost use Rattle.words.specs.Strings.{string_at, Stringed};
 
 use scan::{Class, Place};
 
-// A byte of one class, then a run of another.
 #[derive(Clone, Copy)]
-pub enum Word {
-    WordTo(usize),
-    NoWord,
-}
-
-#[derive(Clone, Copy)]
-pub enum Name {
-    // The name's end.
-    NameTo(usize),
-    NoName(usize),
-}
-
-#[derive(Clone, Copy)]
-pub enum Token {
-    // The place without quotes, the end behind the closing quote if there is one, quoted or not.
-    Found(Place, usize, bool),
-    NoToken(usize),
-}
-
-#[derive(Clone, Copy)]
-pub enum Tag {
-    // The place between the brackets, and the end behind `>`.
-    TagTo(Place, usize),
+pub enum TagError {
     // No `>` closes it on its line: where its `<` stands.
     OpenTag(usize),
     // No `<` stands here.
@@ -41,17 +18,13 @@ pub enum Tag {
 }
 
 #[derive(Clone, Copy)]
-pub enum Int {
-    // The value, and the end of its digits.
-    Value(u64, usize),
+pub enum IntError {
     NoDigits(usize),
     TooLarge(usize),
 }
 
 #[derive(Clone, Copy)]
-pub enum Quote {
-    // The end behind the closing quote.
-    Closed(usize),
+pub enum QuoteError {
     // No quote opens a string here.
     NotOpened(usize),
     LineInside(usize),
@@ -61,30 +34,32 @@ pub enum Quote {
     NotClosed(usize),
 }
 
-pub fn word_at(s: &[u8], from: usize, first: Class, rest: Class) -> Word
+// The end of a word: a byte of one class, then a run of another.
+pub fn word_at(s: &[u8], from: usize, first: Class, rest: Class) -> Option<usize>
     requires { from ≤ length s.now }
     ensures value { result ≡ word_at first rest s.now from }
     ensures worded { Worded s.now from result }
 {
     if s.len() <= from {
-        return Word::NoWord;
+        return None;
     }
     let c = s[from];
     if scan::in_class(c, first) {
-        Word::WordTo(scan::run_end(s, from + 1, rest))
+        Some(scan::run_end(s, from + 1, rest))
     } else {
-        Word::NoWord
+        None
     }
 }
 
-pub fn parse_name(s: &[u8], from: usize) -> Name
+// A name's end, or where none begins.
+pub fn parse_name(s: &[u8], from: usize) -> Result<usize, usize>
     requires { from ≤ length s.now }
     ensures value { result ≡ name_at s.now from }
     ensures named { Named s.now from result }
 {
     match word_at(s, from, Class::NameStart, Class::NameByte) {
-        Word::WordTo(to) => Name::NameTo(to),
-        Word::NoWord => Name::NoName(from),
+        Some(to) => Ok(to),
+        None => Err(from),
     }
 }
 
@@ -94,119 +69,120 @@ pub fn is_quote(c: u8) -> bool
     (c == b'"') | (c == b'\'')
 }
 
-// A token behind the quote `q` at `from`: the first character may be the quote itself, and the next quote closes.
-pub fn quoted(s: &[u8], from: usize, q: u8) -> Token
+// A token behind the quote `q` at `from`: the first character may be the quote itself, and the next quote closes. Its answer is `parse_token`'s.
+pub fn quoted(s: &[u8], from: usize, q: u8) -> Result<(Place, usize, bool), usize>
     requires { from ≤ length s.now }
     ensures value { result ≡ quoted_at q s.now from }
     ensures tokened { Tokened s.now from result }
 {
     let i = from + 1;
     if s.len() <= i {
-        return Token::NoToken(from);
+        return Err(from);
     }
     if s[i] == 10 {
-        return Token::NoToken(from);
+        return Err(from);
     }
     let to = scan::run_end(s, i + 1, Class::Unquoted(q));
     if scan::is_at(s, to, q) {
-        Token::Found(Place { from: i, to }, to + 1, true)
+        Ok((Place { from: i, to }, to + 1, true))
     } else {
-        Token::NoToken(from)
+        Err(from)
     }
 }
 
-pub fn parse_token(s: &[u8], from: usize) -> Token
+// A token: its place without quotes, the end behind the closing quote if there is one, and whether it is quoted; or where none begins.
+pub fn parse_token(s: &[u8], from: usize) -> Result<(Place, usize, bool), usize>
     requires { from ≤ length s.now }
     ensures value { result ≡ token_at s.now from }
     ensures tokened { Tokened s.now from result }
 {
     if s.len() <= from {
-        return Token::NoToken(from);
+        return Err(from);
     }
     let q = s[from];
     if is_quote(q) {
         return quoted(s, from, q);
     }
     match word_at(s, from, Class::TokenStart, Class::TokenByte) {
-        Word::WordTo(to) => Token::Found(Place { from, to }, to, false),
-        Word::NoWord => Token::NoToken(from),
+        Some(to) => Ok((Place { from, to }, to, false)),
+        None => Err(from),
     }
 }
 
-pub fn parse_tag(s: &[u8], from: usize) -> Tag
+// A tag: the place between the brackets, and the end behind `>`.
+pub fn parse_tag(s: &[u8], from: usize) -> Result<(Place, usize), TagError>
     requires { from ≤ length s.now }
     ensures value { result ≡ tag_at s.now from }
     ensures tagged { Tagged s.now from result }
 {
     if !scan::is_at(s, from, b'<') {
-        return Tag::NoTag(from);
+        return Err(TagError::NoTag(from));
     }
     let i = from + 1;
     let to = scan::run_end(s, i, Class::TagByte);
     if scan::is_at(s, to, b'>') {
-        Tag::TagTo(Place { from: i, to }, to + 1)
+        Ok((Place { from: i, to }, to + 1))
     } else {
-        Tag::OpenTag(from)
+        Err(TagError::OpenTag(from))
     }
 }
 
-pub fn parse_int(s: &[u8], from: usize) -> Int
+// A number, and the end of its digits.
+pub fn parse_int(s: &[u8], from: usize) -> Result<(u64, usize), IntError>
     requires { from ≤ length s.now }
     ensures value { result ≡ int_at s.now from }
     ensures counted { Counted s.now from result }
 {
     let to = scan::run_end(s, from, Class::Digit);
     if to <= from {
-        return Int::NoDigits(from);
+        return Err(IntError::NoDigits(from));
     }
     let mut v: u64 = 0;
-    let mut j = from;
-    while j < to {
-        // Ten times more would pass 64 bits.
-        if 1844674407370955161 < v {
-            return Int::TooLarge(from);
-        }
-        let w = v * 10;
-        let d = (s[j] - b'0') as u64;
-        if 18446744073709551615 - w < d {
-            return Int::TooLarge(from);
-        }
-        v = w + d;
-        j += 1;
+    for &b in &s[from..to] {
+        let d = (b - b'0') as u64;
+        let Some(w) = v.checked_mul(10) else {
+            return Err(IntError::TooLarge(from));
+        };
+        let Some(n) = w.checked_add(d) else {
+            return Err(IntError::TooLarge(from));
+        };
+        v = n;
     }
-    Int::Value(v, to)
+    Ok((v, to))
 }
 
-pub fn parse_string(s: &[u8], from: usize) -> Quote
+// The end of a quoted string, behind its closing quote.
+pub fn parse_string(s: &[u8], from: usize) -> Result<usize, QuoteError>
     requires { from ≤ length s.now }
     ensures value { result ≡ string_at s.now from }
     ensures stringed { Stringed s.now from result }
 {
     if s.len() <= from {
-        return Quote::NotOpened(from);
+        return Err(QuoteError::NotOpened(from));
     }
     let q = s[from];
     if !is_quote(q) {
-        return Quote::NotOpened(from);
+        return Err(QuoteError::NotOpened(from));
     }
     let mut j = from + 1;
+    // by hand: a backslash and its quote are one step of two bytes
     while j < s.len() {
         let c = s[j];
         if c == q {
-            return Quote::Closed(j + 1);
+            return Ok(j + 1);
         }
         match c {
             10 | 13 => {
-                return Quote::LineInside(j);
+                return Err(QuoteError::LineInside(j));
             }
             92 => {
                 let k = j + 1;
                 if s.len() <= k {
-                    return Quote::BadEscape(j);
+                    return Err(QuoteError::BadEscape(j));
                 }
                 let e = s[k];
                 if !is_quote(e) {
-                    return Quote::BadEscape(j);
+                    return Err(QuoteError::BadEscape(j));
                 }
                 j = k + 1;
             }
@@ -215,5 +191,5 @@ pub fn parse_string(s: &[u8], from: usize) -> Quote
             }
         }
     }
-    Quote::NotClosed(j)
+    Err(QuoteError::NotClosed(j))
 }

@@ -1,12 +1,7 @@
-use Prim.Native.Nat.{◌≤◌, ◌-◌, ◌/◌}
+use Rattle.std.specs.Prelude.{Ok}
 use mathlib.Core.Path.{◌≡◌}
-use lib.ListN.{length}
 use Rattle.blocks.specs.Blocks.{first_fault}
-use Rattle.blocks.specs.declared.BlockFault.TheVariants.{NoFault}
 use Rattle.blocks.proofs.first_fault.Given as goal
 
 abbrev pub invariant-loop-k : goal.invariant-loop-k
-invariant-loop-k l = (l.k ≤ l.n) × (l.n ≡ length l.s / 512) × (first_fault l.k l.s ≡ NoFault)
-
-abbrev pub decreases-loop-k : goal.decreases-loop-k
-decreases-loop-k l = l.n - l.k
+invariant-loop-k l = first_fault l.k l.s ≡ Ok tt

@@ -14,33 +14,33 @@ closing_brace-requires c =
 
 pub overflow_cast-to : goal.overflow_cast-to
 overflow_cast-to c =
-    let x = brace_inside _ _ _ _ _ c.closing_brace.ensures.braced c.in-Closes.is in
+    let x = brace_inside _ _ _ _ _ c.closing_brace.ensures.braced c.in-Some.is in
     omega (arith, x.1, c.requires.0.short)
 
 pub overflow_add-to : goal.overflow_add-to
 overflow_add-to c =
-    let x = brace_inside _ _ _ _ _ c.closing_brace.ensures.braced c.in-Closes.is in
+    let x = brace_inside _ _ _ _ _ c.closing_brace.ensures.braced c.in-Some.is in
     omega (arith, x.1, c.requires.0.short)
 
 pub body_row-requires : goal.body_row-requires
 body_row-requires c =
-    let x = brace_inside _ _ _ _ _ c.closing_brace.ensures.braced c.in-Closes.is in
+    let x = brace_inside _ _ _ _ _ c.closing_brace.ensures.braced c.in-Some.is in
     record { within = omega (arith, x.1); short = c.requires.0.short }
 
-pub returns-in-Closes : goal.returns-in-Closes
-returns-in-Closes c =
-    let x = brace_inside _ _ _ _ _ c.closing_brace.ensures.braced c.in-Closes.is in
+pub returns-in-Some : goal.returns-in-Some
+returns-in-Some c =
+    let x = brace_inside _ _ _ _ _ c.closing_brace.ensures.braced c.in-Some.is in
     let p = c.requires.1 in
     record {
-      is = union_row _ _ _ _ _ _ c.is_at.ensures c.if-is_at.true _ c.closing_brace.ensures.value _ _ _ c.in-Closes.is c.body_row.ensures.is;
+      is = union_row _ _ _ _ _ _ c.is_at.ensures c.if-is_at.true _ c.closing_brace.ensures.value _ _ _ c.in-Some.is c.body_row.ensures.is;
       moved = onward_passed _ _ _ _ _ _ c.body_row.ensures.moved refl (record { onward = omega (arith, x.0, p.onward); inside = omega (arith, x.1) });
       counted = c.body_row.ensures.counted;
     }
 
-pub returns-in-NeverCloses : goal.returns-in-NeverCloses
-returns-in-NeverCloses c =
+pub returns-in-None : goal.returns-in-None
+returns-in-None c =
     record {
-      is = union_open _ _ _ _ _ _ c.is_at.ensures c.if-is_at.true _ c.closing_brace.ensures.value c.in-NeverCloses.is;
+      is = union_open _ _ _ _ _ _ c.is_at.ensures c.if-is_at.true _ c.closing_brace.ensures.value c.in-None.is;
       moved = record { onward = omega arith; inside = omega (arith, c.requires.1.onward, c.requires.1.inside) };
       counted = refl;
     }

@@ -1,10 +1,7 @@
-use Prim.Native.Nat.{◌*◌, ◌≤◌, ◌-◌}
+use Prim.Native.Nat.{◌*◌, ◌≤◌}
 use mathlib.Core.Path.{◌≡◌}
 use Rattle.catalogue.specs.Catalogue.{cells_before}
 use Rattle.catalogue.proofs.cells_before.Given as goal
 
 abbrev pub invariant-loop-i : goal.invariant-loop-i
-invariant-loop-i l = (l.k ≤ 13) × (l.i ≤ l.k) × (l.n ≤ l.i * (13 * 4294967295)) × (l.n ≡ cells_before l.c l.p l.i)
-
-abbrev pub decreases-loop-i : goal.decreases-loop-i
-decreases-loop-i l = l.k - l.i
+invariant-loop-i l = (l.n ≤ l.i * (13 * 4294967295)) × (l.n ≡ cells_before l.c l.p l.i)

@@ -1,18 +1,13 @@
--- `catalogue::zero_cells`: the test of what is left is that of all.
-use mathlib.Core.Path.{refl}
-use native.Mathlib.Omega.{arith}
-use Rattle.catalogue.proofs.Laws.{zero_on, zero_not, zero_end}
+-- `catalogue::zero_cells`.
+use Rattle.std.proofs.Common.{rules, tests, ◌≡◌, ◌∙◌, ◌+◌, ◌-◌, eqb, arith}
+use Rattle.std.proofs.lemmas.Iterator.{YieldsList-from_slice}
+use Rattle.std.proofs.lemmas.Iterator.Search.{all_from_yields_List}
+use Rattle.catalogue.proofs.Laws.{zero_all}
 use Rattle.catalogue.proofs.zero_cells.Goals as goal
 
-pub loop-left-init : goal.loop-left-init
-loop-left-init c = (c.requires, refl)
-
-pub returns-then-m-i-ne0 : goal.returns-then-m-i-ne0
-returns-then-m-i-ne0 c = zero_not c.args.m.now c.loop-left.i c.loop-left.left _ c.loop-left.invariant.1 c.loop-left-test.true c.if-m-i-ne0.true
-
-pub loop-left-preserved : goal.loop-left-preserved
-loop-left-preserved c =
-    (omega arith, zero_on c.args.m.now c.loop-left.i c.loop-left.left _ c.loop-left.invariant.1 c.loop-left-test.true c.if-m-i-ne0.false)
-
 pub returns : goal.returns
-returns c = zero_end c.args.m.now c.loop-left.i c.loop-left.left _ c.loop-left.invariant.1 c.loop-left-test.false
+returns c =
+    let a = c.args in
+    let found = all_from_yields_List (λ x. eqb x 0) _ _ c.all.result c.all.ensures.ran (YieldsList-from_slice _ c.iter.ensures.rest) (λ x b q k. search (rules, tests)) in
+    let n : a.k + a.n - a.k ≡ a.n = omega arith in
+    (rw n at found) ∙ zero_all a.m.now a.k a.n (omega arith)

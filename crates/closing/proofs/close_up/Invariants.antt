@@ -1,9 +1,5 @@
-use Prim.Native.Nat.{◌≤◌, ◌-◌}
 use Rattle.closing.specs.Close.{by_bit, Shut}
 use Rattle.closing.proofs.close_up.Given as goal
 
 abbrev pub invariant-loop-r : goal.invariant-loop-r
-invariant-loop-r l = (l.r ≤ l.n) × Shut (by_bit l.keep l.base) l.w l.initial.t l.r l.m l.t
-
-abbrev pub decreases-loop-r : goal.decreases-loop-r
-decreases-loop-r l = l.n - l.r
+invariant-loop-r l = Shut (by_bit l.keep l.base) l.w l.initial.t l.r l.m l.t

@@ -13,14 +13,14 @@ overflow_add-result c = omega (arith, added_counts _ _ _ _ _ c.add_row.ensures c
 pub returns-then-declared : goal.returns-then-declared
 returns-then-declared c =
     record {
-      is = enter_marked _ _ _ _ _ _ _ c.find.ensures _ c.in-RowAt.is c.if-declared.true _ c.set_cell.ensures;
+      is = enter_marked _ _ _ _ _ _ _ c.find.ensures _ c.in-Some.is c.if-declared.true _ c.set_cell.ensures;
       held = (token_marked _ _ _ _ c.requires _ _ c.set_cell.ensures, grown_none _);
     }
 
 pub returns-else-declared : goal.returns-else-declared
 returns-else-declared c =
     record {
-      is = enter_there _ _ _ _ _ _ _ c.find.ensures _ c.in-RowAt.is c.if-declared.false;
+      is = enter_there _ _ _ _ _ _ _ c.find.ensures _ c.in-Some.is c.if-declared.false;
       held = (c.requires, grown_none _);
     }
 
@@ -31,9 +31,9 @@ returns-then-add_row c =
       | else-declared-2 w ↦ w.mark-is ∙ rw w.if-declared-2.false
     ] in
     record {
-      is = enter_new _ _ _ _ _ _ _ c.find.ensures c.in-NoRow.is _ m _ _ c.add_row.ensures c.if-add_row.true;
+      is = enter_new _ _ _ _ _ _ _ c.find.ensures c.in-None.is _ m _ _ c.add_row.ensures c.if-add_row.true;
       held = (
-        token_new _ _ _ _ c.requires _ _ _ _ _ c.add_row.ensures (sym c.find.ensures ∙ c.in-NoRow.is) c.if-add_row.true _ c.enter.ensures.grown c.enter.ensures.led,
+        token_new _ _ _ _ c.requires _ _ _ _ _ c.add_row.ensures (sym c.find.ensures ∙ c.in-None.is) c.if-add_row.true _ c.enter.ensures.grown c.enter.ensures.led,
         c.enter.ensures.grown,
       );
     }
@@ -45,6 +45,6 @@ returns-else-add_row c =
       | else-declared-2 w ↦ w.mark-is ∙ rw w.if-declared-2.false
     ] in
     record {
-      is = enter_full _ _ _ _ _ _ _ c.find.ensures c.in-NoRow.is _ m _ _ c.add_row.ensures c.if-add_row.false;
+      is = enter_full _ _ _ _ _ _ _ c.find.ensures c.in-None.is _ m _ _ c.add_row.ensures c.if-add_row.false;
       held = (token_full _ _ _ _ c.requires _ _ _ _ _ c.add_row.ensures c.if-add_row.false, grown_none _);
     }

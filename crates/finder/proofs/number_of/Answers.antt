@@ -1,18 +1,24 @@
--- `finder::number_of`: the bytes that are left give the whole's answer.
-use native.Mathlib.Omega.{arith}
-use borrow.Author.Rules.{rules}
-use Rattle.finder.proofs.Laws.{number_none, number_start, number_on, number_end}
+-- `finder::number_of`.
+use Rattle.std.proofs.Common.{ℕ, ◌≡◌, List, [], ◌∷◌, refl, ap, ◌∙◌, rules, tests}
+use Rattle.std.specs.List.{fold}
+use Rattle.std.proofs.lemmas.Iterator.{YieldsList-from_slice}
+use Rattle.std.proofs.lemmas.Iterator.Consumers.{fold_from_yields_List}
+use Rattle.tables.proofs.Laws.{part_slice}
+use Rattle.finder.specs.Finder.{stirred, stir_from}
+use Rattle.finder.proofs.Laws.{number_none, number_start}
 use Rattle.finder.proofs.number_of.Goals as goal
+
+folded : (h : ℕ) (bs : List ℕ) → fold stirred h bs ≡ stir_from h bs
+unfolding stir_from
+folded h [] = refl
+folded h (b ∷ bs) = folded (stirred h b) bs
 
 pub returns-then-not-is_place : goal.returns-then-not-is_place
 returns-then-not-is_place c = search (number_none, rules)
 
-pub loop-i-init : goal.loop-i-init
-loop-i-init c = number_start _ _ _ _ c.is_place.ensures c.if-not-is_place.false-raw
-
-pub loop-i-preserved : goal.loop-i-preserved
-loop-i-preserved c = search (number_on, rules)
-
 pub returns : goal.returns
 returns c =
-    number_end c.args.src.now c.args.b c.loop-i.i c.loop-i.h _ c.loop-i.invariant.2 (omega (arith, c.loop-i.invariant.0, c.loop-i-test.false))
+    let a = c.args in
+    let x = number_start a.src.now a.a a.b _ c.is_place.ensures c.if-not-is_place.false-raw in
+    let e = fold_from_yields_List _ stirred _ c.fold.result c.fold.ensures.ran (YieldsList-from_slice _ c.iter.ensures.rest) (λ h b r q k. search (rules, tests)) in
+    e ∙ folded _ _ ∙ ap (stir_from 2166136261) (part_slice a.src.now a.a a.b x.0) ∙ x.2

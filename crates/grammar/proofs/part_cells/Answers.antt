@@ -3,5 +3,5 @@ use mathlib.Core.Path.{sym, ap}
 use Rattle.grammar.specs.Numbers.{part_numbers}
 use Rattle.grammar.proofs.part_cells.Goals as goal
 
-pub returns-in-At : goal.returns-in-At
-returns-in-At c = sym (ap part_numbers c.in-At.is)
+pub returns-in-Some : goal.returns-in-Some
+returns-in-Some c = sym (ap part_numbers c.in-Some.is)

@@ -7,7 +7,7 @@ use Rattle.grammar.proofs.past_gap.Goals as goal
 
 pub returns-then-line-n : goal.returns-then-line-n
 returns-then-line-n c =
-    let e = c.in-GapTo.is in
+    let e = c.in-Ok.is in
     record {
       is = past_done _ _ _ _ _ c.pass_gap.ensures.is _ _ e c.if-line-n.true;
       moved = gap_onward _ _ _ _ _ _ _ c.pass_gap.ensures.moved e;
@@ -15,15 +15,15 @@ returns-then-line-n c =
 
 pub returns-else-line-n : goal.returns-else-line-n
 returns-else-line-n c =
-    let e = c.in-GapTo.is in
+    let e = c.in-Ok.is in
     record {
       is = past_going _ _ _ _ _ c.pass_gap.ensures.is _ _ e c.if-line-n.false;
       moved = gap_onward _ _ _ _ _ _ _ c.pass_gap.ensures.moved e;
     }
 
-pub returns-in-GapRefused : goal.returns-in-GapRefused
-returns-in-GapRefused c =
+pub returns-in-Err : goal.returns-in-Err
+returns-in-Err c =
     record {
-      is = past_refused _ _ _ _ _ c.pass_gap.ensures.is _ c.in-GapRefused.is;
+      is = past_refused _ _ _ _ _ c.pass_gap.ensures.is _ c.in-Err.is;
       moved = stays _ _ _ _ (λ e. let z : ◌≡◌ {A = ℕ} 0 1 = cc in omega arith);
     }

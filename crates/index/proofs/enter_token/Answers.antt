@@ -15,14 +15,14 @@ overflow_add-result c = omega (arith, added_counts _ _ _ _ _ c.add_row.ensures c
 pub returns-then-declared : goal.returns-then-declared
 returns-then-declared c =
     record {
-      is = enter_marked _ _ _ _ _ _ _ c.find.ensures _ c.in-RowAt.is c.if-declared.true _ c.set_cell.ensures;
+      is = enter_marked _ _ _ _ _ _ _ c.find.ensures _ c.in-Some.is c.if-declared.true _ c.set_cell.ensures;
       indexed = token_marked _ _ _ _ c.requires _ _ c.set_cell.ensures;
     }
 
 pub returns-else-declared : goal.returns-else-declared
 returns-else-declared c =
     record {
-      is = enter_there _ _ _ _ _ _ _ c.find.ensures _ c.in-RowAt.is c.if-declared.false;
+      is = enter_there _ _ _ _ _ _ _ c.find.ensures _ c.in-Some.is c.if-declared.false;
       indexed = c.requires;
     }
 
@@ -33,7 +33,7 @@ returns-then-add_row c =
       | else-declared-2 w ↦ w.mark-is ∙ rw w.if-declared-2.false
     ] in
     record {
-      is = enter_new _ _ _ _ _ _ _ c.find.ensures c.in-NoRow.is _ m _ _ c.add_row.ensures c.if-add_row.true;
+      is = enter_new _ _ _ _ _ _ _ c.find.ensures c.in-None.is _ m _ _ c.add_row.ensures c.if-add_row.true;
       indexed = token_new _ _ _ _ c.requires _ _ _ _ _ c.add_row.ensures c.if-add_row.true _ c.enter_row.ensures;
     }
 
@@ -44,6 +44,6 @@ returns-else-add_row c =
       | else-declared-2 w ↦ w.mark-is ∙ rw w.if-declared-2.false
     ] in
     record {
-      is = enter_full _ _ _ _ _ _ _ c.find.ensures c.in-NoRow.is _ m _ _ c.add_row.ensures c.if-add_row.false;
+      is = enter_full _ _ _ _ _ _ _ c.find.ensures c.in-None.is _ m _ _ c.add_row.ensures c.if-add_row.false;
       indexed = token_full _ _ _ _ c.requires _ _ _ _ _ c.add_row.ensures c.if-add_row.false;
     }

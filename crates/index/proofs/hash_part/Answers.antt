@@ -1,17 +1,24 @@
--- `index::hash_part`: the bytes that are left give the whole's answer.
-use Rattle.std.proofs.Common.{arith, rules}
-use Rattle.index.proofs.Laws.{hash_none, hash_start, hash_on, hash_end}
+-- `index::hash_part`.
+use Rattle.std.proofs.Common.{ℕ, ◌≡◌, List, [], ◌∷◌, refl, ap, ◌∙◌, rules, tests}
+use Rattle.std.specs.List.{fold}
+use Rattle.std.proofs.lemmas.Iterator.{YieldsList-from_slice}
+use Rattle.std.proofs.lemmas.Iterator.Consumers.{fold_from_yields_List}
+use Rattle.tables.proofs.Laws.{part_slice}
+use Rattle.index.specs.Hash.{mixed, hash_from}
+use Rattle.index.proofs.Laws.{hash_none, hash_start}
 use Rattle.index.proofs.hash_part.Goals as goal
+
+folded : (h : ℕ) (bs : List ℕ) → fold mixed h bs ≡ hash_from h bs
+unfolding hash_from
+folded h [] = refl
+folded h (b ∷ bs) = folded (mixed h b) bs
 
 pub returns-then-not-is_place : goal.returns-then-not-is_place
 returns-then-not-is_place c = search (hash_none, rules)
 
-pub loop-i-init : goal.loop-i-init
-loop-i-init c = hash_start _ _ _ _ c.is_place.ensures c.if-not-is_place.false-raw
-
-pub loop-i-preserved : goal.loop-i-preserved
-loop-i-preserved c = search (hash_on, rules)
-
 pub returns : goal.returns
 returns c =
-    hash_end c.args.src.now c.args.b c.loop-i.i c.loop-i.h _ c.loop-i.invariant.2 (omega (arith, c.loop-i.invariant.0, c.loop-i-test.false))
+    let a = c.args in
+    let x = hash_start a.src.now a.a a.b _ c.is_place.ensures c.if-not-is_place.false-raw in
+    let e = fold_from_yields_List _ mixed _ c.fold.result c.fold.ensures.ran (YieldsList-from_slice _ c.iter.ensures.rest) (λ h b r q k. search (rules, tests)) in
+    e ∙ folded _ _ ∙ ap (hash_from 5381) (part_slice a.src.now a.a a.b x.0) ∙ x.2

@@ -17,19 +17,19 @@ overflow_cast-made c =
     let h = c.requires.0 in
     omega (arith, h.within, h.short)
 
-pub returns-in-GapTo : goal.returns-in-GapTo
-returns-in-GapTo c =
-    let e = c.in-GapTo.is in
+pub returns-in-Ok : goal.returns-in-Ok
+returns-in-Ok c =
+    let e = c.in-Ok.is in
     record {
       is = carried2 _ _ _ c.carry.ensures _ _ ∙ quoted_spaced _ _ _ _ _ _ _ _ _ c.pass_gap.ensures.is _ _ _ e c.token_symbol-r.ensures.is;
       moved = carried_onward _ _ _ c.carry.ensures _ _ _ (told (Onward _ _ _ _) (sym c.token_symbol-r.ensures.kept) (gap_onward _ _ _ _ _ _ _ c.pass_gap.ensures.moved e));
       indexed = carried_tracked _ _ _ c.carry.ensures _ _ _ c.token_symbol-r.ensures.indexed;
     }
 
-pub returns-in-GapRefused : goal.returns-in-GapRefused
-returns-in-GapRefused c =
+pub returns-in-Err : goal.returns-in-Err
+returns-in-Err c =
     record {
-      is = quoted_gap_lem _ _ _ _ _ _ _ _ _ c.pass_gap.ensures.is _ c.in-GapRefused.is;
+      is = quoted_gap_lem _ _ _ _ _ _ _ _ _ c.pass_gap.ensures.is _ c.in-Err.is;
       moved = refused_stays _ _ _ _;
       indexed = c.requires.1;
     }

@@ -6,10 +6,10 @@ pub find-requires : goal.find-requires
 find-requires c = c.requires
 
 pub returns-then-cell-eq1 : goal.returns-then-cell-eq1
-returns-then-cell-eq1 c = kind_token _ _ _ _ _ _ c.find.ensures _ _ c.in-RowAt.is c.cell.ensures c.if-cell-eq1.true
+returns-then-cell-eq1 c = kind_token _ _ _ _ _ _ c.find.ensures _ _ c.in-Some.is c.cell.ensures c.if-cell-eq1.true
 
 pub returns-else-cell-eq1 : goal.returns-else-cell-eq1
-returns-else-cell-eq1 c = kind_rule _ _ _ _ _ _ c.find.ensures _ _ c.in-RowAt.is c.cell.ensures c.if-cell-eq1.false
+returns-else-cell-eq1 c = kind_rule _ _ _ _ _ _ c.find.ensures _ _ c.in-Some.is c.cell.ensures c.if-cell-eq1.false
 
-pub returns-in-NoRow : goal.returns-in-NoRow
-returns-in-NoRow c = kind_new _ _ _ _ _ _ c.find.ensures c.in-NoRow.is
+pub returns-in-None : goal.returns-in-None
+returns-in-None c = kind_new _ _ _ _ _ _ c.find.ensures c.in-None.is

@@ -17,22 +17,22 @@ returns-then-src-at c =
 
 pub avoid_list-requires : goal.avoid_list-requires
 avoid_list-requires c =
-    let h = told (Gapped _ _) c.in-GapTo.is c.pass_gap.ensures.moved in
+    let h = told (Gapped _ _) c.in-Ok.is c.pass_gap.ensures.moved in
     (record { within = h.1; short = c.requires.0.short }, c.requires.1, c.requires.2, c.requires.3, c.requires.4)
 
-pub returns-in-GapTo : goal.returns-in-GapTo
-returns-in-GapTo c =
-    let e = c.in-GapTo.is in
+pub returns-in-Ok : goal.returns-in-Ok
+returns-in-Ok c =
+    let e = c.in-Ok.is in
     record {
       is = avoid_line _ _ _ _ _ _ _ c.if-src-at.false _ c.pass_gap.ensures.is _ _ _ e c.avoid_list.ensures.is;
       moved = passed_on _ _ _ _ (gap_passed _ _ _ _ _ c.pass_gap.ensures.moved e) c.avoid_list.ensures.moved;
       indexed = c.avoid_list.ensures.indexed;
     }
 
-pub returns-in-GapRefused : goal.returns-in-GapRefused
-returns-in-GapRefused c =
+pub returns-in-Err : goal.returns-in-Err
+returns-in-Err c =
     record {
-      is = avoid_gap _ _ _ _ _ _ _ c.if-src-at.false _ c.pass_gap.ensures.is _ c.in-GapRefused.is;
+      is = avoid_gap _ _ _ _ _ _ _ c.if-src-at.false _ c.pass_gap.ensures.is _ c.in-Err.is;
       moved = record { onward = omega arith; inside = c.requires.0.within };
       indexed = (c.requires.1, (c.requires.4, grown_none _));
     }

@@ -1,18 +1,15 @@
--- `links::next_of_rule`: what is found in the rows that are left is found from the first on.
-use mathlib.Core.Path.{refl}
-use Rattle.tables.proofs.Laws.{first_hit, first_on, first_end}
-use Rattle.links.proofs.Laws.{is_of_rule_lem, is_of_other, next_is}
+-- `links::next_of_rule`.
+use Rattle.std.proofs.Common.{rules, tests, refl, ◌∙◌}
+use Rattle.std.proofs.lemmas.Iterator.{YieldsList-from_range}
+use Rattle.std.proofs.lemmas.Iterator.Search.{find_from_yields_List}
+use Rattle.tables.proofs.Laws.{find_first}
+use Rattle.links.specs.Links.{is_of_rule, next_of_rule}
+use Rattle.links.proofs.Laws.{found_or}
 use Rattle.links.proofs.next_of_rule.Goals as goal
 
-pub loop-r-init : goal.loop-r-init
-loop-r-init c = refl
-
-pub returns-then-cell-k : goal.returns-then-cell-k
-returns-then-cell-k c =
-    next_is _ _ _ _ _ (first_hit _ _ c.loop-r.r _ c.loop-r.invariant c.loop-r-test.true (is_of_rule_lem _ _ _ _ c.cell.ensures c.if-cell-k.true))
-
-pub loop-r-preserved : goal.loop-r-preserved
-loop-r-preserved c = first_on _ _ c.loop-r.r _ c.loop-r.invariant c.loop-r-test.true (is_of_other _ _ _ _ c.cell.ensures c.if-cell-k.false)
-
 pub returns : goal.returns
-returns c = next_is _ _ _ _ _ (first_end _ _ c.loop-r.r _ c.loop-r.invariant c.loop-r-test.false)
+unfolding is_of_rule next_of_rule
+returns c =
+    let a = c.args in
+    let found = find_from_yields_List (is_of_rule a.t8.now a.k) _ _ c.find.result c.find.ensures.ran (YieldsList-from_range a.from a.n _ refl refl) (λ x b q k. search (rules, tests)) in
+    c.unwrap_or.ensures ∙ found_or _ _ _ (found ∙ find_first _ _ _)

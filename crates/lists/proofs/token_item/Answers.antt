@@ -9,38 +9,38 @@ use Rattle.lists.proofs.token_item.Goals as goal
 
 pub overflow_cast-from : goal.overflow_cast-from
 overflow_cast-from c =
-    let h = told (Tokened _ _) c.in-Found.is c.parse_token.ensures.tokened in
+    let h = told (Tokened _ _) c.in-Ok.is c.parse_token.ensures.tokened in
     omega (arith, c.requires.0.short)
 
 pub overflow_cast-to : goal.overflow_cast-to
 overflow_cast-to c =
-    let h = told (Tokened _ _) c.in-Found.is c.parse_token.ensures.tokened in
+    let h = told (Tokened _ _) c.in-Ok.is c.parse_token.ensures.tokened in
     omega (arith, c.requires.0.short)
 
 pub enter-r-requires : goal.enter-r-requires
 enter-r-requires c = c.requires.1
 
 pub behind_word-requires : goal.behind_word-requires
-behind_word-requires c = record { within = (told (Tokened _ _) c.in-Found.is c.parse_token.ensures.tokened).3; short = c.requires.0.short }
+behind_word-requires c = record { within = (told (Tokened _ _) c.in-Ok.is c.parse_token.ensures.tokened).3; short = c.requires.0.short }
 
 pub overflow_cast-result : goal.overflow_cast-result
 overflow_cast-result c =
-    let h = told (Tokened _ _) c.in-NoToken.is c.parse_token.ensures.tokened in
+    let h = told (Tokened _ _) c.in-Err.is c.parse_token.ensures.tokened in
     omega (arith, c.requires.0.within, c.requires.0.short)
 
-pub returns-in-Found : goal.returns-in-Found
-returns-in-Found c =
-    let h = told (Tokened _ _) c.in-Found.is c.parse_token.ensures.tokened in
+pub returns-in-Ok : goal.returns-in-Ok
+returns-in-Ok c =
+    let h = told (Tokened _ _) c.in-Ok.is c.parse_token.ensures.tokened in
     record {
-      is = token_found_lem _ _ _ _ _ _ _ c.parse_token.ensures.value _ _ _ _ _ _ _ _ _ _ _ _ c.in-Found.is c.enter-r.ensures.is c.tag_row-q.ensures.is c.behind_word.ensures.is;
+      is = token_found_lem _ _ _ _ _ _ _ c.parse_token.ensures.value _ _ _ _ _ _ _ _ _ _ _ _ c.in-Ok.is c.enter-r.ensures.is c.tag_row-q.ensures.is c.behind_word.ensures.is;
       moved = moves _ _ _ _ _ _ (c.tag_row-q.ensures.kept ∙ c.enter-r.ensures.kept) (omega arith) h.3 c.behind_word.ensures.moved;
       indexed = rw (c.behind_word.ensures.counted ∙ c.tag_row-q.ensures.counted) c.enter-r.ensures.indexed;
     }
 
-pub returns-in-NoToken : goal.returns-in-NoToken
-returns-in-NoToken c =
+pub returns-in-Err : goal.returns-in-Err
+returns-in-Err c =
     record {
-      is = token_none _ _ _ _ _ _ _ c.parse_token.ensures.value _ c.in-NoToken.is;
+      is = token_none _ _ _ _ _ _ _ c.parse_token.ensures.value _ c.in-Err.is;
       moved = refused_put _ _ _ c.requires.0.within;
       indexed = c.requires.1;
     }

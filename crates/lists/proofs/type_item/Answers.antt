@@ -9,37 +9,37 @@ use Rattle.lists.proofs.type_item.Goals as goal
 
 pub overflow_cast-from : goal.overflow_cast-from
 overflow_cast-from c =
-    let x = told (Spells _ _) c.in-Spelled.is c.spelled.ensures.moved in
+    let x = told (Spells _ _) c.in-Ok.is c.spelled.ensures.moved in
     omega (arith, x.3, x.4, x.6, c.requires.short)
 
 pub overflow_cast-to : goal.overflow_cast-to
 overflow_cast-to c =
-    let x = told (Spells _ _) c.in-Spelled.is c.spelled.ensures.moved in
+    let x = told (Spells _ _) c.in-Ok.is c.spelled.ensures.moved in
     omega (arith, x.4, x.6, c.requires.short)
 
 pub type_row-requires : goal.type_row-requires
 type_row-requires c =
-    let x = told (Spells _ _) c.in-Spelled.is c.spelled.ensures.moved in
+    let x = told (Spells _ _) c.in-Ok.is c.spelled.ensures.moved in
     record { within = x.6; short = c.requires.short }
 
 pub overflow_cast-result : goal.overflow_cast-result
 overflow_cast-result c =
-    let x = told (Spells _ _) c.in-Unspelled.is c.spelled.ensures.moved in
+    let x = told (Spells _ _) c.in-Err.is c.spelled.ensures.moved in
     omega (arith, x, c.requires.within, c.requires.short)
 
-pub returns-in-Spelled : goal.returns-in-Spelled
-returns-in-Spelled c =
-    let x = told (Spells _ _) c.in-Spelled.is c.spelled.ensures.moved in
+pub returns-in-Ok : goal.returns-in-Ok
+returns-in-Ok c =
+    let x = told (Spells _ _) c.in-Ok.is c.spelled.ensures.moved in
     record {
-      is = type_spelled_lem _ _ _ c.spelled.ensures.is _ _ _ _ _ _ _ c.in-Spelled.is c.type_row.ensures.is;
+      is = type_spelled_lem _ _ _ c.spelled.ensures.is _ _ _ _ _ _ _ c.in-Ok.is c.type_row.ensures.is;
       moved = moves _ _ _ _ _ _ refl x.5 x.6 c.type_row.ensures.moved;
       counted = c.type_row.ensures.counted;
     }
 
-pub returns-in-Unspelled : goal.returns-in-Unspelled
-returns-in-Unspelled c =
+pub returns-in-Err : goal.returns-in-Err
+returns-in-Err c =
     record {
-      is = type_none _ _ _ c.spelled.ensures.is _ _ _ c.in-Unspelled.is;
+      is = type_none _ _ _ c.spelled.ensures.is _ _ _ c.in-Err.is;
       moved = refused_put _ _ _ c.requires.within;
       counted = refl;
     }

@@ -4,17 +4,17 @@ use Rattle.grammar.specs.State.{Out1}
 use Rattle.marks.proofs.Laws.{tag_none, tag_pushed, tag_done, tag_refused, tag_counts}
 use Rattle.marks.proofs.tag_row.Goals as goal
 
-pub returns-in-Absent : goal.returns-in-Absent
-returns-in-Absent c =
+pub returns-in-None : goal.returns-in-None
+returns-in-None c =
     record {
-      is = tag_none _ _ _ _ _ _ c.in-Going.is c.in-Absent.is;
+      is = tag_none _ _ _ _ _ _ c.in-Going.is c.in-None.is;
       kept = refl;
       counted = refl;
     }
 
-pub returns-in-At : goal.returns-in-At
-returns-in-At c =
-    let e = tag_pushed _ _ _ _ _ _ _ _ _ c.in-Going.is c.in-At.is c.push.ensures.is in
+pub returns-in-Some : goal.returns-in-Some
+returns-in-Some c =
+    let e = tag_pushed _ _ _ _ _ _ _ _ _ c.in-Going.is c.in-Some.is c.push.ensures.is in
     record {
       is = e;
       kept = c.push.ensures.kept;

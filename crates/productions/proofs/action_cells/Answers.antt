@@ -3,5 +3,5 @@ use mathlib.Core.Path.{sym, ap}
 use Rattle.productions.specs.Cells.{action_cells}
 use Rattle.productions.proofs.action_cells.Goals as goal
 
-pub returns-in-ActionAt : goal.returns-in-ActionAt
-returns-in-ActionAt c = sym (ap action_cells c.in-ActionAt.is)
+pub returns-in-Some : goal.returns-in-Some
+returns-in-Some c = sym (ap action_cells c.in-Some.is)

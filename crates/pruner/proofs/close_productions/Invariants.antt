@@ -1,9 +1,5 @@
-use Prim.Native.Nat.{◌≤◌, ◌-◌}
 use Rattle.pruner.proofs.Productions.{ProductionsTo}
 use Rattle.pruner.proofs.close_productions.Given as goal
 
 abbrev pub invariant-loop-p : goal.invariant-loop-p
-invariant-loop-p l = (l.p ≤ l.n) × ProductionsTo l.ws l.initial.t8 l.p l.m l.e l.t8
-
-abbrev pub decreases-loop-p : goal.decreases-loop-p
-decreases-loop-p l = l.n - l.p
+invariant-loop-p l = ProductionsTo l.ws l.initial.t8 l.p l.m l.e l.t8

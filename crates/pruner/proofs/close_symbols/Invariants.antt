@@ -1,6 +1,4 @@
-use Prim.Native.Nat.{◌≤◌, ◌-◌}
 use mathlib.Core.Path.{◌≡◌}
-use lib.ListN.{length}
 use Rattle.tables.specs.Layout.{productions}
 use Rattle.grammar.specs.declared.Counts.{Counts}
 use Rattle.sound.specs.Test.{count_at}
@@ -9,8 +7,4 @@ use Rattle.pruner.proofs.Symbols.{SymbolsTo}
 use Rattle.pruner.proofs.close_symbols.Given as goal
 
 abbrev pub invariant-loop-p : goal.invariant-loop-p
-invariant-loop-p l =
-    (l.p ≤ l.n) × (length l.t9 ≡ length l.initial.t9) × ((c : Counts) → Movable c l.ws l.i1 l.i7 l.t8 l.initial.t9 → l.n ≡ count_at c productions → SymbolsTo c l.ws l.t8 l.initial.t9 l.p l.m l.t9)
-
-abbrev pub decreases-loop-p : goal.decreases-loop-p
-decreases-loop-p l = l.n - l.p
+invariant-loop-p l = (c : Counts) → Movable c l.ws l.i1 l.i7 l.t8 l.initial.t9 → l.n ≡ count_at c productions → SymbolsTo c l.ws l.t8 l.initial.t9 l.p l.m l.t9

@@ -8,14 +8,14 @@ use Rattle.reach.proofs.mark_name.Goals as goal
 pub mark-requires : goal.mark-requires
 mark-requires c =
     let a = c.args in
-    omega (arith, c.requires.0.inside, (name_calls a.src.now (named a.names.now a.z) a.a a.b _ c.find.ensures _ c.in-RowAt.is).inside)
+    omega (arith, c.requires.0.inside, (name_calls a.src.now (named a.names.now a.z) a.a a.b _ c.find.ensures _ c.in-Some.is).inside)
 
-pub returns-in-RowAt : goal.returns-in-RowAt
-returns-in-RowAt c =
+pub returns-in-Some : goal.returns-in-Some
+returns-in-Some c =
     let a = c.args in
-    mark_found a.src.now (named a.names.now a.z) a.a a.b _ c.find.ensures _ _ _ _ c.requires.1 c.in-RowAt.is c.mark.ensures
+    mark_found a.src.now (named a.names.now a.z) a.a a.b _ c.find.ensures _ _ _ _ c.requires.1 c.in-Some.is c.mark.ensures
 
-pub returns-in-NoRow : goal.returns-in-NoRow
-returns-in-NoRow c =
+pub returns-in-None : goal.returns-in-None
+returns-in-None c =
     let a = c.args in
-    mark_unfound a.src.now (named a.names.now a.z) a.a a.b _ c.find.ensures _ c.in-NoRow.is
+    mark_unfound a.src.now (named a.names.now a.z) a.a a.b _ c.find.ensures _ c.in-None.is

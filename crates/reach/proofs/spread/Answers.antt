@@ -16,7 +16,7 @@ slice_bounds-round-end c = sym c.loop-c.invariant.2
 
 pub round-requires : goal.round-requires
 round-requires c =
-    (fits_on _ c.args.w.now _ (c.loop-c.invariant.0.size ∙ (let rushed : Rushed (net c.args.src.now c.args.c c.args.prods.now c.args.syms.now) (named c.args.rules.now (rule_sort c.args.c)) c.args.w.now c.if-rows_of.w = elim c.if-rows_of.branch [ then-rows_of s ↦ rw s.w-is s.rush_small.ensures | else-rows_of s ↦ rw s.w-is s.rush_large.ensures ] in rushed.size)) c.requires.0, c.requires.1, c.loop-c.invariant.1)
+    (fits_on _ c.args.w.now _ (c.loop-c.invariant.0.size ∙ (let rushed : Rushed (net c.args.src.now c.args.c c.args.prods.now c.args.syms.now) (named c.args.rules.now (rule_sort c.args.c)) c.args.w.now c.if-rows_of.w = elim c.if-rows_of.branch [ then-rows_of s ↦ rw s.w-is s.rush_in.ensures | else-rows_of s ↦ rw s.w-is s.rush_in-else-rows_of.ensures ] in rushed.size)) c.requires.0, c.requires.1, c.loop-c.invariant.1)
 
 pub loop-c-smaller : goal.loop-c-smaller
 loop-c-smaller c = fewer c.loop-c.w c.round.new.w c.round.result c.round.ensures.0.size c.loop-c-test.true c.round.ensures.0.grew
@@ -26,8 +26,8 @@ loop-c-preserved c = (rushed_swept c.loop-c.invariant.0 c.round.ensures.0, c.rou
 
 pub shape_of-w : goal.shape_of-w
 shape_of-w c =
-    c.round.ensures.0.size ∙ c.loop-c.invariant.0.size ∙ (let rushed : Rushed (net c.args.src.now c.args.c c.args.prods.now c.args.syms.now) (named c.args.rules.now (rule_sort c.args.c)) c.args.w.now c.if-rows_of.w = elim c.if-rows_of.branch [ then-rows_of s ↦ rw s.w-is s.rush_small.ensures | else-rows_of s ↦ rw s.w-is s.rush_large.ensures ] in rushed.size)
+    c.round.ensures.0.size ∙ c.loop-c.invariant.0.size ∙ (let rushed : Rushed (net c.args.src.now c.args.c c.args.prods.now c.args.syms.now) (named c.args.rules.now (rule_sort c.args.c)) c.args.w.now c.if-rows_of.w = elim c.if-rows_of.branch [ then-rows_of s ↦ rw s.w-is s.rush_in.ensures | else-rows_of s ↦ rw s.w-is s.rush_in-else-rows_of.ensures ] in rushed.size)
 
 pub returns : goal.returns
 returns c =
-    rushed_done c.loop-c-test.false (rushed_then ((elim c.if-rows_of.branch [ then-rows_of s ↦ rw s.w-is s.rush_small.ensures | else-rows_of s ↦ rw s.w-is s.rush_large.ensures ])) c.loop-c.invariant.0) c.round.ensures.0
+    rushed_done c.loop-c-test.false (rushed_then ((elim c.if-rows_of.branch [ then-rows_of s ↦ rw s.w-is s.rush_in.ensures | else-rows_of s ↦ rw s.w-is s.rush_in-else-rows_of.ensures ])) c.loop-c.invariant.0) c.round.ensures.0

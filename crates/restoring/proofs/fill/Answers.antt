@@ -1,10 +1,11 @@
 -- `restoring::fill`: tables and source are filled, and stay where the test holds; or else all is cleared.
+use Rattle.std.specs.Prelude.{Ok, Err}
 use mathlib.Core.Path.{◌≡◌, sym, ◌∙◌}
 use mathlib.Core.Bool.{true, false}
 use native.Mathlib.Omega.{arith}
 use lib.Seq.{length-take-le}
 use Rattle.blocks.specs.Blocks.{content_of}
-use Rattle.restoring.specs.declared.Restoring.TheVariants.{AllRestored, RestoringUnsound}
+use Rattle.restoring.specs.declared.RestoringError.TheVariants.{RestoringUnsound}
 use Rattle.restoring.specs.Restoring.{Restored, filled_tables, filled_source, cleared_out, filled_from}
 use Rattle.restoring.proofs.Laws.{content_rows, stays, goes, cleared_out_lem}
 use Rattle.restoring.proofs.fill.Goals as goal
@@ -75,7 +76,7 @@ shape_of-t17-then-ok c = c.fill_tables.auto.t17
 
 pub returns-then-ok : goal.returns-then-ok
 returns-then-ok c =
-    (let it : c.test_filled-ok.result ≡ true → record { answer = AllRestored; head = ((c.args.h)); source = ((c.fill_source.new.src)); tables = ((record { t1 = c.fill_tables.new.t1; t2 = c.fill_tables.new.t2; t3 = c.fill_tables.new.t3; t4 = c.fill_tables.new.t4; t5 = c.fill_tables.new.t5; t6 = c.fill_tables.new.t6; t7 = c.fill_tables.new.t7; t8 = c.fill_tables.new.t8; t9 = c.fill_tables.new.t9; t10 = c.fill_tables.new.t10; t15 = c.fill_tables.new.t15; t16 = c.fill_tables.new.t16; t17 = c.fill_tables.new.t17 })); indexes = ((record { tokens = c.test_filled-ok.new.i1; rules = c.test_filled-ok.new.i7 })) } ≡ filled_from ((content_of c.args.s.now)) ((c.args.h)) ((c.args.src.now)) ((let x = c.args in
+    (let it : c.test_filled-ok.result ≡ true → record { answer = Ok tt; head = ((c.args.h)); source = ((c.fill_source.new.src)); tables = ((record { t1 = c.fill_tables.new.t1; t2 = c.fill_tables.new.t2; t3 = c.fill_tables.new.t3; t4 = c.fill_tables.new.t4; t5 = c.fill_tables.new.t5; t6 = c.fill_tables.new.t6; t7 = c.fill_tables.new.t7; t8 = c.fill_tables.new.t8; t9 = c.fill_tables.new.t9; t10 = c.fill_tables.new.t10; t15 = c.fill_tables.new.t15; t16 = c.fill_tables.new.t16; t17 = c.fill_tables.new.t17 })); indexes = ((record { tokens = c.test_filled-ok.new.i1; rules = c.test_filled-ok.new.i7 })) } ≡ filled_from ((content_of c.args.s.now)) ((c.args.h)) ((c.args.src.now)) ((let x = c.args in
     record { t1 = x.t1.now; t2 = x.t2.now; t3 = x.t3.now; t4 = x.t4.now; t5 = x.t5.now; t6 = x.t6.now; t7 = x.t7.now; t8 = x.t8.now; t9 = x.t9.now; t10 = x.t10.now; t15 = x.t15.now; t16 = x.t16.now; t17 = x.t17.now })) ((record { tokens = c.args.i1.now; rules = c.args.i7.now })) = λ e. stays ((content_of c.args.s.now)) ((c.args.h)) ((c.args.src.now)) ((let x = c.args in
     record { t1 = x.t1.now; t2 = x.t2.now; t3 = x.t3.now; t4 = x.t4.now; t5 = x.t5.now; t6 = x.t6.now; t7 = x.t7.now; t8 = x.t8.now; t9 = x.t9.now; t10 = x.t10.now; t15 = x.t15.now; t16 = x.t16.now; t17 = x.t17.now })) ((record { tokens = c.args.i1.now; rules = c.args.i7.now })) ((c.fill_source.new.src)) ((record { t1 = c.fill_tables.new.t1; t2 = c.fill_tables.new.t2; t3 = c.fill_tables.new.t3; t4 = c.fill_tables.new.t4; t5 = c.fill_tables.new.t5; t6 = c.fill_tables.new.t6; t7 = c.fill_tables.new.t7; t8 = c.fill_tables.new.t8; t9 = c.fill_tables.new.t9; t10 = c.fill_tables.new.t10; t15 = c.fill_tables.new.t15; t16 = c.fill_tables.new.t16; t17 = c.fill_tables.new.t17 })) c.test_filled-ok.result ((record { tokens = c.test_filled-ok.new.i1; rules = c.test_filled-ok.new.i7 })) ((let it : ((record { t1 = c.fill_tables.new.t1; t2 = c.fill_tables.new.t2; t3 = c.fill_tables.new.t3; t4 = c.fill_tables.new.t4; t5 = c.fill_tables.new.t5; t6 = c.fill_tables.new.t6; t7 = c.fill_tables.new.t7; t8 = c.fill_tables.new.t8; t9 = c.fill_tables.new.t9; t10 = c.fill_tables.new.t10; t15 = c.fill_tables.new.t15; t16 = c.fill_tables.new.t16; t17 = c.fill_tables.new.t17 })) ≡ filled_tables ((content_of c.args.s.now)) ((c.args.h)).counts ((c.args.h)).posix ((let x = c.args in
     record { t1 = x.t1.now; t2 = x.t2.now; t3 = x.t3.now; t4 = x.t4.now; t5 = x.t5.now; t6 = x.t6.now; t7 = x.t7.now; t8 = x.t8.now; t9 = x.t9.now; t10 = x.t10.now; t15 = x.t15.now; t16 = x.t16.now; t17 = x.t17.now })) = c.fill_tables.ensures in it)) ((let it : ((c.fill_source.new.src)) ≡ filled_source ((content_of c.args.s.now)) ((c.args.h)).counts ((c.args.h)).posix ((c.args.h)).length ((c.args.src.now)) = c.fill_source.ensures in it)) ((c.test_filled-ok.ensures)) e in it) c.if-ok.true
@@ -130,7 +131,7 @@ shape_of-t17 c = c.clear_all.auto.t17 ∙ c.fill_tables.auto.t17
 
 pub returns : goal.returns
 returns c =
-    (let it : c.test_filled-ok.result ≡ false → (o : Restored) → o ≡ cleared_out RestoringUnsound ((c.fill_source.new.src)) ((record { t1 = c.fill_tables.new.t1; t2 = c.fill_tables.new.t2; t3 = c.fill_tables.new.t3; t4 = c.fill_tables.new.t4; t5 = c.fill_tables.new.t5; t6 = c.fill_tables.new.t6; t7 = c.fill_tables.new.t7; t8 = c.fill_tables.new.t8; t9 = c.fill_tables.new.t9; t10 = c.fill_tables.new.t10; t15 = c.fill_tables.new.t15; t16 = c.fill_tables.new.t16; t17 = c.fill_tables.new.t17 })) ((record { tokens = c.test_filled-ok.new.i1; rules = c.test_filled-ok.new.i7 })) → o ≡ filled_from ((content_of c.args.s.now)) ((c.args.h)) ((c.args.src.now)) ((let x = c.args in
+    (let it : c.test_filled-ok.result ≡ false → (o : Restored) → o ≡ cleared_out (Err RestoringUnsound) ((c.fill_source.new.src)) ((record { t1 = c.fill_tables.new.t1; t2 = c.fill_tables.new.t2; t3 = c.fill_tables.new.t3; t4 = c.fill_tables.new.t4; t5 = c.fill_tables.new.t5; t6 = c.fill_tables.new.t6; t7 = c.fill_tables.new.t7; t8 = c.fill_tables.new.t8; t9 = c.fill_tables.new.t9; t10 = c.fill_tables.new.t10; t15 = c.fill_tables.new.t15; t16 = c.fill_tables.new.t16; t17 = c.fill_tables.new.t17 })) ((record { tokens = c.test_filled-ok.new.i1; rules = c.test_filled-ok.new.i7 })) → o ≡ filled_from ((content_of c.args.s.now)) ((c.args.h)) ((c.args.src.now)) ((let x = c.args in
     record { t1 = x.t1.now; t2 = x.t2.now; t3 = x.t3.now; t4 = x.t4.now; t5 = x.t5.now; t6 = x.t6.now; t7 = x.t7.now; t8 = x.t8.now; t9 = x.t9.now; t10 = x.t10.now; t15 = x.t15.now; t16 = x.t16.now; t17 = x.t17.now })) ((record { tokens = c.args.i1.now; rules = c.args.i7.now })) = λ e o f. goes ((content_of c.args.s.now)) ((c.args.h)) ((c.args.src.now)) ((let x = c.args in
     record { t1 = x.t1.now; t2 = x.t2.now; t3 = x.t3.now; t4 = x.t4.now; t5 = x.t5.now; t6 = x.t6.now; t7 = x.t7.now; t8 = x.t8.now; t9 = x.t9.now; t10 = x.t10.now; t15 = x.t15.now; t16 = x.t16.now; t17 = x.t17.now })) ((record { tokens = c.args.i1.now; rules = c.args.i7.now })) ((c.fill_source.new.src)) ((record { t1 = c.fill_tables.new.t1; t2 = c.fill_tables.new.t2; t3 = c.fill_tables.new.t3; t4 = c.fill_tables.new.t4; t5 = c.fill_tables.new.t5; t6 = c.fill_tables.new.t6; t7 = c.fill_tables.new.t7; t8 = c.fill_tables.new.t8; t9 = c.fill_tables.new.t9; t10 = c.fill_tables.new.t10; t15 = c.fill_tables.new.t15; t16 = c.fill_tables.new.t16; t17 = c.fill_tables.new.t17 })) c.test_filled-ok.result ((record { tokens = c.test_filled-ok.new.i1; rules = c.test_filled-ok.new.i7 })) ((let it : ((record { t1 = c.fill_tables.new.t1; t2 = c.fill_tables.new.t2; t3 = c.fill_tables.new.t3; t4 = c.fill_tables.new.t4; t5 = c.fill_tables.new.t5; t6 = c.fill_tables.new.t6; t7 = c.fill_tables.new.t7; t8 = c.fill_tables.new.t8; t9 = c.fill_tables.new.t9; t10 = c.fill_tables.new.t10; t15 = c.fill_tables.new.t15; t16 = c.fill_tables.new.t16; t17 = c.fill_tables.new.t17 })) ≡ filled_tables ((content_of c.args.s.now)) ((c.args.h)).counts ((c.args.h)).posix ((let x = c.args in
     record { t1 = x.t1.now; t2 = x.t2.now; t3 = x.t3.now; t4 = x.t4.now; t5 = x.t5.now; t6 = x.t6.now; t7 = x.t7.now; t8 = x.t8.now; t9 = x.t9.now; t10 = x.t10.now; t15 = x.t15.now; t16 = x.t16.now; t17 = x.t17.now })) = c.fill_tables.ensures in it)) ((let it : ((c.fill_source.new.src)) ≡ filled_source ((content_of c.args.s.now)) ((c.args.h)).counts ((c.args.h)).posix ((c.args.h)).length ((c.args.src.now)) = c.fill_source.ensures in it)) ((c.test_filled-ok.ensures)) e o f in it) c.if-ok.false (record {
@@ -140,5 +141,5 @@ returns c =
       source = (c.clear_all.new.src);
       tables = (record { t1 = c.clear_all.new.t1; t2 = c.clear_all.new.t2; t3 = c.clear_all.new.t3; t4 = c.clear_all.new.t4; t5 = c.clear_all.new.t5; t6 = c.clear_all.new.t6; t7 = c.clear_all.new.t7; t8 = c.clear_all.new.t8; t9 = c.clear_all.new.t9; t10 = c.clear_all.new.t10; t15 = c.clear_all.new.t15; t16 = c.clear_all.new.t16; t17 = c.clear_all.new.t17 });
       indexes = (record { tokens = c.clear_all.new.i1; rules = c.clear_all.new.i7 });
-    }) ((cleared_out_lem ((c.fill_source.new.src)) ((record { t1 = c.fill_tables.new.t1; t2 = c.fill_tables.new.t2; t3 = c.fill_tables.new.t3; t4 = c.fill_tables.new.t4; t5 = c.fill_tables.new.t5; t6 = c.fill_tables.new.t6; t7 = c.fill_tables.new.t7; t8 = c.fill_tables.new.t8; t9 = c.fill_tables.new.t9; t10 = c.fill_tables.new.t10; t15 = c.fill_tables.new.t15; t16 = c.fill_tables.new.t16; t17 = c.fill_tables.new.t17 })) ((record { tokens = c.test_filled-ok.new.i1; rules = c.test_filled-ok.new.i7 })) ((c.clear_all.new.src)) ((record { t1 = c.clear_all.new.t1; t2 = c.clear_all.new.t2; t3 = c.clear_all.new.t3; t4 = c.clear_all.new.t4; t5 = c.clear_all.new.t5; t6 = c.clear_all.new.t6; t7 = c.clear_all.new.t7; t8 = c.clear_all.new.t8; t9 = c.clear_all.new.t9; t10 = c.clear_all.new.t10; t15 = c.clear_all.new.t15; t16 = c.clear_all.new.t16; t17 = c.clear_all.new.t17 })) ((record { tokens = c.clear_all.new.i1; rules = c.clear_all.new.i7 })) c.clear_all.ensures RestoringUnsound c.refused.result.answer ((let x = c.refused.result in
+    }) ((cleared_out_lem ((c.fill_source.new.src)) ((record { t1 = c.fill_tables.new.t1; t2 = c.fill_tables.new.t2; t3 = c.fill_tables.new.t3; t4 = c.fill_tables.new.t4; t5 = c.fill_tables.new.t5; t6 = c.fill_tables.new.t6; t7 = c.fill_tables.new.t7; t8 = c.fill_tables.new.t8; t9 = c.fill_tables.new.t9; t10 = c.fill_tables.new.t10; t15 = c.fill_tables.new.t15; t16 = c.fill_tables.new.t16; t17 = c.fill_tables.new.t17 })) ((record { tokens = c.test_filled-ok.new.i1; rules = c.test_filled-ok.new.i7 })) ((c.clear_all.new.src)) ((record { t1 = c.clear_all.new.t1; t2 = c.clear_all.new.t2; t3 = c.clear_all.new.t3; t4 = c.clear_all.new.t4; t5 = c.clear_all.new.t5; t6 = c.clear_all.new.t6; t7 = c.clear_all.new.t7; t8 = c.clear_all.new.t8; t9 = c.clear_all.new.t9; t10 = c.clear_all.new.t10; t15 = c.clear_all.new.t15; t16 = c.clear_all.new.t16; t17 = c.clear_all.new.t17 })) ((record { tokens = c.clear_all.new.i1; rules = c.clear_all.new.i7 })) c.clear_all.ensures (Err RestoringUnsound) c.refused.result.answer ((let x = c.refused.result in
     record { kind = x.kind; counts = x.counts; posix = x.posix; length = x.length; singles = x.singles })) c.refused.ensures.0 c.refused.ensures.1))

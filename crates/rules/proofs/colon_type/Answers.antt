@@ -6,25 +6,25 @@ use Rattle.rules.proofs.Laws.{colon_at, colon_upto, colon_open}
 use Rattle.rules.proofs.colon_type.Goals as goal
 
 pub overflow_cast-result : goal.overflow_cast-result
-overflow_cast-result c = passed_fits _ _ _ c.requires ((colon_from _ _ _ _ _ _ c.parse_to_single_colon.ensures.colon_texts c.in-Upto.is))
+overflow_cast-result c = passed_fits _ _ _ c.requires ((colon_from _ _ _ _ _ _ c.parse_to_single_colon.ensures.colon_texts c.in-Ok.is))
 
-pub overflow_cast-result-in-Upto : goal.overflow_cast-result-in-Upto
-overflow_cast-result-in-Upto c =
-    passed_fits _ _ _ c.requires (passed_on _ _ _ _ ((colon_from _ _ _ _ _ _ c.parse_to_single_colon.ensures.colon_texts c.in-Upto.is)) (colon_to _ _ _ _ _ _ c.parse_to_single_colon.ensures.colon_texts c.in-Upto.is))
+pub overflow_cast-result-in-Ok : goal.overflow_cast-result-in-Ok
+overflow_cast-result-in-Ok c =
+    passed_fits _ _ _ c.requires (passed_on _ _ _ _ ((colon_from _ _ _ _ _ _ c.parse_to_single_colon.ensures.colon_texts c.in-Ok.is)) (colon_to _ _ _ _ _ _ c.parse_to_single_colon.ensures.colon_texts c.in-Ok.is))
 
-pub overflow_cast-result-in-NoColon : goal.overflow_cast-result-in-NoColon
-overflow_cast-result-in-NoColon c = let h = colon_none _ _ _ _ c.parse_to_single_colon.ensures.colon_texts c.in-NoColon.is in omega (arith, c.requires.short)
+pub overflow_cast-result-in-Err : goal.overflow_cast-result-in-Err
+overflow_cast-result-in-Err c = let h = colon_none _ _ _ _ c.parse_to_single_colon.ensures.colon_texts c.in-Err.is in omega (arith, c.requires.short)
 
-pub returns-in-Upto : goal.returns-in-Upto
-returns-in-Upto c =
+pub returns-in-Ok : goal.returns-in-Ok
+returns-in-Ok c =
     record {
-      is = colon_upto _ _ _ c.parse_to_single_colon.ensures.value _ _ _ c.in-Upto.is;
-      moved = colon_at _ _ _ _ _ _ c.parse_to_single_colon.ensures.colon_texts c.in-Upto.is;
+      is = colon_upto _ _ _ c.parse_to_single_colon.ensures.value _ _ _ c.in-Ok.is;
+      moved = colon_at _ _ _ _ _ _ c.parse_to_single_colon.ensures.colon_texts c.in-Ok.is;
     }
 
-pub returns-in-NoColon : goal.returns-in-NoColon
-returns-in-NoColon c =
+pub returns-in-Err : goal.returns-in-Err
+returns-in-Err c =
     record {
-      is = colon_open _ _ _ c.parse_to_single_colon.ensures.value _ c.in-NoColon.is;
+      is = colon_open _ _ _ c.parse_to_single_colon.ensures.value _ c.in-Err.is;
       moved = still _ _ c.requires;
     }

@@ -25,22 +25,22 @@ pass_gap-requires c =
 
 pub overflow_cast-i : goal.overflow_cast-i
 overflow_cast-i c =
-    let k = (gap_passed _ _ _ _ _ c.pass_gap.ensures.moved c.in-GapTo.is).inside in
+    let k = (gap_passed _ _ _ _ _ c.pass_gap.ensures.moved c.in-Ok.is).inside in
     omega (arith, c.requires.short)
 
 pub overflow_cast-end : goal.overflow_cast-end
 overflow_cast-end c = omega (arith, c.requires.short)
 
-pub returns-in-GapTo : goal.returns-in-GapTo
-returns-in-GapTo c =
+pub returns-in-Ok : goal.returns-in-Ok
+returns-in-Ok c =
     record {
-      is = programs_text_lem _ _ _ c.starts.ensures (not-false _ c.if-not-starts.false-raw) _ c.pass_gap.ensures.is _ _ _ c.in-GapTo.is c.with_programs-n.ensures;
+      is = programs_text_lem _ _ _ c.starts.ensures (not-false _ c.if-not-starts.false-raw) _ c.pass_gap.ensures.is _ _ _ c.in-Ok.is c.with_programs-n.ensures;
       moved = record { onward = c.requires.within; inside = omega arith };
     }
 
-pub returns-in-GapRefused : goal.returns-in-GapRefused
-returns-in-GapRefused c =
+pub returns-in-Err : goal.returns-in-Err
+returns-in-Err c =
     record {
-      is = programs_refused _ _ _ c.starts.ensures (not-false _ c.if-not-starts.false-raw) _ c.pass_gap.ensures.is _ c.in-GapRefused.is;
+      is = programs_refused _ _ _ c.starts.ensures (not-false _ c.if-not-starts.false-raw) _ c.pass_gap.ensures.is _ c.in-Err.is;
       moved = still _ _ c.requires;
     }

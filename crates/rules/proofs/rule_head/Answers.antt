@@ -7,7 +7,7 @@ use Rattle.rules.proofs.rule_head.Goals as goal
 
 pub named_head-requires : goal.named_head-requires
 named_head-requires c =
-    let y = name_passed _ _ _ _ c.parse_name.ensures.named c.in-NameTo.is in
+    let y = name_passed _ _ _ _ c.parse_name.ensures.named c.in-Ok.is in
     record {
       here = passed_here _ _ _ c.requires.0 y;
       passed = y;
@@ -16,21 +16,21 @@ named_head-requires c =
 
 pub overflow_cast-result : goal.overflow_cast-result
 overflow_cast-result c =
-    let e = name_none _ _ _ _ c.parse_name.ensures.named c.in-NoName.is in let q = c.requires.0 in
+    let e = name_none _ _ _ _ c.parse_name.ensures.named c.in-Err.is in let q = c.requires.0 in
     omega (arith, q.within, q.short)
 
-pub returns-in-NameTo : goal.returns-in-NameTo
-returns-in-NameTo c =
+pub returns-in-Ok : goal.returns-in-Ok
+returns-in-Ok c =
     record {
-      is = head_named _ _ _ _ c.parse_name.ensures.value _ _ c.in-NameTo.is c.named_head.ensures.is;
-      moved = named_moves _ _ _ _ _ _ c.parse_name.ensures.named c.in-NameTo.is c.named_head.ensures.moved;
+      is = head_named _ _ _ _ c.parse_name.ensures.value _ _ c.in-Ok.is c.named_head.ensures.is;
+      moved = named_moves _ _ _ _ _ _ c.parse_name.ensures.named c.in-Ok.is c.named_head.ensures.moved;
       indexed = c.named_head.ensures.indexed;
     }
 
-pub returns-in-NoName : goal.returns-in-NoName
-returns-in-NoName c =
+pub returns-in-Err : goal.returns-in-Err
+returns-in-Err c =
     record {
-      is = head_none _ _ _ _ c.parse_name.ensures.value _ c.in-NoName.is;
+      is = head_none _ _ _ _ c.parse_name.ensures.value _ c.in-Err.is;
       moved = refused_put _ _ _ c.requires.0.within;
       indexed = c.requires.1;
     }

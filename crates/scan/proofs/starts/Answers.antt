@@ -1,19 +1,19 @@
 -- `scan::starts`: so far the word stands there.
+use native.Mathlib.Nat.{add-zero, add_assoc}
 use borrow.Author.Rules.{rules}
-use Rattle.scan.proofs.Bytes.{starts_first, starts_short, starts_differ, starts_on, starts_all}
+use Rattle.scan.proofs.Bytes.{starts_first, starts_not, starts_on, starts_all}
 use Rattle.scan.proofs.starts.Goals as goal
 
 pub loop-k-init : goal.loop-k-init
-loop-k-init c = search (starts_first, rules)
+loop-k-init c = rw add-zero (search (starts_first, rules))
 
-pub returns-then-s-i : goal.returns-then-s-i
-returns-then-s-i c = search (starts_short, rules)
-
-pub returns-then-s-i-2 : goal.returns-then-s-i-2
-returns-then-s-i-2 c = search (starts_differ, rules)
+pub returns-then-not-is_at : goal.returns-then-not-is_at
+returns-then-not-is_at c = search (starts_not, rules)
 
 pub loop-k-preserved : goal.loop-k-preserved
-loop-k-preserved c = search (starts_on, rules)
+loop-k-preserved c =
+    let h = starts_on _ _ _ _ _ c.loop-k.invariant.1 _ c.loop-k-test.true c.is_at.ensures c.if-not-is_at.false in
+    rw (← add_assoc) (search (h.0, h.1, rules))
 
 pub returns : goal.returns
 returns c = search (starts_all, rules)

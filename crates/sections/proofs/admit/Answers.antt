@@ -24,18 +24,18 @@ returns-then-src-gt65536 c =
     }
 
 pub overflow_cast-result : goal.overflow_cast-result
-overflow_cast-result c = bad_byte c.args.src.now _ _ c.if-src-gt65536.false c.check.ensures.below c.in-BadAt.is
+overflow_cast-result c = bad_byte c.args.src.now _ _ c.if-src-gt65536.false c.check.ensures.below c.in-Err.is
 
-pub returns-in-Good : goal.returns-in-Good
-returns-in-Good c =
+pub returns-in-Ok : goal.returns-in-Ok
+returns-in-Ok c =
     record {
-      is = is_text _ _ _ c.if-kind.false c.if-not-sized.false-raw c.if-src-gt65536.false _ c.check.ensures.value c.in-Good.is;
+      is = is_text _ _ _ c.if-kind.false c.if-not-sized.false-raw c.if-src-gt65536.false _ c.check.ensures.value c.in-Ok.is;
       short = c.if-src-gt65536.false;
     }
 
-pub returns-in-BadAt : goal.returns-in-BadAt
-returns-in-BadAt c =
+pub returns-in-Err : goal.returns-in-Err
+returns-in-Err c =
     record {
-      is = no_text _ _ _ c.if-kind.false c.if-not-sized.false-raw c.if-src-gt65536.false _ c.check.ensures.value _ c.in-BadAt.is;
+      is = no_text _ _ _ c.if-kind.false c.if-not-sized.false-raw c.if-src-gt65536.false _ c.check.ensures.value _ c.in-Err.is;
       short = tt;
     }

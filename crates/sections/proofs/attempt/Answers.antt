@@ -4,14 +4,14 @@ use Rattle.sections.proofs.Laws.{fit_here, fit_near, begun_near, none_tracked, n
 use Rattle.sections.proofs.attempt.Goals as goal
 
 pub enum_told-1 : goal.enum_told-1
-enum_told-1 c = c.in-Fit.in-Fit-own.keys1
+enum_told-1 c = c.in-Ok.in-Ok-own.keys1
 
 pub sections-requires : goal.sections-requires
 sections-requires c =
-    (fit_here _ _ c.admit-a.ensures.short c.in-Fit.is _ _ c.begin-s.ensures, none_tracked _ 0 3 0 _ _ _ _ refl c.begin-s.ensures, none_tracked _ 6 5 0 _ _ _ _ refl c.begin-s.ensures, none_given _ _ _ _ _ _ _ _ c.begin-s.ensures)
+    (fit_here _ _ c.admit-a.ensures.short c.in-Ok.is _ _ c.begin-s.ensures, none_tracked _ 0 3 0 _ _ _ _ refl c.begin-s.ensures, none_tracked _ 6 5 0 _ _ _ _ refl c.begin-s.ensures, none_given _ _ _ _ _ _ _ _ c.begin-s.ensures)
 
 pub enum_known-a : goal.enum_known-a
-enum_known-a c = c.in-Unfit.in-Unfit-own.keys2
+enum_known-a c = c.in-Err.in-Err-own.keys2
 
 pub shape_of-t1 : goal.shape_of-t1
 shape_of-t1 c = c.sections.auto.t1
@@ -61,18 +61,18 @@ shape_of-f7 c = c.sections.auto.f7
 pub shape_of-fx : goal.shape_of-fx
 shape_of-fx c = c.sections.auto.fx
 
-pub returns-in-Fit : goal.returns-in-Fit
-returns-in-Fit c =
+pub returns-in-Ok : goal.returns-in-Ok
+returns-in-Ok c =
     record {
-      is = attempt_fit _ _ _ _ c.begin-s.ensures _ _ refl _ c.admit-a.ensures.is _ c.in-Fit.is c.sections.ensures.is;
-      near = fit_near _ _ c.admit-a.ensures.short c.in-Fit.is _ _ c.sections.ensures.moved;
+      is = attempt_fit _ _ _ _ c.begin-s.ensures _ _ refl _ c.admit-a.ensures.is _ c.in-Ok.is c.sections.ensures.is;
+      near = fit_near _ _ c.admit-a.ensures.short c.in-Ok.is _ _ c.sections.ensures.moved;
       indexed = c.sections.ensures.indexed;
     }
 
-pub returns-in-Unfit : goal.returns-in-Unfit
-returns-in-Unfit c =
+pub returns-in-Err : goal.returns-in-Err
+returns-in-Err c =
     record {
-      is = attempt_unfit _ _ _ _ c.begin-s.ensures _ _ refl _ c.admit-a.ensures.is _ c.in-Unfit.is;
+      is = attempt_unfit _ _ _ _ c.begin-s.ensures _ _ refl _ c.admit-a.ensures.is _ c.in-Err.is;
       near = begun_near _ _ c.begin-s.ensures;
       indexed = (none_tracked _ 0 3 0 _ _ _ _ refl c.begin-s.ensures, none_tracked _ 6 5 0 _ _ _ _ refl c.begin-s.ensures);
     }

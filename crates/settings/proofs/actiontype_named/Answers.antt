@@ -3,16 +3,16 @@ use mathlib.Core.Path.{refl}
 use Rattle.settings.proofs.Laws.{actiontype_first, actiontype_again}
 use Rattle.settings.proofs.actiontype_named.Goals as goal
 
-pub returns-in-Absent : goal.returns-in-Absent
-returns-in-Absent c =
+pub returns-in-None : goal.returns-in-None
+returns-in-None c =
     record {
-      is = actiontype_first _ _ _ _ c.in-Absent.is;
+      is = actiontype_first _ _ _ _ c.in-None.is;
       kept = refl;
     }
 
-pub returns-in-At : goal.returns-in-At
-returns-in-At c =
+pub returns-in-Some : goal.returns-in-Some
+returns-in-Some c =
     record {
-      is = actiontype_again _ _ _ _ _ _ _ c.in-At.is c.list_repeat.ensures.is;
+      is = actiontype_again _ _ _ _ _ _ _ c.in-Some.is c.list_repeat.ensures.is;
       kept = c.list_repeat.ensures.kept;
     }

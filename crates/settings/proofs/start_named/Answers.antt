@@ -3,16 +3,16 @@ use mathlib.Core.Path.{refl}
 use Rattle.settings.proofs.Laws.{start_first, start_again}
 use Rattle.settings.proofs.start_named.Goals as goal
 
-pub returns-in-Absent : goal.returns-in-Absent
-returns-in-Absent c =
+pub returns-in-None : goal.returns-in-None
+returns-in-None c =
     record {
-      is = start_first _ _ _ _ _ c.in-Absent.is c.with_start-next.ensures;
+      is = start_first _ _ _ _ _ c.in-None.is c.with_start-next.ensures;
       kept = refl;
     }
 
-pub returns-in-At : goal.returns-in-At
-returns-in-At c =
+pub returns-in-Some : goal.returns-in-Some
+returns-in-Some c =
     record {
-      is = start_again _ _ _ _ _ _ _ c.in-At.is c.list_repeat.ensures.is;
+      is = start_again _ _ _ _ _ _ _ c.in-Some.is c.list_repeat.ensures.is;
       kept = c.list_repeat.ensures.kept;
     }

@@ -12,19 +12,19 @@ returns-then-src-at c =
       moved = record { onward = omega arith; inside = c.requires.within };
     }
 
-pub returns-in-Body : goal.returns-in-Body
-returns-in-Body c =
-    let g = told (Acted _ _) c.in-Body.is c.parse_action.ensures.acted in
+pub returns-in-Ok : goal.returns-in-Ok
+returns-in-Ok c =
+    let g = told (Acted _ _) c.in-Ok.is c.parse_action.ensures.acted in
     let f0 = g.0 in
     let f1 = g.1 in
     record {
-      is = action_is _ _ c.if-src-at.false _ _ c.parse_action.ensures.value c.in-Body.is;
+      is = action_is _ _ c.if-src-at.false _ _ c.parse_action.ensures.value c.in-Ok.is;
       moved = record { onward = omega arith; inside = omega arith };
     }
 
-pub returns-in-OpenAction : goal.returns-in-OpenAction
-returns-in-OpenAction c =
+pub returns-in-Err : goal.returns-in-Err
+returns-in-Err c =
     record {
-      is = action_is _ _ c.if-src-at.false _ _ c.parse_action.ensures.value c.in-OpenAction.is;
+      is = action_is _ _ c.if-src-at.false _ _ c.parse_action.ensures.value c.in-Err.is;
       moved = record { onward = omega arith; inside = c.requires.within };
     }

@@ -30,12 +30,12 @@ shape_of-out-then-lines-ne0 c = c.put_spaced-m.auto.out ∙ c.loop-i.invariant.0
 pub returns-then-lines-ne0 : goal.returns-then-lines-ne0
 unfolding line_words
 returns-then-lines-ne0 c =
-    let g = told (Gapped _ _) c.in-GapTo.is c.pass_gap.ensures.moved in
+    let g = told (Gapped _ _) c.in-Ok.is c.pass_gap.ensures.moved in
     let a = c.token_end-e.ensures.moved.onward in
     let d = g.0 in
     let b = g.1 in
     let i = c.loop-i.invariant.1 in
-    let t = line_ends_lem _ _ _ _ c.token_end-e.ensures.is c.if-e-i.false _ c.pass_gap.ensures.is _ _ c.in-GapTo.is c.if-lines-ne0.true in
+    let t = line_ends_lem _ _ _ _ c.token_end-e.ensures.is c.if-e-i.false _ c.pass_gap.ensures.is _ _ c.in-Ok.is c.if-lines-ne0.true in
     record {
       is = sofar_last _ _ _ _ _ _ _ _ _ c.loop-i.invariant.3 (record { text = spaced _ c.loop-i.i c.token_end-e.result; at = _ }) t _ (wrote_at _ _ _ _ _ _ _ c.put_spaced-m.ensures refl);
       moved = record { onward = omega arith; inside = b };
@@ -44,7 +44,7 @@ returns-then-lines-ne0 c =
 pub loop-i-smaller : goal.loop-i-smaller
 loop-i-smaller c =
     let w = c.token_end-e.ensures.moved in
-    let g = told (Gapped _ _) c.in-GapTo.is c.pass_gap.ensures.moved in
+    let g = told (Gapped _ _) c.in-Ok.is c.pass_gap.ensures.moved in
     let a = w.onward in
     let d = g.0 in
     let b = g.1 in
@@ -53,28 +53,28 @@ loop-i-smaller c =
 
 pub loop-i-preserved : goal.loop-i-preserved
 loop-i-preserved c =
-    let g = told (Gapped _ _) c.in-GapTo.is c.pass_gap.ensures.moved in
+    let g = told (Gapped _ _) c.in-Ok.is c.pass_gap.ensures.moved in
     let a = c.token_end-e.ensures.moved.onward in
     let d = g.0 in
     let b = g.1 in
     let h = c.if-e-i.false in
     let i = c.loop-i.invariant.1 in
-    let t = line_more _ _ _ _ c.token_end-e.ensures.is h _ c.pass_gap.ensures.is _ _ c.in-GapTo.is c.if-lines-ne0.false in (
+    let t = line_more _ _ _ _ c.token_end-e.ensures.is h _ c.pass_gap.ensures.is _ _ c.in-Ok.is c.if-lines-ne0.false in (
       c.put_spaced-m.auto.out ∙ c.loop-i.invariant.0,
       omega arith,
       b,
       sofar_on _ _ _ _ _ _ _ _ _ c.loop-i.invariant.3 (record { text = spaced _ c.loop-i.i c.token_end-e.result; at = _ }) t _ _ _ (wrote_at _ _ _ _ _ _ _ c.put_spaced-m.ensures refl) _ (omega arith),
     )
 
-pub shape_of-out-in-GapRefused : goal.shape_of-out-in-GapRefused
-shape_of-out-in-GapRefused c = c.put_spaced-m.auto.out ∙ c.loop-i.invariant.0
+pub shape_of-out-in-Err : goal.shape_of-out-in-Err
+shape_of-out-in-Err c = c.put_spaced-m.auto.out ∙ c.loop-i.invariant.0
 
-pub returns-in-GapRefused : goal.returns-in-GapRefused
+pub returns-in-Err : goal.returns-in-Err
 unfolding line_words
-returns-in-GapRefused c =
+returns-in-Err c =
     let a = c.token_end-e.ensures.moved.onward in
     let i = c.loop-i.invariant.1 in
-    let t = line_refused _ _ _ _ c.token_end-e.ensures.is c.if-e-i.false _ c.pass_gap.ensures.is _ c.in-GapRefused.is in
+    let t = line_refused _ _ _ _ c.token_end-e.ensures.is c.if-e-i.false _ c.pass_gap.ensures.is _ c.in-Err.is in
     record {
       is = sofar_last _ _ _ _ _ _ _ _ _ c.loop-i.invariant.3 (record { text = spaced _ c.loop-i.i c.token_end-e.result; at = c.token_end-e.result }) t _ (wrote_at _ _ _ _ _ _ _ c.put_spaced-m.ensures refl);
       moved = record { onward = omega arith; inside = c.token_end-e.ensures.moved.inside };

@@ -1,4 +1,3 @@
-use Prim.Native.Nat.{◌-◌}
 use mathlib.Core.Path.{◌≡◌}
 use lib.Seq.{slice}
 use lib.ListN.{length}
@@ -8,6 +7,3 @@ use Rattle.shipper.proofs.put_part.Given as goal
 abbrev pub invariant-loop-i : goal.invariant-loop-i
 invariant-loop-i l =
     (length l.out ≡ length l.initial.out) × (emit (slice l.i l.to l.s) l.m l.out ≡ emit (slice l.from l.to l.s) l.n l.initial.out)
-
-abbrev pub decreases-loop-i : goal.decreases-loop-i
-decreases-loop-i l = l.to - l.i

@@ -1,7 +1,5 @@
-use Prim.Native.Nat.{◌≤◌, ◌-◌}
 use mathlib.Core.Path.{◌≡◌}
 use mathlib.Core.Bool.{true}
-use lib.ListN.{length}
 use Rattle.tables.specs.Below.{below}
 use Rattle.index.specs.Index.{fresh_name}
 use Rattle.finder.specs.Finder.{Held}
@@ -9,7 +7,4 @@ use Rattle.sound.proofs.names_apart.Given as goal
 
 abbrev pub invariant-loop-r : goal.invariant-loop-r
 invariant-loop-r l =
-    (l.r ≤ l.n) × (length l.fx ≡ length l.initial.fx) × Held l.src l.w 0 l.r l.t l.fx × (below l.r (fresh_name l.src l.w 0 l.t) ≡ true)
-
-abbrev pub decreases-loop-r : goal.decreases-loop-r
-decreases-loop-r l = l.n - l.r
+    Held l.src l.w 0 l.r l.t l.fx × (below l.r (fresh_name l.src l.w 0 l.t) ≡ true)

@@ -3,5 +3,5 @@ use mathlib.Core.Path.{sym, ap, ◌∙◌}
 use Rattle.sound.specs.Test.{part_test}
 use Rattle.sound.proofs.part_sound.Goals as goal
 
-pub returns-in-At : goal.returns-in-At
-returns-in-At c = c.is_place.ensures ∙ sym (ap (part_test _) c.in-At.is)
+pub returns-in-Some : goal.returns-in-Some
+returns-in-Some c = c.is_place.ensures ∙ sym (ap (part_test _) c.in-Some.is)

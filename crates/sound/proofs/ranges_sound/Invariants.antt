@@ -1,4 +1,3 @@
-use Prim.Native.Nat.{◌≤◌, ◌-◌}
 use mathlib.Core.Path.{◌≡◌}
 use mathlib.Core.Bool.{true}
 use Rattle.tables.specs.Below.{below}
@@ -6,7 +5,4 @@ use Rattle.sound.specs.Test.{before, range_test}
 use Rattle.sound.proofs.ranges_sound.Given as goal
 
 abbrev pub invariant-loop-r : goal.invariant-loop-r
-invariant-loop-r l = (l.r ≤ l.n) × (below l.r (range_test l.t) ≡ true) × (l.end ≡ before l.t l.r)
-
-abbrev pub decreases-loop-r : goal.decreases-loop-r
-decreases-loop-r l = l.n - l.r
+invariant-loop-r l = (below l.r (range_test l.t) ≡ true) × (l.end ≡ before l.t l.r)

@@ -9,12 +9,6 @@ returns-in-0 c = rw c.in-0.is c.token_sound.ensures
 pub returns-in-1 : goal.returns-in-1
 returns-in-1 c = rw c.in-1.is c.prec_sound.ensures
 
-pub returns-in-2 : goal.returns-in-2
-returns-in-2 c = rw c.in-2.is c.name_sound.ensures
-
-pub returns-in-3 : goal.returns-in-3
-returns-in-3 c = rw c.in-3.is c.name_sound-in-3.ensures
-
 pub returns-in-4 : goal.returns-in-4
 returns-in-4 c = rw c.in-4.is c.epp_sound.ensures
 
@@ -37,7 +31,7 @@ pub returns-in-10 : goal.returns-in-10
 returns-in-10 c = rw c.in-10.is c.tag_sound.ensures
 
 pub returns-in-11 : goal.returns-in-11
-returns-in-11 c = rw c.in-11.is c.name_sound-in-11.ensures
+returns-in-11 c = rw c.in-11.is c.name_sound.ensures
 
 pub returns-in-12 : goal.returns-in-12
 returns-in-12 c = rw c.in-12.is c.kind_sound-in-12.ensures

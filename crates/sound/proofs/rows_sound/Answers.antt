@@ -1,16 +1,13 @@
--- `sound::rows_sound`: the rows so far pass the test.
-use native.Mathlib.Omega.{arith}
-use Rattle.tables.proofs.Below.{below_none, below_on, below_not, below_all}
+-- `sound::rows_sound`.
+use Rattle.std.proofs.Common.{rules, tests, refl, ◌∙◌, arith}
+use Rattle.std.proofs.lemmas.Iterator.{YieldsList-from_range}
+use Rattle.std.proofs.lemmas.Iterator.Search.{all_from_yields_List}
+use Rattle.sound.specs.Test.{row_test}
+use Rattle.sound.proofs.Laws.{all_below}
 use Rattle.sound.proofs.rows_sound.Goals as goal
 
-pub loop-r-init : goal.loop-r-init
-loop-r-init c = (omega arith, below_none _)
-
-pub returns-then-not-row_sound : goal.returns-then-not-row_sound
-returns-then-not-row_sound c = below_not _ c.loop-r.r _ _ c.loop-r-test.true c.row_sound.ensures c.if-not-row_sound.true-raw
-
-pub loop-r-preserved : goal.loop-r-preserved
-loop-r-preserved c = (omega arith, below_on _ c.loop-r.r _ c.loop-r.invariant.1 c.row_sound.ensures c.if-not-row_sound.false-raw)
-
 pub returns : goal.returns
-returns c = below_all _ c.loop-r.r _ c.loop-r.invariant.1 c.loop-r.invariant.0 c.loop-r-test.false
+returns c =
+    let a = c.args in
+    let found = all_from_yields_List (row_test a.src.now a.rules a.k a.t.now) _ _ c.all.result c.all.ensures.ran (YieldsList-from_range 0 a.n a.n refl (omega arith)) (λ x b q k. search (rules, tests)) in
+    found ∙ all_below _ a.n

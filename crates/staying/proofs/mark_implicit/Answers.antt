@@ -12,26 +12,17 @@ returns-then-z-ne2 c =
     implicit_other a.src.now (named a.names.now a.z) a.t4.now a.n a.w.now c.if-z-ne2.true
 
 pub loop-e-init : goal.loop-e-init
-loop-e-init c = (omega arith, implicit_none _ _ _ _)
+loop-e-init c = implicit_none _ _ _ _
 
 pub mark_named-requires : goal.mark_named-requires
-mark_named-requires c = (fits_on _ c.args.w.now _ c.loop-e.invariant.1.size c.requires.0, c.requires.1, c.requires.2)
-
-pub overflow_add-e : goal.overflow_add-e
-overflow_add-e c = omega arith
-
-pub loop-e-smaller : goal.loop-e-smaller
-loop-e-smaller c = omega arith
+mark_named-requires c = (fits_on _ c.args.w.now _ c.loop-e.invariant.size c.requires.0, c.requires.1, c.requires.2)
 
 pub loop-e-preserved : goal.loop-e-preserved
 loop-e-preserved c =
     let a = c.args in
-    (omega arith, implicit_more a.src.now (named a.names.now a.z) a.t4.now c.loop-e.e _ _ a.w.now c.loop-e.w _ c.if-z-ne2.false c.cell-a.ensures c.cell-b.ensures c.loop-e.invariant.1 c.mark_named.ensures.adds)
-
-pub shape_of-w : goal.shape_of-w
-shape_of-w c = c.loop-e.invariant.1.size
+    implicit_more a.src.now (named a.names.now a.z) a.t4.now c.loop-e.e _ _ a.w.now c.loop-e.w _ c.if-z-ne2.false c.cell-a.ensures c.cell-b.ensures c.loop-e.invariant c.mark_named.ensures.adds
 
 pub returns : goal.returns
 returns c =
-    let e : c.loop-e.e ≡ c.args.n = omega (arith, c.loop-e.invariant.0, c.loop-e-test.false) in
-    rw (← e) c.loop-e.invariant.1
+    let e : c.loop-e.e ≡ c.args.n = omega arith in
+    rw (← e) c.loop-e.invariant

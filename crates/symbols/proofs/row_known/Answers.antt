@@ -21,14 +21,14 @@ returns-then-v-ne-NO_ROW c =
 pub find-requires : goal.find-requires
 find-requires c = c.requires.0
 
-pub returns-in-RowAt : goal.returns-in-RowAt
-returns-in-RowAt c =
+pub returns-in-Some : goal.returns-in-Some
+returns-in-Some c =
     let small : c.args.n ≤ 4294967295 = let f = c.ranges.n in
     omega arith in
-    known_some _ _ _ _ c.requires.1 small _ _ _ c.if-v-n.false _ c.find.ensures _ c.in-RowAt.is
+    known_some _ _ _ _ c.requires.1 small _ _ _ c.if-v-n.false _ c.find.ensures _ c.in-Some.is
 
-pub returns-in-NoRow : goal.returns-in-NoRow
-returns-in-NoRow c =
+pub returns-in-None : goal.returns-in-None
+returns-in-None c =
     let small : c.args.n ≤ 4294967295 = let f = c.ranges.n in
     omega arith in
-    known_none _ _ _ _ c.requires.1 small _ _ _ c.if-v-n.false _ c.find.ensures c.if-v-ne-NO_ROW.false c.in-NoRow.is
+    known_none _ _ _ _ c.requires.1 small _ _ _ c.if-v-n.false _ c.find.ensures c.if-v-ne-NO_ROW.false c.in-None.is

@@ -3,7 +3,7 @@ use Prim.Native.Nat.{ℕ, ◌+◌, ◌*◌, ◌≤◌}
 use mathlib.Core.Path.{◌≡◌, refl, ◌∙◌, sym, ap}
 use mathlib.Core.List.{List}
 use native.Mathlib.Omega.{arith}
-use lib.ListN.{length, take, set, get_or, length-set}
+use lib.ListN.{length, take, set, get_or}
 use lib.Seq.{take_all}
 use Rattle.tables.proofs.Laws.{row_in, put_snoc, room_some, room_full, room_last, room_none, add_yes, add_no}
 use Rattle.tables.proofs.add_row.Goals as goal
@@ -25,19 +25,17 @@ pub overflow_mul-at : goal.overflow_mul-at
 overflow_mul-at c = omega (arith, whole c)
 
 pub loop-i-init : goal.loop-i-init
-loop-i-init c = (omega arith, whole c, refl, refl)
+loop-i-init c = (whole c, refl)
 
 pub loop-i-preserved : goal.loop-i-preserved
 loop-i-preserved c =
     let a = c.args in (
-      omega arith,
-      c.loop-i.invariant.1,
-      simp length-set c.loop-i.invariant.2,
-      ap (λ (x : List ℕ). set x (a.n * length a.row.now + c.loop-i.i) (get_or a.row.now c.loop-i.i 0)) c.loop-i.invariant.3 ∙ sym (put_snoc a.row.now a.t.now _ c.loop-i.i (omega arith)),
+      c.loop-i.invariant.0,
+      ap (λ (x : List ℕ). set x (a.n * length a.row.now + c.loop-i.i) (get_or a.row.now c.loop-i.i 0)) c.loop-i.invariant.1 ∙ sym (put_snoc a.row.now a.t.now _ c.loop-i.i (omega arith)),
     )
 
 pub returns : goal.returns
 returns c =
     let a = c.args in
     let e : take c.loop-i.i a.row.now ≡ a.row.now = take_all c.loop-i.i a.row.now (omega arith) in
-    rw (c.loop-i.invariant.3, e) (add_yes _ _ _ (room_some _ _ _ c.if-t-w.false (omega arith)))
+    rw (c.loop-i.invariant.1, e) (add_yes _ _ _ (room_some _ _ _ c.if-t-w.false (omega arith)))

@@ -1,19 +1,16 @@
--- `tables::find`: what is found in the rows that are left is found in all.
-use mathlib.Core.Bool.{true, false}
-use native.Mathlib.Omega.{arith}
-use Rattle.tables.proofs.Laws.{find_start, has_name_lem, first_hit, first_on, first_end}
+-- `tables::find`.
+use Rattle.std.proofs.Common.{rules, tests, refl}
+use native.Mathlib.Nat.{sub-zero}
+use Rattle.std.proofs.lemmas.Iterator.{YieldsList-from_range}
+use Rattle.std.proofs.lemmas.Iterator.Search.{find_from_yields_List}
+use Rattle.tables.specs.Table.{has_name, find_name}
+use Rattle.tables.proofs.Laws.{find_first}
 use Rattle.tables.proofs.find.Goals as goal
 
-pub loop-r-init : goal.loop-r-init
-loop-r-init c = (omega arith, find_start _ _ _ _ _ _ _)
-
-pub returns-then-same_part : goal.returns-then-same_part
-returns-then-same_part c =
-    first_hit _ _ c.loop-r.r _ c.loop-r.invariant.1 c.loop-r-test.true (has_name_lem _ _ _ _ _ _ _ _ _ _ c.cell-a.ensures c.cell-b.ensures c.same_part.ensures true c.if-same_part.true)
-
-pub loop-r-preserved : goal.loop-r-preserved
-loop-r-preserved c =
-    (omega arith, first_on _ _ c.loop-r.r _ c.loop-r.invariant.1 c.loop-r-test.true (has_name_lem _ _ _ _ _ _ _ _ _ _ c.cell-a.ensures c.cell-b.ensures c.same_part.ensures false c.if-same_part.false))
-
 pub returns : goal.returns
-returns c = first_end _ _ c.loop-r.r _ c.loop-r.invariant.1 c.loop-r-test.false
+unfolding has_name find_name
+returns c =
+    let a = c.args in
+    let test = has_name a.src.now a.w a.k a.t.now a.from a.to in
+    let found = find_from_yields_List test _ _ c.find.result c.find.ensures.ran (YieldsList-from_range 0 a.n a.n refl (sub-zero a.n)) (λ x b q k. search (rules, tests)) in
+    search (found, find_first, rules)

@@ -8,14 +8,14 @@ pub trim-text-requires : goal.trim-text-requires
 trim-text-requires c = search (brace_below, rules)
 
 pub overflow_add-result : goal.overflow_add-result
-overflow_add-result c = let h = (brace_fits _ _ _ _ _ c.closing_brace.ensures.braced c.in-Closes.is).0 in omega arith
+overflow_add-result c = let h = (brace_fits _ _ _ _ _ c.closing_brace.ensures.braced c.in-Some.is).0 in omega arith
 
-pub returns-in-Closes : goal.returns-in-Closes
-returns-in-Closes c =
+pub returns-in-Some : goal.returns-in-Some
+returns-in-Some c =
     let it = action_placed _ _ (search rules) _ (search (action_body, rules)) in
     record { value = it.0; acted = it.1 }
 
-pub returns-in-NeverCloses : goal.returns-in-NeverCloses
-returns-in-NeverCloses c =
+pub returns-in-None : goal.returns-in-None
+returns-in-None c =
     let it = action_placed _ _ (search rules) _ (search (action_open, rules)) in
     record { value = it.0; acted = it.1 }

@@ -1,17 +1,12 @@
 -- `texts::parse_to_single_colon`: the scan, then trimming.
-use borrow.Author.Rules.{rules}
-use Rattle.texts.proofs.Laws.{single_fits, colon_upto, colon_none, colon_placed}
+use Rattle.std.proofs.lemmas.Result.{err_from_is_err_and}
+use Rattle.texts.proofs.Laws.{colon_upto, colon_none}
 use Rattle.texts.proofs.parse_to_single_colon.Goals as goal
 
-pub trim-requires : goal.trim-requires
-trim-requires c = search (single_fits, rules)
+pub returns-in_err-to-clause-value : goal.returns-in_err-to-clause-value
+returns-in_err-to-clause-value c =
+    let p = err_from_is_err_and c.from_residual.result c.from_residual.ensures.1 in
+    rw (p.1, p.2) (colon_none _ _ _ c.single_colon.ensures.value _ c.in_err-to.was)
 
-pub returns-in-Single : goal.returns-in-Single
-returns-in-Single c =
-    let it = colon_placed _ _ (search rules) _ (search (colon_upto, rules)) in
-    record { value = it.0; colon_texts = it.1 }
-
-pub returns-in-NoSingle : goal.returns-in-NoSingle
-returns-in-NoSingle c =
-    let it = colon_placed _ _ (search rules) _ (search (colon_none, rules)) in
-    record { value = it.0; colon_texts = it.1 }
+pub returns-clause-value : goal.returns-clause-value
+returns-clause-value c = colon_upto _ _ _ c.single_colon.ensures.value _ _ _ c.in_ok-to.was c.trim.ensures.value

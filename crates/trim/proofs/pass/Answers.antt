@@ -9,5 +9,5 @@ returns-then-is_white c = search (pass_white, passes, rules)
 pub returns-else-is_white : goal.returns-else-is_white
 returns-else-is_white c = search (pass_kept, passes, rules)
 
-pub returns-in-Bad : goal.returns-in-Bad
-returns-in-Bad c = search (pass_bad, passes, rules)
+pub returns-in-None : goal.returns-in-None
+returns-in-None c = search (pass_bad, passes, rules)

@@ -6,21 +6,19 @@ use Rattle.usage.proofs.count_free.Goals as goal
 use Rattle.usage.proofs.count_free.Goals.{else-is_listed, then-is_listed}
 
 pub loop-row-init : goal.loop-row-init
-loop-row-init c = (omega arith, counted_none _)
+loop-row-init c = counted_none _
 
 pub is_listed-requires : goal.is_listed-requires
 is_listed-requires c = c.requires
 
 pub overflow_add-found : goal.overflow_add-found
-overflow_add-found c = omega (arith, picks_bound c.loop-row.invariant.1.picks, c.loop-row.invariant.1.count_is)
+overflow_add-found c = omega (arith, picks_bound c.loop-row.invariant.picks, c.loop-row.invariant.count_is)
 
 pub loop-row-preserved : goal.loop-row-preserved
-loop-row-preserved c = (
-  omega arith,
-  elim c.if-is_listed.branch [ then-is_listed w ↦ counted_yes _ c.loop-row.invariant.1 (says_yes _ _ w.if-is_listed.true c.is_listed.ensures) w.found-is | else-is_listed w ↦ counted_no _ c.loop-row.invariant.1 (says_no _ _ w.if-is_listed.false c.is_listed.ensures) w.found-is ],
-)
+loop-row-preserved c =
+    elim c.if-is_listed.branch [ then-is_listed w ↦ counted_yes _ c.loop-row.invariant (says_yes _ _ w.if-is_listed.true c.is_listed.ensures) w.found-is | else-is_listed w ↦ counted_no _ c.loop-row.invariant (says_no _ _ w.if-is_listed.false c.is_listed.ensures) w.found-is ]
 
 pub returns : goal.returns
 returns c =
     let e : c.loop-row.row ≡ c.args.z.count = omega arith in
-    rw e at c.loop-row.invariant.1
+    rw e at c.loop-row.invariant

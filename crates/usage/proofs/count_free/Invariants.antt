@@ -1,10 +1,6 @@
-use Prim.Native.Nat.{◌-◌, ◌≤◌}
 use Rattle.reach.specs.Reach.{named}
 use Rattle.usage.specs.Report.{excuses_of, Free, Counted}
 use Rattle.usage.proofs.count_free.Given as goal
 
 abbrev pub invariant-loop-row : goal.invariant-loop-row
-invariant-loop-row l = (l.row ≤ l.z.count) × Counted (Free l.w (excuses_of l.src l.c l.t4 l.t6) (named l.names l.z)) l.row l.found
-
-abbrev pub decreases-loop-row : goal.decreases-loop-row
-decreases-loop-row l = l.z.count - l.row
+invariant-loop-row l = Counted (Free l.w (excuses_of l.src l.c l.t4 l.t6) (named l.names l.z)) l.row l.found

@@ -8,7 +8,7 @@ use Rattle.usage.proofs.expects_by.Goals as goal
 pub returns-then-expects : goal.returns-then-expects
 returns-then-expects c =
     let m = c.meet.ensures (λ (q : ℕ). false) (λ r l y. absurd (false≢true y)) in
-    expected_met _ _ _ _ _ _ _ _ m c.in-RowAt.is (says_yes _ _ c.if-expects.true c.expects.ensures)
+    expected_met _ _ _ _ _ _ _ _ m c.in-Some.is (says_yes _ _ c.if-expects.true c.expects.ensures)
 
-pub returns-in-NoRow : goal.returns-in-NoRow
-returns-in-NoRow c = expected_none _ _ _ _ _ _ _ _ c.meet.ensures c.requires c.in-NoRow.is
+pub returns-in-None : goal.returns-in-None
+returns-in-None c = expected_none _ _ _ _ _ _ _ _ c.meet.ensures c.requires c.in-None.is

@@ -6,20 +6,17 @@ use Rattle.usage.proofs.Guided.{stand_ins_more}
 use Rattle.usage.proofs.guide_expected.Goals as goal
 
 pub loop-r-init : goal.loop-r-init
-loop-r-init c = (omega arith, grown_none _, λ r l y. absurd (omega arith))
+loop-r-init c = (grown_none _, λ r l y. absurd (omega arith))
 
 pub loop-r-preserved : goal.loop-r-preserved
 loop-r-preserved c =
     let g = c.guide_row.ensures.grown in
-    (omega arith, grown_on _ _ _ c.loop-r.invariant.1 g, stand_ins_more _ _ _ _ _ _ c.loop-r.invariant.2 g c.guide_row.ensures.led)
-
-pub shape_of-fx : goal.shape_of-fx
-shape_of-fx c = c.loop-r.invariant.1.size
+    (grown_on _ _ _ c.loop-r.invariant.0 g, stand_ins_more _ _ _ _ _ _ c.loop-r.invariant.1 g c.guide_row.ensures.led)
 
 pub returns : goal.returns
 returns c =
     let e : c.loop-r.r ≡ c.args.n = omega arith in
     record {
-      grown = c.loop-r.invariant.1;
-      led = rw e at c.loop-r.invariant.2;
+      grown = c.loop-r.invariant.0;
+      led = rw e at c.loop-r.invariant.1;
     }

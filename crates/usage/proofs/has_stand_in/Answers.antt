@@ -10,6 +10,3 @@ returns-in-Seated c t =
 
 pub returns-in-Unseated : goal.returns-in-Unseated
 returns-in-Unseated c t = absurd (false≢true t)
-
-pub returns-in-Untold : goal.returns-in-Untold
-returns-in-Untold c t = absurd (false≢true t)

@@ -9,7 +9,7 @@ returns-then-s-i c = search (decode_end, rules)
 
 pub loop-n-init : goal.loop-n-init
 loop-n-init c =
-    let x = fitting_more _ _ _ _ _ c.lead_of.ensures.Fitting c.in-More.is in
+    let x = fitting_more _ _ _ _ _ c.lead_of.ensures.fitting c.in-More.is in
     (search rules, x.0, x.1, x.2, search (decode_more, rules))
 
 pub returns-then-s-j : goal.returns-then-s-j

@@ -8,68 +8,68 @@ pub returns-then-a-lt128 : goal.returns-then-a-lt128
 returns-then-a-lt128 c =
     record {
       value = one _ (omega arith);
-      Fitting = search rules;
+      fitting = search rules;
     }
 
 pub returns-then-a-lt194 : goal.returns-then-a-lt194
 returns-then-a-lt194 c =
     record {
       value = none_low _ (omega arith) (omega arith);
-      Fitting = search rules;
+      fitting = search rules;
     }
 
 pub returns-then-a-lt224 : goal.returns-then-a-lt224
 returns-then-a-lt224 c =
     record {
       value = two _ (omega arith) (omega arith);
-      Fitting = search rules;
+      fitting = search rules;
     }
 
 pub returns-then-a-eq224 : goal.returns-then-a-eq224
 returns-then-a-eq224 c =
     record {
       value = three_E0 _ (omega arith);
-      Fitting = search rules;
+      fitting = search rules;
     }
 
 pub returns-then-a-eq237 : goal.returns-then-a-eq237
 returns-then-a-eq237 c =
     record {
       value = three_ED _ (omega arith);
-      Fitting = search rules;
+      fitting = search rules;
     }
 
 pub returns-then-a-lt240 : goal.returns-then-a-lt240
 returns-then-a-lt240 c =
     record {
       value = three _ (omega arith) (omega arith) (omega arith);
-      Fitting = search rules;
+      fitting = search rules;
     }
 
 pub returns-then-a-eq240 : goal.returns-then-a-eq240
 returns-then-a-eq240 c =
     record {
       value = four_F0 _ (omega arith);
-      Fitting = search rules;
+      fitting = search rules;
     }
 
 pub returns-then-a-lt244 : goal.returns-then-a-lt244
 returns-then-a-lt244 c =
     record {
       value = four _ (omega arith) (omega arith);
-      Fitting = search rules;
+      fitting = search rules;
     }
 
 pub returns-then-a-eq244 : goal.returns-then-a-eq244
 returns-then-a-eq244 c =
     record {
       value = four_F4 _ (omega arith);
-      Fitting = search rules;
+      fitting = search rules;
     }
 
 pub returns : goal.returns
 returns c =
     record {
       value = none_high _ (omega arith);
-      Fitting = search rules;
+      fitting = search rules;
     }

@@ -2,8 +2,8 @@
 use Rattle.validation.proofs.Laws.{known_is}
 use Rattle.validation.proofs.is_indexed.Goals as goal
 
-pub returns-in-RowAt : goal.returns-in-RowAt
-returns-in-RowAt c = known_is _ _ _ _ _ _ _ _ c.find.ensures c.in-RowAt.is
+pub returns-in-Some : goal.returns-in-Some
+returns-in-Some c = known_is _ _ _ _ _ _ _ _ c.find.ensures c.in-Some.is
 
-pub returns-in-NoRow : goal.returns-in-NoRow
-returns-in-NoRow c = known_is _ _ _ _ _ _ _ _ c.find.ensures c.in-NoRow.is
+pub returns-in-None : goal.returns-in-None
+returns-in-None c = known_is _ _ _ _ _ _ _ _ c.find.ensures c.in-None.is

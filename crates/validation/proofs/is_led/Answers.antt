@@ -4,8 +4,8 @@ use mathlib.Core.Bool.{true}
 use Rattle.validation.proofs.Led.{met_known}
 use Rattle.validation.proofs.is_led.Goals as goal
 
-pub returns-in-RowAt : goal.returns-in-RowAt
-returns-in-RowAt c = met_known _ _ _ _ _ _ _ _ (c.meet.ensures (λ (q : ℕ). true) (λ r l y. c.requires r l)) c.in-RowAt.is
+pub returns-in-Some : goal.returns-in-Some
+returns-in-Some c = met_known _ _ _ _ _ _ _ _ (c.meet.ensures (λ (q : ℕ). true) (λ r l y. c.requires r l)) c.in-Some.is
 
-pub returns-in-NoRow : goal.returns-in-NoRow
-returns-in-NoRow c = met_known _ _ _ _ _ _ _ _ (c.meet.ensures (λ (q : ℕ). true) (λ r l y. c.requires r l)) c.in-NoRow.is
+pub returns-in-None : goal.returns-in-None
+returns-in-None c = met_known _ _ _ _ _ _ _ _ (c.meet.ensures (λ (q : ℕ). true) (λ r l y. c.requires r l)) c.in-None.is

@@ -1,27 +1,20 @@
 -- `validation::note_epps`: the faults of the rows so far are noted.
-use mathlib.Core.Path.{◌∙◌}
-use native.Mathlib.Omega.{arith}
 use Rattle.validation.specs.Faults.{epps_faults}
-use Rattle.validation.proofs.Noted.{walked_length, walk_start, walk_on, walk_over, walk_all}
+use Rattle.validation.proofs.Noted.{err_is, walk_start, walk_on, walk_over, walk_all}
 use Rattle.validation.proofs.note_epps.Goals as goal
 
 pub loop-r-init : goal.loop-r-init
-loop-r-init c = (omega arith, walk_start _ _ _)
+loop-r-init c = walk_start _ _ _
 
 pub loop-r-preserved : goal.loop-r-preserved
-loop-r-preserved c = (omega arith, walk_on _ _ _ c.loop-r.r _ _ c.loop-r.invariant.1 _ c.epp_fault-v.ensures _ _ c.note.ensures _ c.in-NextRow.is)
+loop-r-preserved c = walk_on _ _ _ c.loop-r.r _ _ c.loop-r.invariant _ c.epp_fault-v.ensures _ _ c.note.ensures _ c.in_ok-next.was
 
-pub shape_of-t14-in-Unwritten : goal.shape_of-t14-in-Unwritten
-shape_of-t14-in-Unwritten c = walked_length _ _ _ _ _ c.note.ensures ∙ walked_length _ _ _ _ _ c.loop-r.invariant.1
-
-pub returns-in-Unwritten : goal.returns-in-Unwritten
+pub returns-in_err-next : goal.returns-in_err-next
 unfolding epps_faults
-returns-in-Unwritten c =
-    walk_over _ _ _ c.loop-r.r _ _ c.loop-r.invariant.1 _ c.epp_fault-v.ensures _ _ c.note.ensures _ _ c.loop-r-test.true c.in-Unwritten.is
-
-pub shape_of-t14 : goal.shape_of-t14
-shape_of-t14 c = walked_length _ _ _ _ _ c.loop-r.invariant.1
+returns-in_err-next c =
+    rw (err_is c.from_residual.result c.in_err-next.field-0.0 c.from_residual.ensures.1)
+    (walk_over _ _ _ c.loop-r.r _ _ c.loop-r.invariant _ c.epp_fault-v.ensures _ _ c.note.ensures _ _ c.loop-r-test.true c.in_err-next.was)
 
 pub returns : goal.returns
 unfolding epps_faults
-returns c = walk_all _ _ _ _ _ _ c.loop-r.invariant.1 _ c.loop-r.invariant.0 c.loop-r-test.false
+returns c = walk_all _ _ _ _ _ _ c.loop-r.invariant _ c.loop-r.auto.r-end c.loop-r-test.false

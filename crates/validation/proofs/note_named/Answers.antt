@@ -10,16 +10,16 @@ note_epps-requires c = rw (c.rows_of-tokens.ensures, c.rows_of-implicit.ensures)
 pub note_unused-requires : goal.note_unused-requires
 note_unused-requires c = rw (c.rows_of-tokens.ensures, c.rows_of-rules.ensures) c.requires.1
 
-pub shape_of-t14-in-NextRow : goal.shape_of-t14-in-NextRow
-shape_of-t14-in-NextRow c = walked_length _ _ _ _ _ c.note_unused.ensures ∙ walked_length _ _ _ _ _ c.note_epps.ensures
+pub shape_of-t14-in-Ok : goal.shape_of-t14-in-Ok
+shape_of-t14-in-Ok c = walked_length _ _ _ _ _ c.note_unused.ensures ∙ walked_length _ _ _ _ _ c.note_epps.ensures
 
-pub returns-in-NextRow : goal.returns-in-NextRow
-returns-in-NextRow c =
-    part_on _ _ _ (epps_unused_are c.args.src.now c.args.c _ _ c.rows_of-tokens.ensures c.rows_of-rules.ensures c.args.t1.now c.args.t4.now c.args.t5.now c.args.t6.now c.args.t7.now _ _ _ c.rows_of-implicit.ensures c.rows_of-epps.ensures c.rows_of-unused.ensures) _ _ _ _ c.note_epps.ensures _ c.in-NextRow.is _ _ c.note_unused.ensures
+pub returns-in-Ok : goal.returns-in-Ok
+returns-in-Ok c =
+    part_on _ _ _ (epps_unused_are c.args.src.now c.args.c _ _ c.rows_of-tokens.ensures c.rows_of-rules.ensures c.args.t1.now c.args.t4.now c.args.t5.now c.args.t6.now c.args.t7.now _ _ _ c.rows_of-implicit.ensures c.rows_of-epps.ensures c.rows_of-unused.ensures) _ _ _ _ c.note_epps.ensures _ c.in-Ok.is _ _ c.note_unused.ensures
 
-pub shape_of-t14-in-Unwritten : goal.shape_of-t14-in-Unwritten
-shape_of-t14-in-Unwritten c = walked_length _ _ _ _ _ c.note_epps.ensures
+pub shape_of-t14-in-Err : goal.shape_of-t14-in-Err
+shape_of-t14-in-Err c = walked_length _ _ _ _ _ c.note_epps.ensures
 
-pub returns-in-Unwritten : goal.returns-in-Unwritten
-returns-in-Unwritten c =
-    part_over _ _ _ (epps_unused_are c.args.src.now c.args.c _ _ c.rows_of-tokens.ensures c.rows_of-rules.ensures c.args.t1.now c.args.t4.now c.args.t5.now c.args.t6.now c.args.t7.now _ _ _ c.rows_of-implicit.ensures c.rows_of-epps.ensures c.rows_of-unused.ensures) _ _ _ _ c.note_epps.ensures _ c.in-Unwritten.is
+pub returns-in-Err : goal.returns-in-Err
+returns-in-Err c =
+    part_over _ _ _ (epps_unused_are c.args.src.now c.args.c _ _ c.rows_of-tokens.ensures c.rows_of-rules.ensures c.args.t1.now c.args.t4.now c.args.t5.now c.args.t6.now c.args.t7.now _ _ _ c.rows_of-implicit.ensures c.rows_of-epps.ensures c.rows_of-unused.ensures) _ _ _ _ c.note_epps.ensures _ c.in-Err.is

@@ -2,11 +2,11 @@
 use Rattle.validation.proofs.Laws.{start_none, start_at}
 use Rattle.validation.proofs.start_fault.Goals as goal
 
-pub returns-in-Absent : goal.returns-in-Absent
-returns-in-Absent c = start_none _ _ _ _ c.in-Absent.is
+pub returns-in-None : goal.returns-in-None
+returns-in-None c = start_none _ _ _ _ c.in-None.is
 
 pub returns-then-is_indexed : goal.returns-then-is_indexed
-returns-then-is_indexed c = start_at _ _ _ _ _ _ _ _ c.in-At.is c.is_indexed.ensures c.if-is_indexed.true
+returns-then-is_indexed c = start_at _ _ _ _ _ _ _ _ c.in-Some.is c.is_indexed.ensures c.if-is_indexed.true
 
 pub returns-else-is_indexed : goal.returns-else-is_indexed
-returns-else-is_indexed c = start_at _ _ _ _ _ _ _ _ c.in-At.is c.is_indexed.ensures c.if-is_indexed.false
+returns-else-is_indexed c = start_at _ _ _ _ _ _ _ _ c.in-Some.is c.is_indexed.ensures c.if-is_indexed.false

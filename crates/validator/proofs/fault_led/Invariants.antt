@@ -1,4 +1,3 @@
-use Prim.Native.Nat.{◌≤◌, ◌-◌}
 use Rattle.tables.specs.Layout.{rule_row}
 use Rattle.productions.specs.Cells.{cell_of}
 use Rattle.validation.specs.Faults.{production_faults}
@@ -6,8 +5,4 @@ use Rattle.validation.proofs.Foremost.{Foremost}
 use Rattle.validator.proofs.fault_led.Given as goal
 
 abbrev pub invariant-loop-r : goal.invariant-loop-r
-invariant-loop-r l =
-    (l.r ≤ l.n) × Foremost (production_faults l.src l.t1 l.tokens l.t2 l.precedences l.t7 l.rules l.t8 l.t9) (λ p. cell_of l.t8 p rule_row) l.rules l.r l.owner l.best
-
-abbrev pub decreases-loop-r : goal.decreases-loop-r
-decreases-loop-r l = l.n - l.r
+invariant-loop-r l = Foremost (production_faults l.src l.t1 l.tokens l.t2 l.precedences l.t7 l.rules l.t8 l.t9) (λ p. cell_of l.t8 p rule_row) l.rules l.r l.owner l.best

@@ -10,12 +10,12 @@ returns-then-not-sound c = listing_unsound _ _ _ _ _ _ c.sound.ensures c.args.t1
 pub note_faults-requires : goal.note_faults-requires
 note_faults-requires c = tested_walkable _ _ _ _ _ _ c.sound.ensures c.if-not-sound.false-raw
 
-pub returns-in-NextRow : goal.returns-in-NextRow
-returns-in-NextRow c =
+pub returns-in-Ok : goal.returns-in-Ok
+returns-in-Ok c =
     let t = c.args.t14.now in
-    listed_all _ t _ _ _ c.zero.ensures c.note_faults.ensures _ c.in-NextRow.is ∙ listing_sound _ _ _ _ _ _ c.sound.ensures t c.if-not-sound.false-raw
+    listed_all _ t _ _ _ c.zero.ensures c.note_faults.ensures _ c.in-Ok.is ∙ listing_sound _ _ _ _ _ _ c.sound.ensures t c.if-not-sound.false-raw
 
-pub returns-in-Unwritten : goal.returns-in-Unwritten
-returns-in-Unwritten c =
+pub returns-in-Err : goal.returns-in-Err
+returns-in-Err c =
     let t = c.args.t14.now in
-    listed_crowded _ t _ _ _ c.zero.ensures c.note_faults.ensures _ c.in-Unwritten.is _ c.zero-in-Unwritten.ensures ∙ listing_sound _ _ _ _ _ _ c.sound.ensures t c.if-not-sound.false-raw
+    listed_crowded _ t _ _ _ c.zero.ensures c.note_faults.ensures _ c.in-Err.is _ c.zero-in-Err.ensures ∙ listing_sound _ _ _ _ _ _ c.sound.ensures t c.if-not-sound.false-raw

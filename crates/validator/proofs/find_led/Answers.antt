@@ -2,12 +2,12 @@
 use Rattle.validation.proofs.Foremost.{faults_behind, faults_before}
 use Rattle.validator.proofs.find_led.Goals as goal
 
-pub returns-in-Met : goal.returns-in-Met
-returns-in-Met c =
+pub returns-in-Ok : goal.returns-in-Ok
+returns-in-Ok c =
     let a = c.args in
-    faults_behind a.src.now a.c a.g a.t1.now a.t2.now a.t4.now a.t5.now a.t6.now a.t7.now a.t8.now a.t9.now _ c.start_rules_fault.ensures c.in-Met.is _ c.names_fault.ensures
+    faults_behind a.src.now a.c a.g a.t1.now a.t2.now a.t4.now a.t5.now a.t6.now a.t7.now a.t8.now a.t9.now _ c.start_rules_fault.ensures c.in-Ok.is _ c.names_fault.ensures
 
-pub returns-in-Failed : goal.returns-in-Failed
-returns-in-Failed c =
+pub returns-in-Err : goal.returns-in-Err
+returns-in-Err c =
     let a = c.args in
-    faults_before a.src.now a.c a.g a.t1.now a.t2.now a.t4.now a.t5.now a.t6.now a.t7.now a.t8.now a.t9.now _ c.start_rules_fault.ensures _ c.in-Failed.is
+    faults_before a.src.now a.c a.g a.t1.now a.t2.now a.t4.now a.t5.now a.t6.now a.t7.now a.t8.now a.t9.now _ c.start_rules_fault.ensures _ c.in-Err.is

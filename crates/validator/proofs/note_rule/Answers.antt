@@ -1,10 +1,9 @@
 -- `validator::note_rule`: the faults of the rule's productions so far are noted, and the next row is the rule's.
-use mathlib.Core.Path.{◌∙◌}
 use native.Mathlib.Omega.{arith}
 use Rattle.links.proofs.Laws.{next_less}
 use Rattle.validation.specs.Faults.{rule_faults}
 use Rattle.validation.proofs.Laws.{of_rule_lem, fewer_known}
-use Rattle.validation.proofs.Noted.{walked_length, walk_start, walk_on, walk_over, walk_all, walk_next}
+use Rattle.validation.proofs.Noted.{err_is, walked_length, walk_start, walk_on, walk_over, walk_all, walk_next}
 use Rattle.validator.proofs.note_rule.Goals as goal
 
 pub first_of-r-requires : goal.first_of-r-requires
@@ -28,16 +27,14 @@ pub loop-r-preserved : goal.loop-r-preserved
 loop-r-preserved c =
     let t = c.loop-r-test.true in
     walk_next _ _ _ _ _ c.next_of-r.ensures (omega arith) _ _ _ _ _
-    (walk_on _ _ _ c.loop-r.r _ _ c.loop-r.invariant.2 _ (of_rule_lem _ _ _ _ (c.loop-r.invariant.1 t)) _ _ c.note_production.ensures _ c.in-NextRow.is)
+    (walk_on _ _ _ c.loop-r.r _ _ c.loop-r.invariant.2 _ (of_rule_lem _ _ _ _ (c.loop-r.invariant.1 t)) _ _ c.note_production.ensures _ c.in_ok-next.was)
 
-pub shape_of-t14-in-Unwritten : goal.shape_of-t14-in-Unwritten
-shape_of-t14-in-Unwritten c = walked_length _ _ _ _ _ c.note_production.ensures ∙ walked_length _ _ _ _ _ c.loop-r.invariant.2
-
-pub returns-in-Unwritten : goal.returns-in-Unwritten
+pub returns-in_err-next : goal.returns-in_err-next
 unfolding rule_faults
-returns-in-Unwritten c =
+returns-in_err-next c =
     let t = c.loop-r-test.true in
-    walk_over _ _ _ c.loop-r.r _ _ c.loop-r.invariant.2 _ (of_rule_lem _ _ _ _ (c.loop-r.invariant.1 t)) _ _ c.note_production.ensures _ _ t c.in-Unwritten.is
+    rw (err_is c.from_residual.result c.in_err-next.field-0.0 c.from_residual.ensures.1)
+    (walk_over _ _ _ c.loop-r.r _ _ c.loop-r.invariant.2 _ (of_rule_lem _ _ _ _ (c.loop-r.invariant.1 t)) _ _ c.note_production.ensures _ _ t c.in_err-next.was)
 
 pub shape_of-t14 : goal.shape_of-t14
 shape_of-t14 c = walked_length _ _ _ _ _ c.loop-r.invariant.2

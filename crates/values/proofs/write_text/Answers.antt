@@ -4,13 +4,13 @@ use Rattle.values.proofs.Laws.{text_within, write_none, write_whole, write_no_ro
 use Rattle.values.proofs.write_text.Goals as goal
 
 pub copy_text-n-requires : goal.copy_text-n-requires
-copy_text-n-requires c = text_within _ _ _ _ c.requires c.in-TextAt.is
+copy_text-n-requires c = text_within _ _ _ _ c.requires c.in-Some.is
 
 pub returns-then-out-n : goal.returns-then-out-n
-returns-then-out-n c = write_no_room _ _ _ _ c.zero.ensures _ _ c.in-TextAt.is _ _ c.copy_text-n.ensures c.if-out-n.true _ (search rules)
+returns-then-out-n c = write_no_room _ _ _ _ c.zero.ensures _ _ c.in-Some.is _ _ c.copy_text-n.ensures c.if-out-n.true _ (search rules)
 
 pub returns-else-out-n : goal.returns-else-out-n
-returns-else-out-n c = write_whole _ _ _ _ c.zero.ensures _ _ c.in-TextAt.is _ _ c.copy_text-n.ensures c.if-out-n.false
+returns-else-out-n c = write_whole _ _ _ _ c.zero.ensures _ _ c.in-Some.is _ _ c.copy_text-n.ensures c.if-out-n.false
 
-pub returns-in-NoText : goal.returns-in-NoText
-returns-in-NoText c = write_none _ _ _ _ c.zero.ensures c.in-NoText.is
+pub returns-in-None : goal.returns-in-None
+returns-in-None c = write_none _ _ _ _ c.zero.ensures c.in-None.is

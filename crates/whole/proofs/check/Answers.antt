@@ -15,8 +15,8 @@ loop-i-smaller c = search (check_less, rules)
 pub loop-i-preserved : goal.loop-i-preserved
 loop-i-preserved c = search (check_on, rules)
 
-pub returns-in-Bad : goal.returns-in-Bad
-returns-in-Bad c = search (check_bad, rules)
+pub returns-in-None : goal.returns-in-None
+returns-in-None c = search (check_bad, rules)
 
 pub returns : goal.returns
 returns c = search (check_end, rules)

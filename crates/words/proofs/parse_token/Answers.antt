@@ -13,12 +13,12 @@ returns-then-is_quote c =
     let it = token_placed _ _ _ (search (token_quoted, rules)) in
     record { value = it.0; tokened = it.1 }
 
-pub returns-in-WordTo : goal.returns-in-WordTo
-returns-in-WordTo c =
+pub returns-in-Some : goal.returns-in-Some
+returns-in-Some c =
     let it = token_placed _ _ _ (search (token_bare, rules)) in
     record { value = it.0; tokened = it.1 }
 
-pub returns-in-NoWord : goal.returns-in-NoWord
-returns-in-NoWord c =
+pub returns-in-None : goal.returns-in-None
+returns-in-None c =
     let it = token_placed _ _ _ (search (token_no, rules)) in
     record { value = it.0; tokened = it.1 }
