@@ -17,7 +17,7 @@ const EILSEQ: i32 = 84;
 
 // Where a source is read from.
 #[derive(Drop)]
-enum Opened {
+pub enum Opened {
     Input(Stdin),
     File(File),
 }
@@ -65,7 +65,7 @@ pub fn take(rt: &impl Env, i: usize, word: &mut [u8]) -> io::Result<usize>
 }
 
 // A file whose name is not UTF-8 can't be opened: std's paths are text.
-fn open(rt: &HostRuntime, file: &[u8]) -> io::Result<Opened> {
+pub fn open(rt: &HostRuntime, file: &[u8]) -> io::Result<Opened> {
     if let b"-" = file {
         return Ok(Opened::Input(rt.stdin()));
     }
@@ -74,7 +74,9 @@ fn open(rt: &HostRuntime, file: &[u8]) -> io::Result<Opened> {
 }
 
 // Reads what an argument names until the room is full or it ends, and returns what was read. Where less came than there is room for, one more read tells whether an error cut it short.
-pub fn read<'a>(rt: &HostRuntime, file: &[u8], text: &'a mut [u8]) -> io::Result<&'a [u8]> {
+pub fn read<'a>(rt: &HostRuntime, file: &[u8], text: &'a mut [u8]) -> io::Result<&'a [u8]>
+    ensures { IfOk result (λ s. length s.now ≤ length text.old) }
+{
     let mut source = open(rt, file)?;
     let n = streams::read_full(&mut source, text);
     if n < text.len() {

@@ -1,6 +1,10 @@
 // What the program `specreport` does: it loads a specification of kind 1 from standard input and prints what load answers, and behind an accepted one the rules and tokens that nothing uses.
 #![tactic(auto)]
 
+ghost use Rattle.std.specs.Prelude.{◌≡◌, []};
+ghost use Rattle.loading.specs.Load.{judgement_numbers, LoadResult, load_all};
+ghost use Rattle.numbers.specs.Numbers.{answer_spot};
+
 use grammar::Told;
 use quiltrudder::{ListingAt, LoadingAt};
 
@@ -30,6 +34,11 @@ pub enum Named {
 
 // By the kind that a row of the report has.
 impl From<u32> for Named {
+    ghost use Rattle.std.specs.Prelude.{eqb, if◌then◌else◌};
+    ghost use Rattle.reporting.specs.declared.Named.TheVariants.{Rule, Token};
+
+    ghost from_gives = { λ kind named. named ≡ if eqb kind 1 then Rule else Token };
+
     fn from(kind: u32) -> Self {
         match kind {
             1 => Named::Rule,
@@ -39,7 +48,10 @@ impl From<u32> for Named {
 }
 
 impl Rooms<'_> {
-    pub fn load(&mut self, src: &[u8]) -> LoadingAt {
+    pub fn load(&mut self, src: &[u8]) -> LoadingAt
+        ensures fact { ◌≡◌ {A = LoadResult} (record { answer = result.answer; counts = result.counts; posix = result.posix; singles = result.singles; tables = record { t1 = self.new.t1.now; t2 = self.new.t2.now; t3 = self.new.t3.now; t4 = self.new.t4.now; t5 = self.new.t5.now; t6 = self.new.t6.now; t7 = self.new.t7.now; t8 = self.new.t8.now; t9 = self.new.t9.now; t10 = self.new.t10.now; t15 = []; t16 = []; t17 = [] }; indexes = record { tokens = self.new.i1.now; rules = self.new.i7.now } }) (load_all src.now 1 (record { t1 = self.old.t1.now; t2 = self.old.t2.now; t3 = self.old.t3.now; t4 = self.old.t4.now; t5 = self.old.t5.now; t6 = self.old.t6.now; t7 = self.old.t7.now; t8 = self.old.t8.now; t9 = self.old.t9.now; t10 = self.old.t10.now; t15 = []; t16 = []; t17 = [] }) (record { tokens = self.old.i1.now; rules = self.old.i7.now })) }
+        ensures spot_value { result.spot ≡ answer_spot src.now (judgement_numbers result.answer) }
+    {
         // No kind but 4 fills tables 15 to 17.
         let (t15, t16, t17) = (&mut [], &mut [], &mut []);
         quiltrudder::load(
@@ -82,8 +94,8 @@ pub fn print_answer(rt: &impl Print, t: Told) {
 }
 
 // A rule or a token, with the place of its name.
-pub fn print_named(rt: &impl Print, t1: &[u32], t7: &[u32], named: Named, row: u32) {
-    let (word, t, w) = match named {
+pub fn print_named(rt: &impl Print, t1: &[u32], t7: &[u32], named: impl Into<Named>, row: u32) {
+    let (word, t, w) = match named.into() {
         Named::Rule => ("rule", t7, tables::RULE_WIDTH),
         Named::Token => ("token", t1, tables::TOKEN_WIDTH),
     };
@@ -96,7 +108,7 @@ pub fn print_named(rt: &impl Print, t1: &[u32], t7: &[u32], named: Named, row: u
 fn print_rows(rt: &impl Print, rooms: &Rooms, out: &[u32], n: usize) {
     let (rows, _) = out.as_chunks::<2>();
     for &[kind, row] in rows.iter().take(n) {
-        print_named(rt, rooms.t1, rooms.t7, Named::from(kind), row);
+        print_named(rt, rooms.t1, rooms.t7, kind, row);
     }
 }
 

@@ -1,7 +1,7 @@
 // What the programs ask of the system beside std: a text read until its room is full, and the system's words for what failed.
 #![tactic(auto)]
 
-ghost use Rattle.std.specs.Prelude.{◌≤◌, length};
+ghost use Rattle.std.specs.Prelude.{◌≡◌, ◌≤◌, length, take};
 
 use std::io;
 use std::io::{Read, Write};
@@ -24,7 +24,9 @@ pub fn read_full(from: &mut impl Read, buf: &mut [u8]) -> usize
 }
 
 // The words before the number that std puts behind the system's.
-fn words_of(text: &[u8]) -> &[u8] {
+fn words_of(text: &[u8]) -> &[u8]
+    ensures { result.now ≡ take (length result.now) text.now }
+{
     let end = text
         .windows(BEFORE_NUMBER.len())
         .position(|part| part == BEFORE_NUMBER);

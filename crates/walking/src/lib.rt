@@ -1,8 +1,12 @@
 // What the program `specwalk` does: it prints what `specreport` prints, but goes from one unused row to the next instead of listing them.
 #![tactic(auto)]
 
+ghost use Rattle.std.specs.Prelude.{◌≡◌};
+ghost use Rattle.grammar.specs.Sound.{Tables, Indexes};
+ghost use Rattle.walks.specs.Walk.{next_spot, Advanced};
+
 use quiltrudder::{LoadingAt, MarkingAt};
-use reporting::{Named, Rooms};
+use reporting::Rooms;
 use walks::{NextAt, Standing};
 
 fn mark(src: &[u8], loaded: LoadingAt, rooms: &Rooms, work: &mut [u32]) -> MarkingAt {
@@ -32,25 +36,14 @@ fn next_unused(
     rooms: &Rooms,
     work: &[u32],
     at: &mut Standing,
-) -> NextAt {
+) -> NextAt
+    ensures advanced { Advanced src.now loaded.counts loaded.singles (record { t1 = rooms.now.t1.now; t2 = rooms.now.t2.now; t3 = rooms.now.t3.now; t4 = rooms.now.t4.now; t5 = rooms.now.t5.now; t6 = rooms.now.t6.now; t7 = rooms.now.t7.now; t8 = rooms.now.t8.now; t9 = rooms.now.t9.now; t10 = rooms.now.t10.now }) (record { tokens = rooms.now.i1.now; rules = rooms.now.i7.now }) work.now at.old result.answer at.new }
+    ensures spot_value { result.spot ≡ next_spot src.now result.answer }
+{
+    let (c, g) = (loaded.counts, loaded.singles);
     quiltrudder::next_unused(
-        src,
-        loaded.counts,
-        loaded.singles,
-        rooms.t1,
-        rooms.t2,
-        rooms.t3,
-        rooms.t4,
-        rooms.t5,
-        rooms.t6,
-        rooms.t7,
-        rooms.t8,
-        rooms.t9,
-        rooms.t10,
-        rooms.i1,
-        rooms.i7,
-        work,
-        at,
+        src, c, g, rooms.t1, rooms.t2, rooms.t3, rooms.t4, rooms.t5, rooms.t6, rooms.t7, rooms.t8,
+        rooms.t9, rooms.t10, rooms.i1, rooms.i7, work, at,
     )
 }
 
@@ -66,7 +59,7 @@ fn print_walk(rt: &impl Print, src: &[u8], loaded: LoadingAt, rooms: &Rooms, wor
         let Ok(Some((kind, row))) = next_unused(src, loaded, rooms, work, &mut at).answer else {
             return;
         };
-        reporting::print_named(rt, rooms.t1, rooms.t7, Named::from(kind), row);
+        reporting::print_named(rt, rooms.t1, rooms.t7, kind, row);
     }
 }
 
