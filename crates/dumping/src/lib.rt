@@ -2,6 +2,7 @@
 // compared line by line. A text is `x` and the hexadecimal of its bytes; `-` is absent.
 #![tactic(auto)]
 
+ghost use Rattle.std.specs.Prelude.{◌≡◌, length, take};
 ghost use Rattle.dumping.specs.Counts.{Leading};
 
 use grammar::{Cause, Counts, PosixCounts, Refusal, Singles, Told};
@@ -17,6 +18,12 @@ const POSIX: u32 = 4;
 
 // ---- Output: what is printed waits in a lent buffer until that is full. ----
 
+const DIGITS: &[u8; 16] = b"0123456789abcdef";
+
+fn hex(c: u8) -> [u8; 2] {
+    [DIGITS[(c / 16) as usize], DIGITS[(c % 16) as usize]]
+}
+
 // std's writer with a buffer would take it from the heap.
 #[derive(Drop)]
 struct Output<'a, 'b, R: Print> {
@@ -28,13 +35,60 @@ struct Output<'a, 'b, R: Print> {
 impl<R: Print> Output<'_, '_, R> {
     // A full buffer is written out only for the next byte.
     fn put(&mut self, c: u8) {
-        if self.at == self.waiting.len() {
+        if self.waiting.len() <= self.at {
             self.flush();
         }
-        if self.at < self.waiting.len() {
-            self.waiting[self.at] = c;
+        if let Some(place) = self.waiting.get_mut(self.at) {
+            *place = c;
             self.at += 1;
         }
+    }
+
+    fn put_all(&mut self, bytes: &[u8]) {
+        if let Some(room) = self.waiting.get_mut(self.at..) {
+            if bytes.len() <= room.len() {
+                room[..bytes.len()].copy_from_slice(bytes);
+                self.at += bytes.len();
+                return;
+            }
+        }
+        for c in bytes {
+            self.put(*c);
+        }
+    }
+
+    // Two digits a byte, of so many bytes at a time as most often fit.
+    fn put_hex(&mut self, text: &[u8]) {
+        for part in text.chunks(256) {
+            self.put_digits(part);
+        }
+    }
+
+    fn put_digits(&mut self, text: &[u8]) {
+        if let Some(room) = self.waiting.get_mut(self.at..) {
+            if text.len() <= room.len() / 2 {
+                let (pairs, _) = room.as_chunks_mut::<2>();
+                for (pair, c) in pairs.iter_mut().zip(text) {
+                    *pair = hex(*c);
+                }
+                self.at += 2 * text.len();
+                return;
+            }
+        }
+        for c in text {
+            let [high, low] = hex(*c);
+            self.put(high);
+            self.put(low);
+        }
+    }
+
+    // Most cells have one digit.
+    fn put_decimal(&mut self, n: u32) {
+        if n < 10 {
+            return self.put(b'0' + n as u8);
+        }
+        let mut digits = itoa::Buffer::new();
+        self.put_all(digits.format(n).as_bytes());
     }
 
     // What cannot be written is passed over: the inputs that follow are still read.
@@ -48,57 +102,107 @@ impl<R: Print> Output<'_, '_, R> {
 
 impl<R: Print> fmt::Write for Output<'_, '_, R> {
     fn write_str(&mut self, text: &str) -> fmt::Result {
-        for c in text.as_bytes() {
-            self.put(*c);
+        self.put_all(text.as_bytes());
+        Ok(())
+    }
+}
+
+// What most of the text consists of: numbers and texts with a space in front, and what a row begins with. `write!` would take two to ten times as long for them.
+trait Lines: fmt::Write {
+    fn put_number(&mut self, n: u32) -> fmt::Result;
+
+    fn put_label(&mut self, table: u8, row: u32) -> fmt::Result;
+
+    fn put_part(&mut self, part: Part<'_>) -> fmt::Result;
+}
+
+impl<R: Print> Lines for Output<'_, '_, R> {
+    fn put_number(&mut self, n: u32) -> fmt::Result {
+        self.put(b' ');
+        self.put_decimal(n);
+        Ok(())
+    }
+
+    fn put_label(&mut self, table: u8, row: u32) -> fmt::Result {
+        self.put(b't');
+        self.put_decimal(u32::from(table));
+        self.put_number(row)
+    }
+
+    fn put_part(&mut self, part: Part<'_>) -> fmt::Result {
+        match part {
+            Part::Absent => self.put_all(b" -"),
+            Part::NoPlace => self.put_all(b" no-place"),
+            Part::Text(text) => {
+                self.put_all(b" x");
+                self.put_hex(text);
+            }
         }
         Ok(())
     }
 }
 
-// ---- Input: a lent buffer, where it stands, and how many bytes it holds. ----
+// ---- Input: a lent buffer, and where it stands. An end need not last, as at a terminal: what is missing is 0, and is asked for again. ----
+
+// The next byte of the buffer, and how many it holds.
+#[derive(Clone, Copy)]
+pub struct Feed {
+    pub at: usize,
+    pub have: usize,
+}
 
 #[derive(Drop)]
-struct Feed<'a, R: Read + Drop> {
+struct Supply<'a, R: Read + Drop> {
     from: R,
     buffer: &'a mut [u8],
-    at: usize,
-    have: usize,
+    feed: Feed,
 }
 
 // An input, but for its bytes. Its kind may be any byte: reading refuses those that it does not know.
 #[derive(Clone, Copy)]
-struct Head {
-    kind: u32,
-    size: u32,
+pub struct Head {
+    pub kind: u32,
+    pub size: u32,
 }
 
-impl<R: Read + Drop> Feed<'_, R> {
+impl<R: Read + Drop> Supply<'_, R> {
     fn byte(&mut self) -> Option<u8> {
-        if self.at == self.have {
-            self.have = streams::read_full(&mut self.from, self.buffer);
-            self.at = 0;
+        if self.feed.at == self.feed.have {
+            self.feed.have = streams::read_full(&mut self.from, self.buffer);
+            self.feed.at = 0;
         }
-        if self.at < self.have && self.at < self.buffer.len() {
-            let c = self.buffer[self.at];
-            self.at += 1;
+        if self.feed.at < self.feed.have && self.feed.at < self.buffer.len() {
+            let c = self.buffer[self.feed.at];
+            self.feed.at += 1;
             return Some(c);
         }
         None
     }
 
-    // Four bytes, low first.
-    fn number(&mut self) -> Option<u32> {
-        let bytes = [self.byte()?, self.byte()?, self.byte()?, self.byte()?];
-        Some(u32::from_le_bytes(bytes))
+    // Four bytes, low first; an error is what there is of them where the last one is missing.
+    fn number(&mut self) -> Result<u32, u32> {
+        let mut bytes = [0; 4];
+        for byte in &mut bytes[..3] {
+            *byte = self.byte().unwrap_or(0);
+        }
+        let last = self.byte();
+        bytes[3] = last.unwrap_or(0);
+        let n = u32::from_le_bytes(bytes);
+        match last {
+            Some(_) => Ok(n),
+            None => Err(n),
+        }
     }
 
     // The rows lent for tables 1 to 10, with which the input begins; 0 for all there are.
-    fn rooms(&mut self) -> Option<[u32; 10]> {
+    fn rooms(&mut self) -> [u32; 10] {
         let mut rooms = [0; 10];
         for room in &mut rooms {
-            *room = self.number()?;
+            *room = match self.number() {
+                Ok(n) | Err(n) => n,
+            };
         }
-        Some(rooms)
+        rooms
     }
 
     // An input's bytes, as far as they fit; the others are passed over.
@@ -112,8 +216,10 @@ impl<R: Read + Drop> Feed<'_, R> {
 
     // The next input, its bytes in `text`.
     fn input(&mut self, text: &mut [u8]) -> Option<Head> {
-        let kind = u32::from(self.byte()?);
-        let size = self.number()?;
+        let kind = u32::from(self.byte().unwrap_or(0));
+        let Ok(size) = self.number() else {
+            return None;
+        };
         self.text(text, size)?;
         Some(Head { kind, size })
     }
@@ -141,22 +247,6 @@ impl<'a> Part<'a> {
         match place {
             Some((from, to)) => Part::at(src, from, to),
             None => Part::Absent,
-        }
-    }
-}
-
-impl fmt::Display for Part<'_> {
-    fn fmt<W: Write>(&self, f: &mut fmt::Formatter<W>) -> fmt::Result {
-        match self {
-            Part::Absent => write!(f, "-"),
-            Part::NoPlace => write!(f, "no-place"),
-            Part::Text(text) => {
-                write!(f, "x")?;
-                for c in *text {
-                    write!(f, "{c:02x}")?;
-                }
-                Ok(())
-            }
         }
     }
 }
@@ -225,17 +315,24 @@ struct Row<'a> {
     src: &'a [u8],
     table: Table,
     cells: &'a [u32],
+    wide: u32,
     number: u32,
 }
 
 impl<'a> Row<'a> {
-    // Another row of the same table.
-    fn at(self, number: u32) -> Self {
-        Row { number, ..self }
+    fn of(src: &'a [u8], table: Table, cells: &'a [u32], number: u32) -> Self {
+        let wide = table.width();
+        Row {
+            src,
+            table,
+            cells,
+            wide,
+            number,
+        }
     }
 
     fn cell(self, k: u32) -> u32 {
-        tables::cell(self.cells, self.table.width(), self.number, k)
+        tables::cell(self.cells, self.wide, self.number, k)
     }
 
     fn part(self, from: u32, to: u32) -> Part<'a> {
@@ -253,57 +350,59 @@ impl<'a> Row<'a> {
 }
 
 // The first `n` cells of a row.
-fn put_cells(out: &mut impl Write, row: Row<'_>, n: u32) -> fmt::Result {
+fn put_cells(out: &mut impl Lines, row: Row<'_>, n: u32) -> fmt::Result {
     for k in 0..n {
-        write!(out, " {}", row.cell(k))?;
+        out.put_number(row.cell(k))?;
     }
     Ok(())
 }
 
 // The place that two cells hold.
-fn put_place(out: &mut impl Write, row: Row<'_>, from: u32, to: u32) -> fmt::Result {
-    write!(out, " {} {}", row.cell(from), row.cell(to))
+fn put_place(out: &mut impl Lines, row: Row<'_>, from: u32, to: u32) -> fmt::Result {
+    out.put_number(row.cell(from))?;
+    out.put_number(row.cell(to))
 }
 
 // All cells of a row, and the name that stands in two of them.
-fn put_named(out: &mut impl Write, row: Row<'_>, from: u32, to: u32) -> fmt::Result {
-    put_cells(out, row, row.table.width())?;
-    write!(out, " {}", row.part(from, to))
+fn put_named(out: &mut impl Lines, row: Row<'_>, from: u32, to: u32) -> fmt::Result {
+    put_cells(out, row, row.wide)?;
+    out.put_part(row.part(from, to))
 }
 
 // Kind, place and name of a symbol, and the row of its rule or token.
-fn put_symbol(out: &mut impl Write, row: Row<'_>) -> fmt::Result {
+fn put_symbol(out: &mut impl Lines, row: Row<'_>) -> fmt::Result {
     put_cells(out, row, tables::KNOWN_ROW)?;
-    write!(out, " {}", row.part(1, 2))?;
+    out.put_part(row.part(1, 2))?;
     match row.cell(tables::KNOWN_ROW) {
-        tables::NO_ROW => write!(out, " -"),
-        known => write!(out, " {known}"),
+        tables::NO_ROW => out.put_part(Part::Absent),
+        known => out.put_number(known),
     }
 }
 
-fn put_rule(out: &mut impl Write, row: Row<'_>) -> fmt::Result {
+fn put_rule(out: &mut impl Lines, row: Row<'_>) -> fmt::Result {
     put_place(out, row, 0, 1)?;
-    write!(out, " {} {}", row.part(0, 1), row.flagged(2, 3, 4))
+    out.put_part(row.part(0, 1))?;
+    out.put_part(row.flagged(2, 3, 4))
 }
 
 // The action's own span, and its trimmed text.
-fn put_action(out: &mut impl Write, row: Row<'_>) -> fmt::Result {
+fn put_action(out: &mut impl Lines, row: Row<'_>) -> fmt::Result {
     if row.cell(tables::ACTION) == 0 {
-        return write!(out, " - - -");
+        return out.write_str(" - - -");
     }
     put_place(out, row, tables::SPAN_FROM, tables::SPAN_TO)?;
-    write!(out, " {}", row.part(tables::TEXT_FROM, tables::TEXT_TO))
+    out.put_part(row.part(tables::TEXT_FROM, tables::TEXT_TO))
 }
 
-fn put_production(out: &mut impl Write, row: Row<'_>) -> fmt::Result {
+fn put_production(out: &mut impl Lines, row: Row<'_>) -> fmt::Result {
     put_cells(out, row, tables::PREC)?;
     let prec = row.flagged(tables::PREC, tables::PREC_FROM, tables::PREC_TO);
-    write!(out, " {prec}")?;
+    out.put_part(prec)?;
     put_action(out, row)
 }
 
 // What a row holds. Those of tables 10, 12 and 14 have no names; table 5 has a value besides, which a reading gives.
-fn put_held(out: &mut impl Write, row: Row<'_>) -> fmt::Result {
+fn put_held(out: &mut impl Lines, row: Row<'_>) -> fmt::Result {
     match row.table {
         Table::Tokens
         | Table::Precedences
@@ -316,66 +415,66 @@ fn put_held(out: &mut impl Write, row: Row<'_>) -> fmt::Result {
         Table::Symbols => put_symbol(out, row),
         Table::Tags => {
             put_named(out, row, 0, 1)?;
-            write!(out, " {}", row.part(2, 3))
+            out.put_part(row.part(2, 3))
         }
         Table::Epps => {
             put_cells(out, row, 2)?;
-            write!(out, " {}", row.part(2, 3))?;
+            out.put_part(row.part(2, 3))?;
             put_place(out, row, 4, 5)
         }
-        Table::Repeats | Table::Report | Table::Faults => put_cells(out, row, row.table.width()),
+        Table::Repeats | Table::Report | Table::Faults => put_cells(out, row, row.wide),
     }
 }
 
-fn put_row(out: &mut impl Write, row: Row<'_>) -> fmt::Result {
-    write!(out, "t{} {}", row.table as u8, row.number)?;
+fn put_row(out: &mut impl Lines, row: Row<'_>) -> fmt::Result {
+    out.put_label(row.table as u8, row.number)?;
     put_held(out, row)
 }
 
-fn put_rows(out: &mut impl Write, src: &[u8], table: Table, cells: &[u32], n: u32) -> fmt::Result {
+fn put_rows(out: &mut impl Lines, src: &[u8], table: Table, cells: &[u32], n: u32) -> fmt::Result {
     for number in 0..n {
-        let row = Row {
-            src,
-            table,
-            cells,
-            number,
-        };
-        put_row(out, row)?;
-        writeln!(out)?;
+        put_row(out, Row::of(src, table, cells, number))?;
+        out.write_str("\n")?;
     }
     Ok(())
 }
 
 // ---- Errors: repeats by number and first place, in the order in which those come first. ----
 
-fn is_same_group(a: Row<'_>, b: Row<'_>) -> bool {
-    a.cell(1) == b.cell(1) && a.cell(0) == b.cell(0) && a.cell(2) == b.cell(2)
+// The cells of a row of table 10: number; first from, to; repeated from, to.
+const REPEAT_CELLS: usize = 5;
+
+fn is_same_group(a: &[u32; REPEAT_CELLS], b: &[u32; REPEAT_CELLS]) -> bool {
+    a[1] == b[1] && a[0] == b[0] && a[2] == b[2]
 }
 
-// Whether no row before belongs to the same group.
-fn is_first(row: Row<'_>) -> bool {
-    (0..row.number).all(|j| !is_same_group(row, row.at(j)))
-}
-
-// The group that begins with row `first`, if one does: its number and place, and each repeated place.
-fn put_group(out: &mut impl Write, first: Row<'_>, n: u32) -> fmt::Result {
-    if !is_first(first) {
-        return Ok(());
+// A group by the first of its rows and those from it on: its number and place, and each repeated place.
+fn put_group(
+    out: &mut impl Lines,
+    first: &[u32; REPEAT_CELLS],
+    rows: &[[u32; REPEAT_CELLS]],
+) -> fmt::Result {
+    out.write_str("error")?;
+    for cell in &first[..3] {
+        out.put_number(*cell)?;
     }
-    write!(out, "error")?;
-    put_cells(out, first, 3)?;
-    for j in first.number..n {
-        let row = first.at(j);
+    for row in rows {
         if is_same_group(first, row) {
-            put_place(out, row, 3, 4)?;
+            out.put_number(row[3])?;
+            out.put_number(row[4])?;
         }
     }
-    writeln!(out)
+    out.write_str("\n")
 }
 
-fn put_groups(out: &mut impl Write, repeats: Row<'_>, n: u32) -> fmt::Result {
-    for number in 0..n {
-        put_group(out, repeats.at(number), n)?;
+// A row begins a group where no row before belongs to the same.
+fn put_groups(out: &mut impl Lines, t10: &[u32], n: u32) -> fmt::Result {
+    let (all, _) = t10.as_chunks::<REPEAT_CELLS>();
+    let rows = &all[..all.len().min(n as usize)];
+    for (i, first) in rows.iter().enumerate() {
+        if rows[..i].iter().all(|row| !is_same_group(first, row)) {
+            put_group(out, first, &rows[i..])?;
+        }
     }
     Ok(())
 }
@@ -494,12 +593,7 @@ impl Reading<'_> {
 
     // Row `row` of table 5.
     fn epp(&self, row: u32) -> Row<'_> {
-        Row {
-            src: self.src,
-            table: Table::Epps,
-            cells: self.t5,
-            number: row,
-        }
+        Row::of(self.src, Table::Epps, self.t5, row)
     }
 }
 
@@ -524,68 +618,72 @@ fn is_fatal(answer: Result<u32, LoadError>) -> bool {
 }
 
 // A line of an operation's answer, with line and column of its place.
-fn put_located(out: &mut impl Write, word: &str, told: Told, spot: Spot) -> fmt::Result {
+fn put_located(out: &mut impl Lines, word: &str, told: Told, spot: Spot) -> fmt::Result {
     let answer = Answer(told);
     writeln!(out, "{word} {answer} {} {}", spot.line, spot.column)
 }
 
 fn put_loading(
-    out: &mut impl Write,
+    out: &mut impl Lines,
     r: &Reading<'_>,
     answer: Result<u32, LoadError>,
     spot: Spot,
 ) -> fmt::Result {
     let told = numbers::of_judgement(answer);
     put_located(out, "load", told, spot)?;
-    let repeats = Row {
-        src: r.src,
-        table: Table::Repeats,
-        cells: r.t10,
-        number: 0,
-    };
-    put_groups(out, repeats, r.rows(tables::REPEATS))?;
+    put_groups(out, r.t10, r.rows(tables::REPEATS))?;
     if is_at_offset(answer) {
         writeln!(out, "error {} {} {}", told.number, told.from, told.to)?;
     }
-    write!(out, "counts")?;
+    out.write_str("counts")?;
     for n in r.counts.n {
         write!(out, " {n}")?;
     }
-    writeln!(out)
+    out.write_str("\n")
 }
 
 // ---- Singles. ----
 
-fn put_start(out: &mut impl Write, src: &[u8], start: Option<(u32, u32)>) -> fmt::Result {
+fn put_start(out: &mut impl Lines, src: &[u8], start: Option<(u32, u32)>) -> fmt::Result {
     match start {
         None => writeln!(out, "start - - -"),
-        Some((from, to)) => writeln!(out, "start {from} {to} {}", Part::at(src, from, to)),
+        Some((from, to)) => {
+            write!(out, "start {from} {to}")?;
+            out.put_part(Part::at(src, from, to))?;
+            out.write_str("\n")
+        }
     }
 }
 
-fn put_expect(out: &mut impl Write, word: &str, expect: Option<(u64, u32, u32)>) -> fmt::Result {
+fn put_expect(out: &mut impl Lines, word: &str, expect: Option<(u64, u32, u32)>) -> fmt::Result {
     match expect {
         None => writeln!(out, "{word} - - -"),
         Some((n, from, to)) => writeln!(out, "{word} {n} {from} {to}"),
     }
 }
 
-fn put_param(out: &mut impl Write, src: &[u8], param: Option<(u32, u32, u32, u32)>) -> fmt::Result {
+fn put_param(out: &mut impl Lines, src: &[u8], param: Option<(u32, u32, u32, u32)>) -> fmt::Result {
     match param {
         None => writeln!(out, "param - -"),
         Some((a, b, c, d)) => {
-            writeln!(out, "param {} {}", Part::at(src, a, b), Part::at(src, c, d))
+            out.write_str("param")?;
+            out.put_part(Part::at(src, a, b))?;
+            out.put_part(Part::at(src, c, d))?;
+            out.write_str("\n")
         }
     }
 }
 
-fn put_singles(out: &mut impl Write, src: &[u8], g: &Singles) -> fmt::Result {
+fn put_singles(out: &mut impl Lines, src: &[u8], g: &Singles) -> fmt::Result {
     put_start(out, src, g.start)?;
     put_expect(out, "expect", g.expect)?;
     put_expect(out, "expect-rr", g.expect_rr)?;
     put_param(out, src, g.param)?;
-    writeln!(out, "generics {}", Part::of(src, g.generics))?;
-    writeln!(out, "programs {}", Part::of(src, g.programs))
+    out.write_str("generics")?;
+    out.put_part(Part::of(src, g.generics))?;
+    out.write_str("\nprograms")?;
+    out.put_part(Part::of(src, g.programs))?;
+    out.write_str("\n")
 }
 
 // ---- Lent memory. ----
@@ -611,15 +709,18 @@ fn value_room(row: Row<'_>) -> usize {
     row.cell(5).saturating_sub(row.cell(4)) as usize
 }
 
-fn put_epp(out: &mut impl Write, r: &Reading<'_>, row: Row<'_>, value: &mut [u8]) -> fmt::Result {
+fn put_epp(out: &mut impl Lines, r: &Reading<'_>, row: Row<'_>, value: &mut [u8]) -> fmt::Result {
     put_row(out, row)?;
     match r.epp_value(row.number, value).answer {
-        Ok(n) => writeln!(out, " {}", Part::Text(names::part(value, 0, n))),
+        Ok(n) => {
+            out.put_part(Part::Text(names::part(value, 0, n)))?;
+            out.write_str("\n")
+        }
         refused => writeln!(out, " refused {}", Answer(numbers::of_valuation(refused))),
     }
 }
 
-fn put_epps(out: &mut impl Write, r: &Reading<'_>, value: &mut [u8]) -> fmt::Result {
+fn put_epps(out: &mut impl Lines, r: &Reading<'_>, value: &mut [u8]) -> fmt::Result {
     for number in 0..r.rows(tables::EPPS) {
         let row = r.epp(number);
         let n = bytes_up_to(value_room(row), value);
@@ -631,7 +732,7 @@ fn put_epps(out: &mut impl Write, r: &Reading<'_>, value: &mut [u8]) -> fmt::Res
 // ---- All tables, then the singles. ----
 
 // Tables 1 to 4.
-fn put_first(out: &mut impl Write, r: &Reading<'_>) -> fmt::Result {
+fn put_first(out: &mut impl Lines, r: &Reading<'_>) -> fmt::Result {
     put_rows(out, r.src, Table::Tokens, r.t1, r.rows(tables::TOKENS))?;
     put_rows(
         out,
@@ -645,7 +746,7 @@ fn put_first(out: &mut impl Write, r: &Reading<'_>) -> fmt::Result {
 }
 
 // Tables 6 to 9.
-fn put_last(out: &mut impl Write, r: &Reading<'_>) -> fmt::Result {
+fn put_last(out: &mut impl Lines, r: &Reading<'_>) -> fmt::Result {
     put_rows(out, r.src, Table::Unused, r.t6, r.rows(tables::UNUSED))?;
     put_rows(out, r.src, Table::Rules, r.t7, r.rows(tables::RULES))?;
     put_rows(
@@ -658,11 +759,11 @@ fn put_last(out: &mut impl Write, r: &Reading<'_>) -> fmt::Result {
     put_rows(out, r.src, Table::Symbols, r.t9, r.rows(tables::SYMBOLS))
 }
 
-fn put_repeats(out: &mut impl Write, r: &Reading<'_>) -> fmt::Result {
+fn put_repeats(out: &mut impl Lines, r: &Reading<'_>) -> fmt::Result {
     put_rows(out, r.src, Table::Repeats, r.t10, r.rows(tables::REPEATS))
 }
 
-fn put_tables(out: &mut impl Write, r: &Reading<'_>, value: &mut [u8]) -> fmt::Result {
+fn put_tables(out: &mut impl Lines, r: &Reading<'_>, value: &mut [u8]) -> fmt::Result {
     put_first(out, r)?;
     put_epps(out, r, value)?;
     put_last(out, r)?;
@@ -672,23 +773,20 @@ fn put_tables(out: &mut impl Write, r: &Reading<'_>, value: &mut [u8]) -> fmt::R
 // ---- The faults. ----
 
 // Each row of table 14, with line and column of its place. No listing has as many rows as there are numbers.
-fn put_all_faults(out: &mut impl Write, src: &[u8], t14: &[u32], n: usize) -> fmt::Result {
+fn put_all_faults(out: &mut impl Lines, src: &[u8], t14: &[u32], n: usize) -> fmt::Result {
     for number in (0..u32::MAX).take(n) {
-        let row = Row {
-            src,
-            table: Table::Faults,
-            cells: t14,
-            number,
-        };
-        write!(out, "fault")?;
+        let row = Row::of(src, Table::Faults, t14, number);
+        out.write_str("fault")?;
         put_cells(out, row, tables::FAULT_WIDTH)?;
         let spot = quiltrudder::locate(src, row.cell(1));
-        writeln!(out, " {} {}", spot.line, spot.column)?;
+        out.put_number(spot.line)?;
+        out.put_number(spot.column)?;
+        out.write_str("\n")?;
     }
     Ok(())
 }
 
-fn put_faults(out: &mut impl Write, r: &Reading<'_>, t14: &mut [u32]) -> fmt::Result {
+fn put_faults(out: &mut impl Lines, r: &Reading<'_>, t14: &mut [u32]) -> fmt::Result {
     match r.faults(t14).answer {
         Ok(n) => put_all_faults(out, r.src, t14, n),
         refused => writeln!(out, "faults {}", Answer(numbers::of_fault_listing(refused))),
@@ -698,49 +796,41 @@ fn put_faults(out: &mut impl Write, r: &Reading<'_>, t14: &mut [u32]) -> fmt::Re
 // ---- The report. ----
 
 // A row of the report, with the place of the rule's or token's name.
-fn put_unused(out: &mut impl Write, r: &Reading<'_>, row: Row<'_>) -> fmt::Result {
+fn put_unused(out: &mut impl Lines, r: &Reading<'_>, row: Row<'_>) -> fmt::Result {
     let kind = row.cell(0);
     let number = row.cell(1);
-    write!(out, "unused {kind} {number}")?;
+    out.write_str("unused")?;
+    out.put_number(kind)?;
+    out.put_number(number)?;
     let (table, cells) = if kind == 1 {
         (Table::Rules, r.t7)
     } else {
         (Table::Tokens, r.t1)
     };
-    let named = Row {
-        src: r.src,
-        table,
-        cells,
-        number,
-    };
+    let named = Row::of(r.src, table, cells, number);
     put_place(out, named, 0, 1)?;
-    writeln!(out)
+    out.write_str("\n")
 }
 
-fn put_all_unused(out: &mut impl Write, r: &Reading<'_>, report: &[u32], n: usize) -> fmt::Result {
+fn put_all_unused(out: &mut impl Lines, r: &Reading<'_>, report: &[u32], n: usize) -> fmt::Result {
     for number in (0..u32::MAX).take(n) {
-        let row = Row {
-            src: r.src,
-            table: Table::Report,
-            cells: report,
-            number,
-        };
+        let row = Row::of(r.src, Table::Report, report, number);
         put_unused(out, r, row)?;
     }
     Ok(())
 }
 
-fn put_work(out: &mut impl Write, work: &[u32]) -> fmt::Result {
-    write!(out, "work")?;
+fn put_work(out: &mut impl Lines, work: &[u32]) -> fmt::Result {
+    out.write_str("work")?;
     for word in work {
         write!(out, " {word:08x}")?;
     }
-    writeln!(out)
+    out.write_str("\n")
 }
 
 // The report in just as many words and rows as it can need.
 fn put_report(
-    out: &mut impl Write,
+    out: &mut impl Lines,
     r: &Reading<'_>,
     work: &mut [u32],
     report: &mut [u32],
@@ -772,7 +862,7 @@ struct Scratch<'a> {
     value: &'a mut [u8],
 }
 
-fn put_validity(out: &mut impl Write, r: &Reading<'_>, scratch: &mut Scratch<'_>) -> fmt::Result {
+fn put_validity(out: &mut impl Lines, r: &Reading<'_>, scratch: &mut Scratch<'_>) -> fmt::Result {
     let v = r.validate();
     put_located(out, "validate", numbers::of_validity(v.answer), v.spot)?;
     put_faults(out, r, scratch.report)?;
@@ -787,7 +877,7 @@ fn put_validity(out: &mut impl Write, r: &Reading<'_>, scratch: &mut Scratch<'_>
 // ---- An input. ----
 
 fn put_outcome(
-    out: &mut impl Write,
+    out: &mut impl Lines,
     r: &Reading<'_>,
     answer: Result<u32, LoadError>,
     spot: Spot,
@@ -804,7 +894,7 @@ fn put_outcome(
 
 // What kind 4 has besides: three counts, and the rows of tables 15 to 17.
 fn put_posix(
-    out: &mut impl Write,
+    out: &mut impl Lines,
     src: &[u8],
     c: PosixCounts,
     t15: &[u32],
@@ -839,7 +929,7 @@ struct Lent<'a> {
 }
 
 fn dump(
-    out: &mut impl Write,
+    out: &mut impl Lines,
     src: &[u8],
     kind: u32,
     lent: Lent<'_>,
@@ -896,20 +986,24 @@ fn rows_lent(asked: u32, size: u32) -> u32 {
 }
 
 // As many cells of a table as are to be lent.
-fn cells(t: &mut [u32], wide: u32, asked: u32, size: u32) -> &mut [u32] {
+fn cells(t: &mut [u32], wide: u32, asked: u32, size: u32) -> &mut [u32]
+    ensures { result.now ≡ take (length result.now) t.old }
+{
     let n = up_to(rows_lent(asked, size) as usize * wide as usize, t);
     &mut t[..n]
 }
 
 // As many slots of an index as are to be lent with `rows` rows of its table: the first power of two that is twice the rows or more, as far as the index goes.
-fn slots(ix: &mut [u32], rows: usize) -> &mut [u32] {
+fn slots(ix: &mut [u32], rows: usize) -> &mut [u32]
+    ensures { result.now ≡ take (length result.now) ix.old }
+{
     let n = up_to((2 * rows.min(32768)).next_power_of_two(), ix);
     &mut ix[..n]
 }
 
 // The text of an input of `size` bytes, as many of which stand in `src` as fit there.
 fn dump_lent(
-    out: &mut impl Write,
+    out: &mut impl Lines,
     src: &[u8],
     head: Head,
     rooms: &[u32; 10],
@@ -944,17 +1038,15 @@ fn dump_lent(
 
 // One input after the other. Nothing says that there is a last one, so the loop ends with the numbers too.
 fn dump_all<R: Read + Drop>(
-    out: &mut impl Write,
-    feed: &mut Feed<'_, R>,
+    out: &mut impl Lines,
+    supply: &mut Supply<'_, R>,
     text: &mut [u8],
     all: &mut Lent<'_>,
     scratch: &mut Scratch<'_>,
 ) -> fmt::Result {
-    let Some(rooms) = feed.rooms() else {
-        return Ok(());
-    };
+    let rooms = supply.rooms();
     for index in 0..u64::MAX {
-        let Some(head) = feed.input(text) else {
+        let Some(head) = supply.input(text) else {
             break;
         };
         writeln!(out, "input {index} {} {}", head.kind, head.size)?;
@@ -973,11 +1065,10 @@ pub fn dump_input(rt: &(impl Input + Print)) {
         waiting: &mut [0; 65536],
         at: 0,
     };
-    let mut feed = Feed {
+    let mut supply = Supply {
         from: rt.reader(),
         buffer: &mut [0; 65536],
-        at: 0,
-        have: 0,
+        feed: Feed { at: 0, have: 0 },
     };
     let mut all = Lent {
         t1: &mut [0; 65700],
@@ -1002,6 +1093,6 @@ pub fn dump_input(rt: &(impl Input + Print)) {
         value: &mut [0; 65536],
     };
     let mut text = [0; 65537];
-    let _ = dump_all(&mut out, &mut feed, &mut text, &mut all, &mut scratch);
+    let _ = dump_all(&mut out, &mut supply, &mut text, &mut all, &mut scratch);
     out.flush();
 }
