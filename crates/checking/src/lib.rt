@@ -124,7 +124,7 @@ impl Rooms<'_> {
 
 // An error by its number in document 01, or what is said besides.
 #[derive(Clone, Copy)]
-enum Matter {
+pub enum Matter {
     Error(u32),
     UnusedRule,
     UnusedToken,
@@ -133,10 +133,10 @@ enum Matter {
 
 // What is to be said of which place.
 #[derive(Clone, Copy)]
-struct Finding {
-    matter: Matter,
-    from: u32,
-    to: u32,
+pub struct Finding {
+    pub matter: Matter,
+    pub from: u32,
+    pub to: u32,
 }
 
 // Words alone, or before and behind the name at the place. They need no escapes in JSON; the name may.
@@ -287,13 +287,13 @@ fn other_words(number: u32) -> &'static str {
 
 // The part of a line that is shown, and the part of it that is meant.
 #[derive(Clone, Copy)]
-struct View {
-    from: usize,
-    to: usize,
-    at: usize,
-    past: usize,
-    is_cut_before: bool,
-    is_cut_behind: bool,
+pub struct View {
+    pub from: usize,
+    pub to: usize,
+    pub at: usize,
+    pub past: usize,
+    pub is_cut_before: bool,
+    pub is_cut_behind: bool,
 }
 
 // Where the line of a place begins, by the place's column.
@@ -434,7 +434,7 @@ fn marks_of(s: &[u8], v: View) -> Marks {
 // ---- What is said of a file. ----
 
 #[derive(Clone, Copy)]
-enum Form {
+pub enum Form {
     Plain,
     Quiet,
     Json,
@@ -442,10 +442,10 @@ enum Form {
 
 // How the files behind an option are read, and what is said of them.
 #[derive(Clone, Copy)]
-struct Asked {
-    kind: u32,
-    form: Form,
-    warns: bool,
+pub struct Asked {
+    pub kind: u32,
+    pub form: Form,
+    pub warns: bool,
 }
 
 // Where and how it is said, of which file with which text, and what there was to say up to now.

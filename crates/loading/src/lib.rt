@@ -17,6 +17,7 @@ pub enum LoadError {
 
 #[derive(Clone, Copy)]
 pub struct Loading {
+    // The end that was reached.
     pub answer: Result<u32, LoadError>,
     pub counts: Counts,
     pub posix: PosixCounts,

@@ -36,6 +36,7 @@ pub use walks::next_unused;
 // A load's answer, its counts and singles, and line and column of the answer's place.
 #[derive(Clone, Copy)]
 pub struct LoadingAt {
+    // The end that was reached.
     pub answer: Result<u32, LoadError>,
     pub counts: Counts,
     pub posix: PosixCounts,
@@ -52,12 +53,14 @@ pub struct ValidityAt {
 
 #[derive(Clone, Copy)]
 pub struct FaultListingAt {
+    // How many faults there are.
     pub answer: Result<usize, FaultsError>,
     pub spot: Spot,
 }
 
 #[derive(Clone, Copy)]
 pub struct ListingAt {
+    // How many rows the report has.
     pub answer: Result<usize, ListingError>,
     pub spot: Spot,
 }
@@ -78,12 +81,14 @@ pub struct PruningAt {
 
 #[derive(Clone, Copy)]
 pub struct ValuationAt {
+    // How many bytes the value has.
     pub answer: Result<usize, ValuationError>,
     pub spot: Spot,
 }
 
 #[derive(Clone, Copy)]
 pub struct StoringAt {
+    // How many blocks were written.
     pub answer: Result<u32, StoringError>,
     pub spot: Spot,
 }
@@ -103,6 +108,7 @@ pub struct RestoringAt {
 // Shipping answers what its read does, too.
 #[derive(Clone, Copy)]
 pub struct ShippingAt {
+    // How many bytes the text has.
     pub answer: Result<u32, Refusal>,
     pub counts: Counts,
     pub singles: Singles,

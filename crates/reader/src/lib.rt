@@ -13,6 +13,7 @@ use grammar::{Answer, Counts, PosixCounts, Refusal, Singles, State, Step};
 
 #[derive(Clone, Copy)]
 pub struct Reading {
+    // The end that was reached.
     pub answer: Result<u32, Refusal>,
     pub counts: Counts,
     pub posix: PosixCounts,

@@ -15,6 +15,7 @@ const TEXT_OUT: u32 = 13;
 
 #[derive(Clone, Copy)]
 pub struct Shipping {
+    // How many bytes the text has.
     pub answer: Result<u32, Refusal>,
     pub counts: Counts,
     pub singles: Singles,

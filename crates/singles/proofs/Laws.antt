@@ -24,7 +24,7 @@ put_past [] t at h = refl
 put_past (v ∷ vs) t at h = rw (set_out t at v h) (put_past vs t (at + 1) (omega arith))
 
 -- where the room ends with the first i values, the others are not stored
-put_front : (vs t : List ℕ) (at i : ℕ) → length t ≤ at + i → put t at (take i vs) ≡ put t at vs
+pub put_front : (vs t : List ℕ) (at i : ℕ) → length t ≤ at + i → put t at (take i vs) ≡ put t at vs
 put_front [] t at zero h = refl
 put_front [] t at (suc i) h = refl
 put_front (v ∷ vs) t at zero h = sym (put_past (v ∷ vs) t at (omega arith))

@@ -533,7 +533,7 @@ pub fn mark(
     }
 }
 
-// The unused rules, then the unused tokens: the marking, and then the list. A refusal leaves zeros.
+// The unused rules, then the unused tokens, and how many they are: the marking, and then the list. A refusal leaves zeros.
 pub fn report(
     src: &[u8],
     c: Counts,

@@ -256,7 +256,7 @@ pub fn fault_row(f: Flaw) -> [u32; 3]
     }
 }
 
-// A test's fault becomes row `at` of table 14, where that is free.
+// A test's fault becomes row `at` of table 14, where that is free. What walks over tests answer is the row behind the last that was written, or the first fault that has no row.
 pub fn note(v: Result<(), Flaw>, at: usize, t14: &mut [u32]) -> Result<usize, Flaw>
     ensures { ◌≡◌ {A = Walked} (record { answer = result; cells = t14.new }) (noted (failing v) at t14.old) }
 {

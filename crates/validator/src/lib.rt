@@ -1,4 +1,4 @@
-// Validation of a reading, and the list of all its faults: the walks over the tests of `validation`.
+// Validation of a reading, and the list of all its faults: the walks over the tests of `validation`. A walk that writes answers the row of table 14 behind the last that was written, or the first fault that has no row.
 #![tactic(auto)]
 
 ghost use Rattle.std.specs.Prelude.{◌≡◌, ◌++◌, ◌+◌, ◌^◌, ◌<◌, ◌≤◌};
@@ -750,7 +750,7 @@ pub fn validate(
     find_fault(src, c, g, t1, t2, t4, t5, t6, t7, t8, t9, i1, i7)
 }
 
-// All faults, as rows of table 14; 44 comes first, and a refusal leaves zeros.
+// All faults, as rows of table 14, and how many they are; 44 comes first, and a refusal leaves zeros.
 pub fn faults(
     src: &[u8],
     c: Counts,

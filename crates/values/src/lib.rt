@@ -97,7 +97,7 @@ pub fn write_text(
     }
 }
 
-// The value of row `row` of table 5; 44 and 42 leave zeros.
+// The value of row `row` of table 5, and how many bytes it has; 44 and 42 leave zeros.
 pub fn epp_value(
     src: &[u8],
     c: Counts,

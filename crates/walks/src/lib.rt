@@ -27,6 +27,7 @@ pub enum NextError {
 // What a call answers, and where the walk stands behind it.
 #[derive(Clone, Copy)]
 pub struct Moved {
+    // Kind and row; none where no row is left.
     pub answer: Result<Option<(u32, u32)>, NextError>,
     pub at: Standing,
 }
@@ -34,6 +35,7 @@ pub struct Moved {
 // An answer with line and column of its place.
 #[derive(Clone, Copy)]
 pub struct NextAt {
+    // Kind and row; none where no row is left.
     pub answer: Result<Option<(u32, u32)>, NextError>,
     pub spot: Spot,
 }
